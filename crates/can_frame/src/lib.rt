@@ -1,0 +1,8 @@
+//! Frames of CAN and CAN FD, after ISO 11898-1: an identifier of 11 or 29 bits and up to 8, or up to 64, bytes.
+#![tactic(auto)]
+
+mod frame;
+mod id;
+
+pub use frame::{Frame, FrameFault};
+pub use id::CanId;

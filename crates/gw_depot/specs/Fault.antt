@@ -1,0 +1,23 @@
+-- How the outside fails: a count of faults, and the last failed call.
+use Rattle.std.specs.Prelude.{◌≡◌, ℕ, ◌+◌, ◌-◌, ◌^◌, ◌≤◌, List, min, Option, Some, Result, OnOk, OnErr}
+use Rattle.gw_depot.specs.declared.outside.CallKind.{CallKind}
+
+-- the kind and the name of the last failed call, none at first
+abbrev pub Blame : Type 0
+Blame = Option (CallKind × List ℕ)
+
+-- a count of faults rose, or stands at the last value of a `u64`
+abbrev pub Rose : ℕ → ℕ → Type 0
+Rose before now = min (before + 1) (2 ^ 64 - 1) ≤ now
+
+-- a call fails only where the count of faults rises in it, and the count never falls
+pub record HasCount {T E : Type 0} (before now : ℕ) (result : Result T E) : Type 0 where
+  pub later : before ≤ now
+  pub failed : OnErr result (Rose before now)
+
+-- a call fails only where the count of faults rises in it, and the blame is then this call's; a call that
+-- doesn't fail leaves the blame
+pub record HasCause {T E : Type 0} (kind : CallKind) (name : List ℕ) (before now : ℕ) (old new : Blame) (result : Result T E) : Type 0 where
+  pub later : before ≤ now
+  pub failed : OnErr result (Rose before now × (new ≡ Some (kind, name)))
+  pub left : OnOk result (new ≡ old)

@@ -3,6 +3,8 @@
 
 mod frame;
 mod id;
+mod length;
 
 pub use frame::{Frame, FrameFault};
 pub use id::CanId;
+pub use length::fill_up;

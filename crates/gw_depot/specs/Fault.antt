@@ -1,5 +1,5 @@
 -- How the outside fails: a count of faults, and the last failed call.
-use Rattle.std.specs.Prelude.{◌≡◌, ℕ, ◌+◌, ◌-◌, ◌^◌, ◌≤◌, List, min, Option, Some, Result, OnOk, OnErr}
+use Rattle.std.specs.Prelude.{◌≡◌, ℕ, ◌+◌, ◌-◌, ◌^◌, ◌≤◌, List, min, Option, None, Some, Result, OnOk, OnErr}
 use Rattle.gw_depot.specs.declared.outside.CallKind.{CallKind}
 
 -- the kind and the name of the last failed call, none at first
@@ -21,3 +21,16 @@ pub record HasCause {T E : Type 0} (kind : CallKind) (name : List ℕ) (before n
   pub later : before ≤ now
   pub failed : OnErr result (Rose before now × (new ≡ Some (kind, name)))
   pub left : OnOk result (new ≡ old)
+
+-- how often a depot has failed, and its last failed call
+pub record Faults : Type 0 where
+  pub count : ℕ
+  pub blame : Blame
+
+-- no call has failed
+abbrev pub no_faults : Faults
+no_faults = record { count = 0; blame = None }
+
+-- one fault more, blamed on a call; at its last value the count stays
+abbrev pub with_fault : Faults → CallKind → List ℕ → Faults
+with_fault old kind name = record { count = min (old.count + 1) (2 ^ 64 - 1); blame = Some (kind, name) }

@@ -35,3 +35,12 @@ pub record AppendsFile {E : Type 0} (old new : Files) (name piece : List ℕ) (r
 pub record SaysPiece {E : Type 0} (old new piece : List ℕ) (result : Result ℕ E) : Type 0 where
   pub added : IfOk result (λ count. new ≡ old ++ take count piece)
   pub kept : OnErr result (new ≡ old)
+
+-- every file is as before
+abbrev pub SameFiles : Files → Files → Type 0
+SameFiles old new = (name : List ℕ) → new name ≡ old name
+
+-- the file holds these bytes now, and every other is as before
+pub record SetsFile (old new : Files) (name bytes : List ℕ) : Type 0 where
+  pub there : new name ≡ Some bytes
+  pub others : OthersStay old new name

@@ -1,2 +1,6 @@
 pub mod Fault
 pub mod Files
+pub mod MemDepot
+pub mod MemFiles
+pub mod NeverFails
+pub mod Plan

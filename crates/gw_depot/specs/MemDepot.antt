@@ -1,0 +1,18 @@
+-- What contracts see of a depot in memory: its files, its faults, and what a test has set.
+use Rattle.gw_depot.specs.declared.mem_depot.MemDepot.{MemDepot}
+use Rattle.gw_depot.specs.Fault.{Faults}
+use Rattle.gw_depot.specs.Files.{Files}
+use Rattle.gw_depot.specs.MemFiles.{held}
+use Rattle.gw_depot.specs.Plan.{Plan}
+
+-- what each name holds
+abbrev pub files_of : MemDepot → Files
+files_of depot = held depot.files
+
+-- its count of faults and its last failed call
+abbrev pub faults_of : MemDepot → Faults
+faults_of depot = depot.faults
+
+-- which calls to come fail, and the most bytes that one takes
+abbrev pub plan_of : MemDepot → Plan
+plan_of depot = depot.plan

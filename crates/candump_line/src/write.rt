@@ -1,0 +1,20 @@
+ghost use Rattle.std.specs.Prelude.{◌≡◌, ◌^◌, ◌<◌, ◌++◌, OnOk, OnErr};
+ghost use Rattle.candump_line.specs.Line.{IsInterface, line_text};
+
+use crate::spell::{put, spell};
+use can_frame::Frame;
+use gw_base::{Bytes, Memory, Micros};
+
+/// Appends the line of a frame, with its line feed, in candump's log format: `(0000000001.000000) can0 700#021122`.
+///
+/// After `Memory` nothing was appended.
+pub fn write_line(at: Micros, iface: &[u8], frame: &Frame, out: &mut Bytes) -> Result<(), Memory>
+    requires date { at.0 < 10 ^ 16 }
+    requires name { IsInterface iface.now }
+    ensures ok { OnOk result (out.new ≡ out.old ++ line_text at.0 iface.now frame.now) }
+    ensures err { OnErr result (out.new ≡ out.old) }
+{
+    let mut line = spell(at, iface, frame);
+    put(&mut line, b"\n");
+    out.append(&line)
+}

@@ -1,0 +1,4 @@
+pub mod Unit
+pub mod Reading
+pub mod Shape
+pub mod Writing

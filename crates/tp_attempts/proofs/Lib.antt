@@ -1,0 +1,5 @@
+pub mod Cuts
+pub mod Walks
+pub mod Growth
+pub mod Segments
+pub mod Prefixes

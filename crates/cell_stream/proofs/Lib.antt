@@ -1,0 +1,2 @@
+mod Packs
+mod Words

@@ -1,0 +1,7 @@
+pub mod Alone
+pub mod Calls
+pub mod Joint
+pub mod Plain
+pub mod Records
+pub mod Tokens
+pub mod View

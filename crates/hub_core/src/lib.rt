@@ -1,0 +1,18 @@
+//! Sessions that are shared between a writer and its destinations: the contract of a port to them, their records,
+//! and a plain hub.
+#![tactic(auto)]
+
+mod plain;
+mod port;
+mod record;
+mod row;
+#[cfg(test)]
+mod tests;
+mod token;
+
+pub use plain::PlainHub;
+pub use port::{Left, Port, Room, Seen, Take};
+pub use record::{
+    DestRecord, DestResult, Move, OpenedAt, RxLimit, RxWait, SessionRecord, SessionResult, TxWait,
+};
+pub use token::{End, Held, Joined, Opened};

@@ -1,0 +1,5 @@
+pub mod Names
+pub mod Faults
+pub mod Tree
+pub mod Readings
+pub mod Settings

@@ -1,0 +1,12 @@
+pub mod Outcome
+pub mod Texts
+pub mod Hex
+pub mod Words
+pub mod Rows
+pub mod Config
+pub mod Repeated
+pub mod Lawful
+pub mod Entries
+pub mod Document
+pub mod Printed
+pub mod Puts

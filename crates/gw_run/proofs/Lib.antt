@@ -1,0 +1,12 @@
+pub mod Answered
+pub mod Built
+pub mod Left
+pub mod Logs
+pub mod Numbered
+pub mod Pieces
+pub mod Plans
+pub mod Rises
+pub mod Saying
+pub mod Short
+pub mod Starts
+pub mod Stopping

@@ -1,0 +1,29 @@
+-- The least stamp of two logs.
+use Rattle.std.proofs.Common.{◌≡◌, ℕ, ◌≤◌, ◌<◌, ◌*◌, ◌^◌, min, List, [], ◌++◌, Option, Some, None, IfSome, MatchOption, inl, inr, arith}
+use Rattle.std.specs.Prelude.{All}
+use Rattle.std.proofs.lemmas.Bool.{cases_lt}
+use Rattle.std.proofs.lemmas.List.Elements.{All-append, All-weaker, All-map, All-contains, Contains-append_left, Contains-append_right}
+use Rattle.gw_run.specs.declared.log.Stamped.{Stamped}
+use Rattle.gw_run.specs.Dated.{AreDated}
+use Rattle.gw_run.specs.Singles.{stamps_of}
+use Rattle.gw_run.specs.Start.{IsLeast, IsStart}
+
+-- the lesser of the least stamps of two lists is the least of both
+pub start-both : (xs ys : List ℕ) (a b : ℕ) → IsLeast xs a → IsLeast ys b → IsStart (xs ++ ys) (min a b)
+start-both xs ys a b one other = inl (record {
+  among = elim (cases_lt a b) [
+    | inl below ↦ let is : min a b ≡ a = omega arith in rw is (Contains-append_left xs ys a one.among)
+    | inr above ↦ let is : min a b ≡ b = omega arith in rw is (Contains-append_right xs ys b other.among)
+  ];
+  below = All-append (λ n. min a b ≤ n) xs ys
+      (All-weaker (λ n. a ≤ n) (λ n. min a b ≤ n) (λ n le. omega arith) xs one.below)
+      (All-weaker (λ n. b ≤ n) (λ n. min a b ≤ n) (λ n le. omega arith) ys other.below);
+})
+
+-- the least of a log's stamps is one of them
+pub least-dated : (frames : List Stamped) (least : Option ℕ) → MatchOption least (stamps_of frames ≡ []) (IsLeast (stamps_of frames)) → AreDated frames →
+    IfSome least (λ n. n < 2 ^ 32 * 10 ^ 6)
+least-dated frames None none dated = tt
+least-dated frames (Some n) least dated =
+    let all : All (λ m. m < 2 ^ 32 * 10 ^ 6) (stamps_of frames) = All-map (λ m. m < 2 ^ 32 * 10 ^ 6) (λ (s : Stamped). s.at.0) frames dated in
+    All-contains (λ m. m < 2 ^ 32 * 10 ^ 6) (stamps_of frames) n all least.among

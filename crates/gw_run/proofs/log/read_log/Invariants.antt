@@ -1,0 +1,14 @@
+use Rattle.std.proofs.Common.{◌≡◌, ◌≤◌, ◌-◌, ◌*◌, ◌+◌}
+use Rattle.gw_run.proofs.Logs.{ReadFrom}
+use Rattle.gw_run.proofs.log.read_log.Given as goal
+
+abbrev pub invariant-loop-count : goal.invariant-loop-count
+invariant-loop-count g l =
+    (g.D.Depot.told l.depot ≡ g.D.Depot.told l.initial.depot)
+    × (g.D.Depot.files l.depot ≡ g.D.Depot.files l.initial.depot)
+    × (g.D.Depot.faults l.initial.depot ≤ g.D.Depot.faults l.depot)
+    × (l.log.bus ≡ l.bus) × (l.log.most ≡ l.most)
+    × ReadFrom (g.D.Depot.told l.initial.depot) (g.D.Depot.files l.initial.depot) l.bus l.log.taken l.log.piece.items l.log.frames
+
+abbrev pub decreases-loop-count : goal.decreases-loop-count
+decreases-loop-count g l = 514 * (l.most + 1) - l.log.taken

@@ -1,0 +1,64 @@
+-- The statuses of the top call: their codes, and what is said of each (this project's own).
+use Rattle.std.specs.Prelude.{ℕ, Bool, true, false, List, ◌++◌, decimal, codes}
+use Rattle.gw_run.specs.declared.status.Summary.{Summary}
+use Rattle.gw_run.specs.declared.status.Form.{Form}
+use Rattle.gw_run.specs.declared.status.Form.TheVariants.{Configuration, Line}
+use Rattle.gw_run.specs.declared.status.FileRole.{FileRole}
+use Rattle.gw_run.specs.declared.status.FileRole.TheVariants.{Config, Log, Out, Report, Say}
+use Rattle.gw_run.specs.declared.status.Which.{Which}
+use Rattle.gw_run.specs.declared.status.Which.TheVariants.{Lines, Ticks}
+use Rattle.gw_run.specs.declared.status.Status.{Status}
+use Rattle.gw_run.specs.declared.status.Status.TheVariants.{Ok, Usage, Unbuilt, ReadFault, WriteFault, Memory, Limit}
+
+-- the number that the program exits with
+abbrev pub code_of : Status → ℕ
+code_of (Ok summary) = 0
+code_of Usage = 1
+code_of (ReadFault role) = 4
+code_of (WriteFault role) = 5
+code_of Memory = 6
+code_of (Limit which value) = 7
+code_of (Unbuilt form) = 9
+
+-- the command was done to its end
+abbrev pub is_done : Status → Bool
+is_done (Ok summary) = true
+is_done Usage = false
+is_done (ReadFault role) = false
+is_done (WriteFault role) = false
+is_done Memory = false
+is_done (Limit which value) = false
+is_done (Unbuilt form) = false
+
+-- the numbers of a run, with spaces between them
+abbrev pub summary_text : Summary → List ℕ
+summary_text summary =
+    decimal summary.sessions ++ codes " " ++ decimal summary.whole ++ codes " " ++ decimal summary.dests ++ codes " " ++ decimal summary.sent ++ codes " " ++ decimal summary.moves
+
+-- the configuration, or a line of the log of can0 or can1
+abbrev pub form_text : Form → List ℕ
+form_text Configuration = codes "configuration"
+form_text (Line bus line) = codes "log can" ++ decimal bus.0 ++ codes " line " ++ decimal line
+
+-- a file's role, with the number of its bus
+abbrev pub role_text : FileRole → List ℕ
+role_text Config = codes "config"
+role_text (Log bus) = codes "log " ++ decimal bus.0
+role_text (Out bus) = codes "out " ++ decimal bus.0
+role_text Report = codes "report"
+role_text Say = codes "say"
+
+-- a count that has a limit
+abbrev pub which_text : Which → List ℕ
+which_text Lines = codes "lines"
+which_text Ticks = codes "ticks"
+
+-- what is said of a status, without its line feed
+abbrev pub status_text : Status → List ℕ
+status_text (Ok summary) = codes "done " ++ summary_text summary
+status_text Usage = codes "usage: gateway run CONFIG REPORT; gateway check CONFIG; gateway make SEED SIZE"
+status_text (ReadFault role) = codes "read " ++ role_text role
+status_text (WriteFault role) = codes "write " ++ role_text role
+status_text Memory = codes "memory"
+status_text (Limit which value) = codes "limit " ++ which_text which ++ codes " " ++ decimal value
+status_text (Unbuilt form) = codes "unbuilt " ++ form_text form

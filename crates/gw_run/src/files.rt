@@ -1,0 +1,61 @@
+//! Whole files over a depot that reads and appends in pieces.
+ghost use Rattle.std.specs.Prelude.{◌≡◌, ◌<◌, ◌≤◌, true, IfOk, IsSome, MatchBool, Some};
+ghost use Rattle.gw_depot.specs.declared.outside.CallKind.TheVariants.{Read, Append};
+ghost use Rattle.gw_depot.specs.Fault.{HasCause};
+ghost use Rattle.gw_depot.specs.Files.{IsName};
+ghost use Rattle.gw_run.specs.Whole.{AppendsAll};
+
+use gw_depot::{Depot, Failed};
+
+/// How many bytes one read asks for.
+const PIECE: usize = 4096;
+
+fn are_same(some: &[u8], other: &[u8]) -> bool
+    ensures { MatchBool result (some.now ≡ other.now) (¬ (some.now ≡ other.now)) }
+{
+    some == other
+}
+
+/// Whether the file holds exactly these bytes. A file that isn't there is a fault.
+pub(crate) fn holds_exactly<D: Depot>(
+    depot: &mut D,
+    name: &str,
+    expected: &[u8],
+) -> Result<bool, Failed>
+    requires { IsName name.now }
+    ensures told { D.told depot.new ≡ D.told depot.old }
+    ensures files { D.files depot.new ≡ D.files depot.old }
+    ensures exact { D.told depot.old ≡ true → IfOk result (λ same. MatchBool same (D.files depot.old name.now ≡ Some expected.now) (¬ (D.files depot.old name.now ≡ Some expected.now))) }
+    ensures cause { HasCause Read name.now (D.faults depot.old) (D.faults depot.new) (D.blame depot.old) (D.blame depot.new) result }
+{
+    let mut piece = [0u8; PIECE];
+    let mut done = 0;
+    loop {
+        let count = depot.read(name, done as u64, &mut piece)?;
+        if count == 0 {
+            return Ok(done == expected.len());
+        }
+        if count > expected.len() - done {
+            return Ok(false);
+        }
+        if !are_same(&piece[..count], &expected[done..done + count]) {
+            return Ok(false);
+        }
+        done += count;
+    }
+}
+
+/// Appends all the bytes to a file that is there. After a fault some of them were appended.
+pub(crate) fn append_all<D: Depot>(depot: &mut D, name: &str, bytes: &[u8]) -> Result<(), Failed>
+    requires name { IsName name.now }
+    requires there { D.told depot.old ≡ true → IsSome (D.files depot.old name.now) }
+    ensures told { D.told depot.new ≡ D.told depot.old }
+    ensures appended { D.told depot.old ≡ true → AppendsAll (D.files depot.old) (D.files depot.new) name.now bytes.now result }
+    ensures cause { HasCause Append name.now (D.faults depot.old) (D.faults depot.new) (D.blame depot.old) (D.blame depot.new) result }
+{
+    let mut done = 0;
+    while done < bytes.len() {
+        done += depot.append(name, &bytes[done..])?;
+    }
+    Ok(())
+}

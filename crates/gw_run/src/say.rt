@@ -1,0 +1,45 @@
+//! What the program says of a status.
+ghost use Rattle.std.specs.Prelude.{◌≡◌, true, if◌then◌else◌};
+ghost use Rattle.gw_depot.specs.Fault.{HasCount};
+ghost use Rattle.gw_run.specs.Status.{is_done};
+ghost use Rattle.gw_run.specs.Say.{SaysAll, AfterTelling, TellsLine};
+
+use crate::status::{FileRole, Status};
+use gw_depot::{Failed, Sink};
+use std::alloc::Global;
+
+/// Says all the bytes. After a fault some of them were said.
+pub(crate) fn say_all<K: Sink>(say: &mut K, bytes: &[u8]) -> Result<(), Failed>
+    ensures told { K.told say.new ≡ K.told say.old }
+    ensures said { K.told say.old ≡ true → SaysAll (K.said say.old) (K.said say.new) bytes.now result }
+    ensures cause { HasCount (K.faults say.old) (K.faults say.new) result }
+{
+    let mut done = 0;
+    while done < bytes.len() {
+        done += say.put(&bytes[done..])?;
+    }
+    Ok(())
+}
+
+/// What becomes of a status that can't be said: an `Ok` becomes the other one.
+fn unless_done(status: Status, unsaid: Status) -> Status
+    ensures { result ≡ (if is_done status then unsaid else status) }
+{
+    if status.is_done() { unsaid } else { status }
+}
+
+/// Says the status's text and a line feed. An `Ok` that can't be said becomes a fault, or `Memory` where the text
+/// finds no memory; every other status stays.
+pub(crate) fn tell<K: Sink>(alloc: Global, status: Status, say: &mut K) -> Status
+    ensures told { K.told say.new ≡ K.told say.old }
+    ensures answer { AfterTelling status (K.faults say.old) (K.faults say.new) result }
+    ensures said { K.told say.old ≡ true → TellsLine status (K.said say.old) (K.said say.new) (K.faults say.old) (K.faults say.new) result }
+{
+    let Ok(line) = format!(in alloc; "{status}\n") else {
+        return unless_done(status, Status::Memory);
+    };
+    match say_all(say, line.as_bytes()) {
+        Ok(()) => status,
+        Err(Failed) => unless_done(status, Status::WriteFault(FileRole::Say)),
+    }
+}

@@ -1,0 +1,263 @@
+//! How a command ended: its status, the number that the program exits with, and what is said of it.
+ghost use Rattle.std.specs.Prelude.{◌≡◌};
+
+use gw_base::BusNo;
+use std::fmt;
+
+/// What is said where the words have no shape.
+const USAGE: &str =
+    "usage: gateway run CONFIG REPORT; gateway check CONFIG; gateway make SEED SIZE";
+
+/// The numbers of a run that was done to its end.
+#[derive(Clone, Copy, Debug, PartialEq, Eq)]
+pub struct Summary {
+    /// How many sessions were received.
+    pub sessions: u64,
+    /// How many of them were received whole.
+    pub whole: u64,
+    /// How many destinations they had.
+    pub dests: u64,
+    /// How many of these were sent whole.
+    pub sent: u64,
+    /// How often a buffer of the pool was taken or freed.
+    pub moves: u64,
+}
+
+/// What isn't built yet.
+#[derive(Clone, Copy, Debug, PartialEq, Eq)]
+pub enum Form {
+    /// The configuration isn't the base one; or its own name is one of its outputs, or the report's name is one of
+    /// its logs or outputs.
+    Configuration,
+    /// A line of a bus's log, counted from 1.
+    Line { bus: BusNo, line: u32 },
+}
+
+/// What a file is to the command.
+#[derive(Clone, Copy, Debug, PartialEq, Eq)]
+pub enum FileRole {
+    /// The configuration.
+    Config,
+    /// The file that a bus's frames are read from.
+    Log(BusNo),
+    /// The file that a bus's sent frames are written to.
+    Out(BusNo),
+    /// The report.
+    Report,
+    /// What the program says.
+    Say,
+}
+
+/// A count that has a limit.
+#[derive(Clone, Copy, Debug, PartialEq, Eq)]
+pub enum Which {
+    /// The lines of all logs together.
+    Lines,
+    /// The ticks of the run.
+    Ticks,
+}
+
+/// How a command ended.
+#[derive(Clone, Copy, Debug, PartialEq, Eq)]
+pub enum Status {
+    /// The command was done to its end.
+    Ok(Summary),
+    /// The words have no shape of a command.
+    Usage,
+    /// What the command needs isn't built yet.
+    Unbuilt(Form),
+    /// A read of the file failed.
+    ReadFault(FileRole),
+    /// The file couldn't be made or written, or the text couldn't be said.
+    WriteFault(FileRole),
+    /// Want of memory.
+    Memory,
+    /// The count passes its limit.
+    Limit { which: Which, value: u64 },
+}
+
+impl Status {
+    ghost use Rattle.gw_run.specs.Status.{code_of, is_done};
+
+    /// The number that the program exits with.
+    pub fn code(&self) -> u8
+        ensures { result ≡ code_of self.now }
+    {
+        match self {
+            Status::Ok(_) => 0,
+            Status::Usage => 1,
+            Status::ReadFault(_) => 4,
+            Status::WriteFault(_) => 5,
+            Status::Memory => 6,
+            Status::Limit { .. } => 7,
+            Status::Unbuilt(_) => 9,
+        }
+    }
+
+    /// Whether the command was done to its end.
+    pub(crate) fn is_done(&self) -> bool
+        ensures { result ≡ is_done self.now }
+    {
+        matches!(self, Status::Ok(_))
+    }
+}
+
+impl fmt::Display for Summary {
+    ghost use Rattle.std.specs.Prelude.{Some};
+    ghost use Rattle.gw_run.specs.Status.{summary_text};
+
+    ghost output = { λ summary. Some (summary_text summary) };
+
+    fn fmt<W: fmt::Write>(&self, f: &mut fmt::Formatter<W>) -> fmt::Result {
+        let Summary {
+            sessions,
+            whole,
+            dests,
+            sent,
+            moves,
+        } = self;
+        write!(f, "{sessions} {whole} {dests} {sent} {moves}")
+    }
+}
+
+impl fmt::Display for Form {
+    ghost use Rattle.std.specs.Prelude.{Some};
+    ghost use Rattle.gw_run.specs.Status.{form_text};
+
+    ghost output = { λ form. Some (form_text form) };
+
+    fn fmt<W: fmt::Write>(&self, f: &mut fmt::Formatter<W>) -> fmt::Result {
+        match self {
+            Form::Configuration => write!(f, "configuration"),
+            // The buses of the base configuration are can0 and can1.
+            Form::Line {
+                bus: BusNo(bus),
+                line,
+            } => write!(f, "log can{bus} line {line}"),
+        }
+    }
+}
+
+impl fmt::Display for FileRole {
+    ghost use Rattle.std.specs.Prelude.{Some};
+    ghost use Rattle.gw_run.specs.Status.{role_text};
+
+    ghost output = { λ role. Some (role_text role) };
+
+    fn fmt<W: fmt::Write>(&self, f: &mut fmt::Formatter<W>) -> fmt::Result {
+        match self {
+            FileRole::Config => write!(f, "config"),
+            FileRole::Log(BusNo(bus)) => write!(f, "log {bus}"),
+            FileRole::Out(BusNo(bus)) => write!(f, "out {bus}"),
+            FileRole::Report => write!(f, "report"),
+            FileRole::Say => write!(f, "say"),
+        }
+    }
+}
+
+impl fmt::Display for Which {
+    ghost use Rattle.std.specs.Prelude.{Some};
+    ghost use Rattle.gw_run.specs.Status.{which_text};
+
+    ghost output = { λ which. Some (which_text which) };
+
+    fn fmt<W: fmt::Write>(&self, f: &mut fmt::Formatter<W>) -> fmt::Result {
+        match self {
+            Which::Lines => write!(f, "lines"),
+            Which::Ticks => write!(f, "ticks"),
+        }
+    }
+}
+
+/// The text that is said of the status, without its line feed.
+impl fmt::Display for Status {
+    ghost use Rattle.std.specs.Prelude.{Some};
+    ghost use Rattle.gw_run.specs.Status.{status_text};
+
+    ghost output = { λ status. Some (status_text status) };
+
+    fn fmt<W: fmt::Write>(&self, f: &mut fmt::Formatter<W>) -> fmt::Result {
+        match self {
+            Status::Ok(summary) => write!(f, "done {summary}"),
+            Status::Usage => write!(f, "{USAGE}"),
+            Status::Unbuilt(form) => write!(f, "unbuilt {form}"),
+            Status::ReadFault(role) => write!(f, "read {role}"),
+            Status::WriteFault(role) => write!(f, "write {role}"),
+            Status::Memory => write!(f, "memory"),
+            Status::Limit { which, value } => write!(f, "limit {which} {value}"),
+        }
+    }
+}
+
+#[cfg(test)]
+mod tests {
+    use super::*;
+    use std::test::Fail;
+
+    const DONE: Summary = Summary {
+        sessions: 1,
+        whole: 2,
+        dests: 3,
+        sent: 4,
+        moves: 5,
+    };
+
+    const ROWS: [(Status, &str, u8); 13] = [
+        (Status::Ok(DONE), "done 1 2 3 4 5", 0),
+        (
+            Status::Usage,
+            "usage: gateway run CONFIG REPORT; gateway check CONFIG; gateway make SEED SIZE",
+            1,
+        ),
+        (Status::ReadFault(FileRole::Config), "read config", 4),
+        (Status::ReadFault(FileRole::Log(BusNo(0))), "read log 0", 4),
+        (Status::ReadFault(FileRole::Log(BusNo(1))), "read log 1", 4),
+        (
+            Status::WriteFault(FileRole::Out(BusNo(1))),
+            "write out 1",
+            5,
+        ),
+        (Status::WriteFault(FileRole::Report), "write report", 5),
+        (Status::WriteFault(FileRole::Say), "write say", 5),
+        (Status::Memory, "memory", 6),
+        (
+            Status::Limit {
+                which: Which::Lines,
+                value: 1_000_001,
+            },
+            "limit lines 1000001",
+            7,
+        ),
+        (
+            Status::Limit {
+                which: Which::Ticks,
+                value: 10_003_001,
+            },
+            "limit ticks 10003001",
+            7,
+        ),
+        (
+            Status::Unbuilt(Form::Configuration),
+            "unbuilt configuration",
+            9,
+        ),
+        (
+            Status::Unbuilt(Form::Line {
+                bus: BusNo(1),
+                line: 2,
+            }),
+            "unbuilt log can1 line 2",
+            9,
+        ),
+    ];
+
+    #[test]
+    fn each_status_has_its_text_and_its_code(rt: HostRuntime) -> Result<(), Fail> {
+        for (status, said, code) in ROWS {
+            let text = status.to_string(rt.alloc())?;
+            assert_eq!(rt; text.as_str(), said);
+            assert_eq!(rt; status.code(), code, "{said}");
+        }
+        Ok(())
+    }
+}

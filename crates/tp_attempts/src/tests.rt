@@ -1,5 +1,6 @@
 use crate::attempts;
 use can_frame::{CanId, Frame, FrameFault};
+use std::alloc::Global;
 use std::test::Fail;
 
 /// A classic frame of these bytes.
@@ -63,5 +64,51 @@ fn a_wrong_number_ends_the_attempt(rt: HostRuntime) -> Result<(), Fail> {
         return Ok(());
     };
     assert_eq!(rt; only.bytes.items(), [0, 1, 2, 3, 4, 5].as_slice());
+    Ok(())
+}
+
+/// The frames of two channels as one log has them: the identifier and the data.
+const INTERLEAVED: [(u16, &[u8]); 6] = [
+    (0x700, &[0x10, 0x0A, 0, 1, 2, 3, 4, 5]),
+    (0x701, &[0x10, 0x09, 9, 8, 7, 6, 5, 4]),
+    (0x701, &[0x21, 3, 2, 1]),
+    (0x700, &[0x21, 6, 7, 8, 9]),
+    (0x701, &[0x01, 0xEE]),
+    (0x700, &[0x22, 0xFF]),
+];
+
+/// The frames of one channel of that log.
+fn frames_of(alloc: Global, id: u16) -> Result<Vec<Frame>, Fail> {
+    let mut frames = Vec::new(alloc);
+    for (other, bytes) in INTERLEAVED {
+        if other == id {
+            frames.push(Frame::new(CanId::Std(id), false, false, bytes)?)?;
+        }
+    }
+    Ok(frames)
+}
+
+#[test]
+fn two_channels_of_one_log_have_their_own_attempts(rt: HostRuntime) -> Result<(), Fail> {
+    let one = frames_of(rt.alloc(), 0x700)?;
+    assert_eq!(rt; one.len(), 3);
+    let list = attempts(rt.alloc(), 0, false, one.as_slice())?;
+    let [only] = list.items() else {
+        return Err(Fail::from("one attempt"));
+    };
+    assert_eq!(rt; (only.start, only.len, only.end), (0, 10, 1));
+    assert_eq!(rt;
+        only.bytes.items(),
+        [0, 1, 2, 3, 4, 5, 6, 7, 8, 9].as_slice()
+    );
+
+    let other = frames_of(rt.alloc(), 0x701)?;
+    assert_eq!(rt; other.len(), 3);
+    let list = attempts(rt.alloc(), 0, false, other.as_slice())?;
+    let [first, second] = list.items() else {
+        return Err(Fail::from("two attempts"));
+    };
+    assert_eq!(rt; first.bytes.items(), [9, 8, 7, 6, 5, 4, 3, 2, 1].as_slice());
+    assert_eq!(rt; second.bytes.items(), [0xEE].as_slice());
     Ok(())
 }

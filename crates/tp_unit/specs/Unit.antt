@@ -1,5 +1,7 @@
 -- A protocol unit as contracts see it.
 use Rattle.std.specs.Prelude.{ℕ, List}
+use Rattle.tp_unit.specs.declared.box_act.BoxAct.{BoxAct}
+use Rattle.tp_unit.specs.declared.box_act.BoxAct.TheVariants.{Keep, Offer, Revoke}
 use Rattle.tp_unit.specs.declared.unit.Unit.{Unit as ProtocolUnit}
 use Rattle.tp_unit.specs.declared.unit.Unit.TheVariants.{Sf, Ff, Cf, Fc, Ignored}
 use Rattle.tp_unit.specs.declared.unit.Why.{Why}
@@ -19,3 +21,15 @@ meaning_of (Ff len bytes) = FirstFrame len bytes.items
 meaning_of (Cf sn bytes) = ConsecutiveFrame sn bytes.items
 meaning_of (Fc fs bs st) = FlowControl fs bs st
 meaning_of (Ignored why) = NoUnit why
+
+-- what is done with a box
+pub data BoxMeaning : Type 0 where
+  Keeps : BoxMeaning
+  Offers : (meaning : Meaning) → BoxMeaning
+  Revokes : BoxMeaning
+
+-- what an act does with its box
+abbrev pub box_meaning_of : BoxAct → BoxMeaning
+box_meaning_of Keep = Keeps
+box_meaning_of (Offer unit) = Offers (meaning_of unit)
+box_meaning_of Revoke = Revokes

@@ -4,9 +4,10 @@ use Rattle.std.proofs.lemmas.List.{length-map}
 use Rattle.std.proofs.lemmas.Option.{slice_get_past}
 use Rattle.std.specs.Prelude.{slice_get, ◌==◌, ◌&&◌, if◌then◌else◌}
 use Rattle.hub_core.specs.Alone.{IsRoomBeside, IsRoomOf, IsSeenOf}
+use Rattle.hub_core.specs.Floors.{Rise, IsFresh, number_in, has_left, floors_of}
 use Rattle.hub_core.specs.Plain.{Kept, IsOpen, room_in, hub_view, session_of, reading_of, session_in, reading_in}
 use Rattle.hub_core.specs.Tokens.{Writes, Reads}
-use Rattle.hub_core.specs.View.{Session, Reading, session_at, reading_at, at_two}
+use Rattle.hub_core.specs.View.{View, Event, Session, Reading, Asked, Saw, session_at, reading_at, grow, at_two}
 use Rattle.hub_core.specs.declared.port.Room.{Room}
 use Rattle.hub_core.specs.declared.row.ChangeRow.{ChangeRow}
 use Rattle.hub_core.specs.declared.row.Place.{Place}
@@ -15,9 +16,11 @@ use Rattle.hub_core.specs.declared.row.RefusalRow.{RefusalRow}
 use Rattle.hub_core.specs.declared.row.Row.{Row}
 use Rattle.hub_core.specs.declared.token.Joined.{Joined}
 use Rattle.hub_core.specs.declared.token.Opened.{Opened}
-use Rattle.hub_core.proofs.Done.{are-zero}
+use Rattle.hub_core.proofs.Done.{are-zero, next-number}
+use Rattle.hub_core.proofs.Fresh.{room-fresh, rise-grow}
 use Rattle.hub_core.proofs.Keeps.{length-slice}
 use Rattle.hub_core.proofs.Party.{writer-of, reader-of}
+use Rattle.hub_core.proofs.Streams.{hub-streams}
 
 -- the item after those of a mapped list
 after-past : {A : Type 0} (f : Row → A) (past : List Row) (ys : List A) → slice_get (map f past ++ ys) (length past) ≡ slice_get ys 0
@@ -32,7 +35,7 @@ session-here size place past changes refused cells row path seq is first last =
     subst P (sym first) (ap (slice_get (map (session_of size cells) past ++ session_in size cells place)) last ∙ after-past (session_of size cells) past (session_in size cells place) ∙ ap (λ p. slice_get (session_in size cells p) 0) is)
 
 -- and so is its reading, where the destination has joined
-reading-here : (size : ℕ) (place : Place) (past : List Row) (changes : List ChangeRow) (refused : List RefusalRow) (cells : List ℕ) (row : Row) (path seq : ℕ) →
+pub reading-here : (size : ℕ) (place : Place) (past : List Row) (changes : List ChangeRow) (refused : List RefusalRow) (cells : List ℕ) (row : Row) (path seq : ℕ) →
     place ≡ Occupied row → path ≡ 0 → seq ≡ length past → reading_at (hub_view size place past changes refused cells) path 0 seq ≡ slice_get (reading_in cells (Occupied row)) 0
 reading-here size place past changes refused cells row path seq is first last =
     let P : ℕ → Type 0 = λ p. reading_at (hub_view size place past changes refused cells) p 0 seq ≡ slice_get (reading_in cells (Occupied row)) 0 in
@@ -76,6 +79,29 @@ seen-exact size place past changes refused cells row t kept known is s there =
     let same : session_of size cells row ≡ s = cc in
     (ap (λ (x : Session). x.shown) same, ap (λ (x : Session). x.told) same, ap (λ (x : Session). x.stands) same)
 
+-- so they are fresh at the present floors
+pub room-fresh-here : (size : ℕ) (place : Place) (past : List Row) (changes : List ChangeRow) (refused : List RefusalRow) (cells : List ℕ) (row : Row) (t : Opened) (room : Room) →
+    Kept size place past cells → Writes (hub_view size place past changes refused cells) t → place ≡ Occupied row → room ≡ room_in size row →
+    IsFresh (hub_view size place past changes refused cells) (floors_of (hub_view size place past changes refused cells)) (Asked t.path.0 t.seq room.cells room.readers)
+room-fresh-here size place past changes refused cells row t room kept known is looked =
+    let writer = writer-of size place past changes refused cells t row kept.over known is in
+    let here = session-here size place past changes refused cells row t.path.0 t.seq is writer.path writer.seq in
+    room-fresh (hub_view size place past changes refused cells) t.path.0 t.seq room (λ s there. let same : session_of size cells row ≡ s = cc in ap (λ (x : Session). x.dests) (sym same))
+    (room-exact size place past changes refused cells row t room kept known is looked)
+
+pub seen-fresh-here : (size : ℕ) (place : Place) (past : List Row) (changes : List ChangeRow) (refused : List RefusalRow) (cells : List ℕ) (row : Row) (t : Joined) →
+    Kept size place past cells → Reads (hub_view size place past changes refused cells) t → place ≡ Occupied row →
+    IsFresh (hub_view size place past changes refused cells) (floors_of (hub_view size place past changes refused cells)) (Saw t.path.0 t.dest.0 t.seq row.shown row.told row.writes)
+seen-fresh-here size place past changes refused cells row t kept known is =
+    let reader = reader-of size place past changes refused cells t row kept.over known is in
+    let here = session-here size place past changes refused cells row t.path.0 t.seq is reader.path reader.seq in
+    (omega (arith, ap (number_in (λ (s : Session). s.shown)) here), λ stood. ap (has_left (λ (s : Session). s.stands)) here ∙ ap (λ (b : Bool). if b then false else true) stood)
+
+-- and no call lowers these
+pub hub-rises : (e : Event) (w : View) (size : ℕ) (place : Place) (past : List Row) (changes : List ChangeRow) (refused : List RefusalRow) (cells : List ℕ) →
+    Kept size place past cells → w ≡ grow e (hub_view size place past changes refused cells) → Rise (floors_of (hub_view size place past changes refused cells)) (floors_of w)
+hub-rises e w size place past changes refused cells kept grown = rise-grow e (hub_view size place past changes refused cells) w (hub-streams size place past changes refused cells kept) grown
+
 -- where the destination has a reading of each session, there is no next one
 none-next : (size : ℕ) (place : Place) (past : List Row) (changes : List ChangeRow) (refused : List RefusalRow) (cells : List ℕ) (path dest seq : ℕ) → ((path == 0) && (dest == 0)) ≡ true →
     length ((hub_view size place past changes refused cells).readings path dest) ≡ seq → length (session_in size cells place) ≡ length (reading_in cells place) → session_at (hub_view size place past changes refused cells) path seq ≡ None
@@ -100,3 +126,11 @@ none-joined size place past changes refused cells row path dest seq test number 
     let one : length (reading_in cells place) ≡ 1 = ap (λ p. length (reading_in cells p)) is ∙ ap (λ (b : Bool). length (if b then reading_of cells row ∷ [] else [])) joined in
     let same : length (session_in size cells place) ≡ length (reading_in cells place) = ap (λ p. length (session_in size cells p)) is ∙ sym one in
     none-next size place past changes refused cells path dest seq test number same
+
+-- where it hasn't joined the session in the buffer, that is the next one
+pub next-exact : (size : ℕ) (place : Place) (past : List Row) (changes : List ChangeRow) (refused : List RefusalRow) (cells : List ℕ) (row : Row) (path dest seq : ℕ) → ((path == 0) && (dest == 0)) ≡ true →
+    length ((hub_view size place past changes refused cells).readings path dest) ≡ seq → place ≡ Occupied row → row.joined ≡ false →
+    (s : Session) × (session_at (hub_view size place past changes refused cells) path seq ≡ Some s) × (0 ≡ s.buf) × (row.len ≡ s.len)
+next-exact size place past changes refused cells row path dest seq test number is unjoined =
+    let last = next-number size place past changes refused cells row path dest seq test is unjoined number in
+    (session_of size cells row, session-here size place past changes refused cells row path seq is (are-zero path dest test).0 last, refl, refl)

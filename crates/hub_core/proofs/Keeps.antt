@@ -124,6 +124,7 @@ open-put size cells row cell is some fits =
       ring = λ stands. omega (arith, is.ring stands, some);
       writer = is.writer;
       unjoined = is.unjoined;
+      none = is.none;
       party = is.party;
     }
 
@@ -164,6 +165,7 @@ open-published size cells row t bytes is says all = record {
   ring = is.ring;
   writer = is.writer;
   unjoined = is.unjoined;
+  none = is.none;
   party = is.party;
 }
 
@@ -187,6 +189,7 @@ open-seen size cells row is joined = record {
   ring = is.ring;
   writer = λ gone. gone;
   unjoined = is.unjoined;
+  none = is.none;
   party = is.party;
 }
 
@@ -210,6 +213,7 @@ open-read size cells row is more = record {
   ring = λ stands. omega (arith, is.ring stands);
   writer = is.writer;
   unjoined = is.unjoined;
+  none = is.none;
   party = is.party;
 }
 
@@ -256,6 +260,7 @@ open-joined size cells row is = record {
   ring = is.ring;
   writer = is.writer;
   unjoined = λ not-joined. absurd cc;
+  none = is.none;
   party = is.party;
 }
 
@@ -294,16 +299,16 @@ HasJoined (Read t) row = row.joined ≡ true
 -- after a party leaves, and others stay
 pub open-left : (end : End) (size : ℕ) (cells : List ℕ) (row : Row) → IsOpen size cells row → HasJoined end row → ((left_by end row).writes || (left_by end row).reads) ≡ true → IsOpen size cells (left_by end row)
 open-left (Write t) size cells row is joined party =
-    record { numbers = numbers-left (Write t) size cells row is.numbers; last = is.last; room = is.room; ring = is.ring; writer = λ gone. refl; unjoined = is.unjoined; party = party }
+    record { numbers = numbers-left (Write t) size cells row is.numbers; last = is.last; room = is.room; ring = is.ring; writer = λ gone. refl; unjoined = is.unjoined; none = is.none; party = party }
 open-left (Read t) size cells row is joined party =
-    record { numbers = numbers-left (Read t) size cells row is.numbers; last = is.last; room = is.room; ring = λ stands. absurd cc; writer = is.writer; unjoined = λ not-joined. absurd cc; party = party }
+    record { numbers = numbers-left (Read t) size cells row is.numbers; last = is.last; room = is.room; ring = λ stands. absurd cc; writer = is.writer; unjoined = λ not-joined. absurd cc; none = λ seen. refl; party = party }
 
 neither : (a b : Bool) → (a || b) ≡ false → (a ≡ false) × (b ≡ false)
 neither true b none = absurd cc
 neither false b none = (refl, none)
 
 -- a destination that has left has joined
-joined-left : (size : ℕ) (cells : List ℕ) (row : Row) → IsOpen size cells row → row.reads ≡ false → row.joined ≡ true
+pub joined-left : (size : ℕ) (cells : List ℕ) (row : Row) → IsOpen size cells row → row.reads ≡ false → row.joined ≡ true
 joined-left size cells row is gone = cases row.joined refl
   where
     cases : (b : Bool) → row.joined ≡ b → row.joined ≡ true

@@ -3,6 +3,8 @@ mod Exact
 mod Journal
 mod Keeps
 mod OneView
+mod Owned
 mod Party
 mod Streams
+pub mod Fresh
 pub mod Growing

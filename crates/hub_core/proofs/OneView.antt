@@ -70,7 +70,7 @@ hub-session f size place past changes refused cells more row next path seq is fi
     subst P (sym is) (grown ∙ one-session f path seq (map change_of changes) (map refusal_of refused) None before old rs first (last ∙ sym (length-map past (session_of size cells))))
 
 -- a row whose destination has joined has a reading
-reading-in-joined : (cells : List ℕ) (row : Row) → row.joined ≡ true → reading_in cells (Occupied row) ≡ reading_of cells row ∷ []
+pub reading-in-joined : (cells : List ℕ) (row : Row) → row.joined ≡ true → reading_in cells (Occupied row) ≡ reading_of cells row ∷ []
 reading-in-joined cells row joined = ap (λ (b : Bool). if b then reading_of cells row ∷ [] else []) joined
 
 reading-in-unjoined : (cells : List ℕ) (row : Row) → row.joined ≡ false → reading_in cells (Occupied row) ≡ []

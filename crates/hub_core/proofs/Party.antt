@@ -1,7 +1,8 @@
 -- A token that the plain hub knows is that of the session in its buffer.
 use Rattle.std.proofs.Common.{◌≡◌, ℕ, ◌+◌, zero, suc, Bool, true, false, List, [], ◌∷◌, ◌++◌, length, map, Some, None, All, inl, inr, ◌⊎◌, refl, ap, sym, ◌∙◌, subst, arith}
 use Rattle.std.proofs.lemmas.Bool.Decides.{eqb_tells}
-use Rattle.std.proofs.lemmas.List.Elements.{All-head, All-tail}
+use Rattle.std.proofs.lemmas.List.Elements.{All-get_or}
+use Rattle.std.proofs.lemmas.Option.{get_or_from_slice_get, slice_get_within}
 use Rattle.std.specs.Prelude.{slice_get, if◌then◌else◌}
 use Rattle.hub_core.specs.Plain.{IsPast, hub_view, session_of, reading_of, taking_in, session_in, reading_in}
 use Rattle.hub_core.specs.Tokens.{Writes, Reads, SessionIs, ReadingIs}
@@ -54,14 +55,28 @@ held-there size (Reserved n) change cells known =
 held-there size (Occupied row) change cells known = absurd cc
 
 -- an item of a list and what follows it: one that stands for a part of the list, or one of what follows
-pub item-of : {A : Type 0} (f : Row → A) (P : Row → Type 0) (past : List Row) (ys : List A) (k : ℕ) (x : A) → All P past → slice_get (map f past ++ ys) k ≡ Some x →
-    ((row : Row) × P row × (x ≡ f row)) ⊎ ((j : ℕ) × (k ≡ length past + j) × (slice_get ys j ≡ Some x))
-item-of f P [] ys k x all is = inr (k, omega arith, is)
-item-of f P (row ∷ past) ys zero x all is = inl (row, All-head P row past all, cc)
-item-of f P (row ∷ past) ys (suc k) x all is =
-    elim (item-of f P past ys k x (All-tail P row past all) is) [
+pub item-at : {A : Type 0} (f : Row → A) (past : List Row) (ys : List A) (k : ℕ) (x : A) → slice_get (map f past ++ ys) k ≡ Some x →
+    ((row : Row) × (slice_get past k ≡ Some row) × (x ≡ f row)) ⊎ ((j : ℕ) × (k ≡ length past + j) × (slice_get ys j ≡ Some x))
+item-at f [] ys k x is = inr (k, omega arith, is)
+item-at f (row ∷ past) ys zero x is = inl (row, refl, cc)
+item-at f (row ∷ past) ys (suc k) x is =
+    elim (item-at f past ys k x is) [
       | inl found ↦ inl found
       | inr later ↦ inr (later.0, omega (arith, later.1), later.2)
+    ]
+
+-- what holds of each item holds of the one at a place
+pub each-at : (P : Row → Type 0) (past : List Row) (k : ℕ) (row : Row) → All P past → slice_get past k ≡ Some row → P row
+each-at P past k row all is =
+    let Q : Row → Type 0 = P in
+    subst Q (get_or_from_slice_get past k row row is) (All-get_or P past k row (slice_get_within past k row is) all)
+
+pub item-of : {A : Type 0} (f : Row → A) (P : Row → Type 0) (past : List Row) (ys : List A) (k : ℕ) (x : A) → All P past → slice_get (map f past ++ ys) k ≡ Some x →
+    ((row : Row) × P row × (x ≡ f row)) ⊎ ((j : ℕ) × (k ≡ length past + j) × (slice_get ys j ≡ Some x))
+item-of f P past ys k x all is =
+    elim (item-at f past ys k x is) [
+      | inl found ↦ inl (found.0, each-at P past k found.0 all found.1, found.2)
+      | inr later ↦ inr later
     ]
 
 pub session-there : (size : ℕ) (cells : List ℕ) (place : Place) (j : ℕ) (s : Session) → slice_get (session_in size cells place) j ≡ Some s →

@@ -111,6 +111,15 @@ abbrev pub left_of : End → Left → Event
 left_of (Write t) left = Closed t.path.0 t.seq (freed_by left)
 left_of (Read t) left = Parted t.path.0 t.dest.0 t.seq (freed_by left)
 
+-- the path and the number of the party's session
+abbrev pub path_of : End → ℕ
+path_of (Write t) = t.path.0
+path_of (Read t) = t.path.0
+
+abbrev pub seq_of : End → ℕ
+seq_of (Write t) = t.seq
+seq_of (Read t) = t.seq
+
 -- the buffer of the party's session
 abbrev pub buf_of : End → ℕ
 buf_of (Write t) = t.buf.0

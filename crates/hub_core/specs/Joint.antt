@@ -1,5 +1,5 @@
 -- What the views of all ports of one hub say together, where each party stands in one of them.
-use Rattle.std.specs.Prelude.{◌≡◌, ℕ, ◌+◌, ◌-◌, ◌^◌, ◌<◌, ◌≤◌, ◌==◌, zero, suc, true, false, List, length, take, find, All, Option, Some, None, IsBitSet}
+use Rattle.std.specs.Prelude.{◌≡◌, ◌≢◌, ℕ, ◌+◌, ◌-◌, ◌^◌, ◌<◌, ◌≤◌, ◌==◌, zero, suc, true, false, List, length, take, find, slice_get, All, Option, Some, None, IsBitSet}
 use Rattle.gw_base.specs.Cell.{counted}
 use Rattle.gw_base.specs.Fit.{IsSmallest, NoneFits}
 use Rattle.hub_core.specs.View.{View, Change, Taken, Freed, Refusal, Session, Reading, session_at, reading_at}
@@ -68,7 +68,61 @@ pub record AreStreams (v : View) : Type 0 where
   pub written : (path seq : ℕ) (s : Session) → session_at v path seq ≡ Some s → IsWritten s
   pub joined : (path dest seq : ℕ) (r : Reading) → reading_at v path dest seq ≡ Some r → (s : Session) × (session_at v path seq ≡ Some s) × IsStream s r
 
+-- the buffer that a change takes or frees
+abbrev pub changed_buf : Change → ℕ
+changed_buf (Taken number buf need) = buf
+changed_buf (Freed number buf) = buf
+
+-- the change of a number takes or frees the buffer
+abbrev pub ChangesBuf : List Change → (buf number : ℕ) → Type 0
+ChangesBuf changes buf number = (change : Change) × (numbered changes number ≡ Some change) × (changed_buf change ≡ buf)
+
+-- the first number after another whose change takes or frees the buffer
+pub record IsNextChange (changes : List Change) (buf number next : ℕ) : Type 0 where
+  pub changes_buf : ChangesBuf changes buf next
+  pub after : number < next
+  pub first : (other : ℕ) → ChangesBuf changes buf other → number < other → next ≤ other
+
+-- a destination joined the session with that path and number, and left it
+abbrev pub HasLeft : View → (path dest seq : ℕ) → Type 0
+HasLeft v path dest seq = (r : Reading) × (reading_at v path dest seq ≡ Some r) × (r.stands ≡ false)
+
+-- no destination of a session takes part any more; one that hasn't joined yet takes part
+abbrev pub HasNoReaders : View → (path seq : ℕ) → Session → Type 0
+HasNoReaders v path seq s = (dest : ℕ) → dest < s.dests → HasLeft v path dest seq
+
+-- all parties of a session have left
+pub record IsOver (v : View) (path seq : ℕ) (s : Session) : Type 0 where
+  pub writer : s.stands ≡ false
+  pub dests : HasNoReaders v path seq s
+
+-- a session's buffer was taken for it, and has the cells that the session may use
+pub record IsTaken (sizes : List ℕ) (v : View) (s : Session) : Type 0 where
+  pub need : ℕ
+  pub take : numbered v.changes s.number ≡ Some (Taken s.number s.buf need)
+  pub size : slice_get sizes s.buf ≡ Some s.size
+
+-- each buffer is taken for one session, and freed once that session's parties have left
+pub record AreOwned (sizes : List ℕ) (v : View) : Type 0 where
+  -- each session has a take, and no two have the same
+  pub taken : (path seq : ℕ) (s : Session) → session_at v path seq ≡ Some s → IsTaken sizes v s
+  pub own : (path seq other_path other_seq : ℕ) (s other : Session) → session_at v path seq ≡ Some s → session_at v other_path other_seq ≡ Some other → s.number ≡ other.number →
+      (path ≡ other_path) × (seq ≡ other_seq)
+  -- a take without a session is the last change of its buffer
+  pub unused : (number buf need later : ℕ) → numbered v.changes number ≡ Some (Taken number buf need) → ((path seq : ℕ) (s : Session) → session_at v path seq ≡ Some s → s.number ≢ number) →
+      ChangesBuf v.changes buf later → later ≤ number
+  -- the next change of a taken buffer is its free
+  pub next : (number buf need next : ℕ) → numbered v.changes number ≡ Some (Taken number buf need) → IsNextChange v.changes buf number next → numbered v.changes next ≡ Some (Freed next buf)
+  -- a session's buffer changes only after all its parties have left, and where they have, it is freed
+  pub kept : (path seq later : ℕ) (s : Session) → session_at v path seq ≡ Some s → ChangesBuf v.changes s.buf later → s.number < later → IsOver v path seq s
+  pub freed : (path seq : ℕ) (s : Session) → session_at v path seq ≡ Some s → IsOver v path seq s → (later : ℕ) × (s.number < later) × (numbered v.changes later ≡ Some (Freed later s.buf))
+  -- only its own destinations join a session
+  pub joined : (path dest seq : ℕ) (s : Session) (r : Reading) → session_at v path seq ≡ Some s → reading_at v path dest seq ≡ Some r → dest < s.dests
+  -- a session whose writer saw no destination has none
+  pub no_readers : (path seq : ℕ) (s : Session) → session_at v path seq ≡ Some s → s.readers ≡ 0 → HasNoReaders v path seq s
+
 -- the views of all ports, joined, with the number of changes and the free set of the pool word
 pub record Joint (sizes : List ℕ) (count free : ℕ) (v : View) : Type 0 where
   pub journal : IsJournal sizes count free v
   pub streams : AreStreams v
+  pub owned : AreOwned sizes v

@@ -1,5 +1,6 @@
 pub mod Alone
 pub mod Calls
+pub mod Floors
 pub mod Joint
 pub mod Plain
 pub mod Records

@@ -78,7 +78,8 @@ pub record IsPast (size : ℕ) (cells : List ℕ) (row : Row) : Type 0 where
   pub writes : row.writes ≡ false
   pub reads : row.reads ≡ false
 
--- the session in the buffer: its cells are the last ones, no cell is overwritten that is still to be read, and a party stands
+-- the session in the buffer: its cells are the last ones, no cell is overwritten that is still to be read, a destination that was
+-- seen gone doesn't read, and a party stands
 pub record IsOpen (size : ℕ) (cells : List ℕ) (row : Row) : Type 0 where
   pub numbers : IsRow size cells row
   pub last : row.from + row.put ≡ length cells
@@ -86,6 +87,7 @@ pub record IsOpen (size : ℕ) (cells : List ℕ) (row : Row) : Type 0 where
   pub ring : row.reads ≡ true → row.put + row.room ≤ row.at + size
   pub writer : row.saw_writer ≡ false → row.writes ≡ false
   pub unjoined : row.joined ≡ false → row.reads ≡ true
+  pub none : row.readers ≡ 0 → row.reads ≡ false
   pub party : (row.writes || row.reads) ≡ true
 
 -- what the plain hub keeps of its sessions
@@ -131,10 +133,18 @@ pub record IsRefused (size count : ℕ) (row : RefusalRow) : Type 0 where
   pub set : row.free ≡ 1 - row.change % 2
   pub small : row.free ≡ 1 → size < row.need
 
--- what the plain hub keeps of its changes and overflows
-pub record Moves (size : ℕ) (place : Place) (changes : List ChangeRow) (overflows : List RefusalRow) (sessions : ℕ) : Type 0 where
+-- the change that took the buffer, or the given one where it is free
+abbrev pub take_in : ℕ → Place → ℕ
+take_in number Free = number
+take_in number (Reserved change) = change
+take_in number (Occupied row) = row.change
+
+-- what the plain hub keeps of its changes and overflows: each session has the take in its turn, and the buffer was taken last
+pub record Moves (size : ℕ) (place : Place) (changes : List ChangeRow) (overflows : List RefusalRow) (past : List Row) : Type 0 where
   pub each : (at : ℕ) (row : ChangeRow) → slice_get changes at ≡ Some row → IsMove size at row
-  pub turn : length changes ≡ 2 * sessions + taken place
+  pub turn : length changes ≡ 2 * length past + taken place
+  pub own : (at : ℕ) (row : Row) → slice_get past at ≡ Some row → row.change ≡ 2 * at + 1
+  pub last : take_in (length changes) place ≡ length changes
   pub refused : All (IsRefused size (length changes)) overflows
 
 -- the lists have place for what the takes and cells that are left may add

@@ -1,4 +1,4 @@
-ghost use Rattle.std.specs.Prelude.{◌≡◌, ◌+◌, ◌/◌, ◌%◌, ◌^◌, ◌≤◌, ◌||◌, true, length, vec_capacity, slice_index, IfOk};
+ghost use Rattle.std.specs.Prelude.{◌≡◌, ◌+◌, ◌/◌, ◌%◌, ◌^◌, ◌≤◌, ◌||◌, true, length, vec_capacity, slice_index, All, IfOk};
 ghost use Rattle.gw_base.specs.Cell.{count_of};
 ghost use Rattle.hub_core.specs.View.{empty_view};
 ghost use Rattle.hub_core.specs.Plain.{Kept, HasPlace, Moves, room_in, left_by, free_set, hub_means};
@@ -78,7 +78,7 @@ pub struct PlainHub {
     cells: Vec<u64>,
     ghost kept: { Kept size place past.items cells.items },
     ghost counts: { HasPlace place takes spare (length changes.items) (length refused.items) (length past.items) (length cells.items) },
-    ghost moves: { Moves size place changes.items refused.items (length past.items) },
+    ghost moves: { Moves size place changes.items refused.items past.items },
     ghost changes_room: { 2000000 ≤ vec_capacity changes },
     ghost refused_room: { 1000000 ≤ vec_capacity refused },
     ghost past_room: { 1000000 ≤ vec_capacity past },
@@ -86,10 +86,11 @@ pub struct PlainHub {
 }
 
 impl PlainHub {
-    /// A hub of one buffer of 1 to 8192 cells, which is free, with room for all that its takes and its spare cells
-    /// may bring.
+    /// A hub of one buffer of 1 to 8192 cells, which is free, for 1,000,000 takes and 9,000,000 cells put; it takes no
+    /// memory later. `cells` is the buffer's cells. `Memory` where a growth was refused.
     pub fn new(alloc: Global, cells: &[u32]) -> Result<PlainHub, Memory>
         requires one { length cells.now ≡ 1 }
+        requires cells { All (λ size. (1 ≤ size) × (size ≤ 8192)) cells.now }
         ensures view { IfOk result (λ hub. ⟦<PlainHub as Port>⟧.view hub ≡ empty_view) }
         ensures means { IfOk result (λ hub. ⟦<PlainHub as Port>⟧.means hub ≡ hub_means (slice_index cells.now 0) 1000000 9000000) }
     {
@@ -128,18 +129,33 @@ impl PlainHub {
 }
 
 impl Port for PlainHub {
-    ghost use Rattle.std.specs.Prelude.{◌≡◌, ◌≤◌, None, true, length, IfNone};
-    ghost use Rattle.hub_core.specs.Alone.{IsRoomOf, IsSeenOf};
-    ghost use Rattle.hub_core.specs.Calls.{SameMeans, ByWriter, ByReader, next_of, joins, Joins};
-    ghost use Rattle.hub_core.specs.Tokens.{Writes, Reads, asked, saw, SameOpened, SameJoined};
-    ghost use Rattle.hub_core.specs.View.{grow, session_at, Asked, Saw};
+    ghost use Rattle.std.specs.Prelude.{◌≡◌, ◌<◌, ◌≤◌, true, length};
+    ghost use Rattle.hub_core.specs.Alone.{IsTakeOf, IsRoomOf, IsNextOf, IsSeenOf, IsLeavingOf};
+    ghost use Rattle.hub_core.specs.Calls.{SameMeans, TakeUsed, SameParties, ByWriter, ByReader, ByEnd, took_of, Answers, next_of, joins, Joins, left_of, FreesOwn};
+    ghost use Rattle.hub_core.specs.Floors.{Rise, IsFresh, floors_of};
+    ghost use Rattle.hub_core.specs.Tokens.{Writes, Reads, TakesPart, asked, saw, SameOpened, SameJoined};
+    ghost use Rattle.hub_core.specs.View.{grow, Asked, Saw};
     ghost use Rattle.hub_core.specs.Plain.{hub_view};
 
     ghost view = { λ hub. hub_view hub.size hub.place hub.past.items hub.changes.items hub.refused.items hub.cells.items };
 
     ghost means = { λ hub. hub_means hub.size hub.takes hub.spare };
 
-    fn take(&mut self, need: u64) -> Take {
+    ghost floors = { λ hub. floors_of (hub_view hub.size hub.place hub.past.items hub.changes.items hub.refused.items hub.cells.items) };
+
+    /// As for any port; the answer has the pool word of this call.
+    fn take(&mut self, need: u64) -> Take
+        requires { 0 < (⟦<PlainHub as Port>⟧.means self.old).takes }
+        ensures view { ⟦<PlainHub as Port>⟧.view self.new ≡ grow (took_of need result) (⟦<PlainHub as Port>⟧.view self.old) }
+        ensures by { SameParties (⟦<PlainHub as Port>⟧.view self.old) (⟦<PlainHub as Port>⟧.view self.new) }
+        ensures answers { Answers (⟦<PlainHub as Port>⟧.view self.new) (⟦<PlainHub as Port>⟧.means self.old).sizes need result }
+        ensures means { TakeUsed (⟦<PlainHub as Port>⟧.means self.old) (⟦<PlainHub as Port>⟧.means self.new) }
+        ensures fresh { IsFresh (⟦<PlainHub as Port>⟧.view self.old) (⟦<PlainHub as Port>⟧.floors self.old) (took_of need result) }
+        ensures rise { Rise (⟦<PlainHub as Port>⟧.floors self.old) (⟦<PlainHub as Port>⟧.floors self.new) }
+
+        // Beside the port's: a buffer that fits is taken by the next change, and an overflow's word is the present one.
+        ensures exact { IsTakeOf (⟦<PlainHub as Port>⟧.view self.old) (⟦<PlainHub as Port>⟧.means self.old).sizes need result }
+    {
         let change = self.changes.len() as u32;
         let free = self.free_set();
         self.takes -= 1;
@@ -202,6 +218,8 @@ impl Port for PlainHub {
         ensures cells { (at.old.room ≤ result.cells) × (result.cells ≤ at.old.cells) }
         ensures writes { Writes (⟦<PlainHub as Port>⟧.view self.new) at.new }
         ensures means { SameMeans (⟦<PlainHub as Port>⟧.means self.old) (⟦<PlainHub as Port>⟧.means self.new) }
+        ensures fresh { IsFresh (⟦<PlainHub as Port>⟧.view self.old) (⟦<PlainHub as Port>⟧.floors self.old) (Asked at.old.path.0 at.old.seq result.cells result.readers) }
+        ensures rise { Rise (⟦<PlainHub as Port>⟧.floors self.old) (⟦<PlainHub as Port>⟧.floors self.new) }
 
         // Beside the port's: the look is exact.
         ensures exact { IsRoomOf (⟦<PlainHub as Port>⟧.view self.old) at.old.path.0 at.old.seq result }
@@ -248,7 +266,7 @@ impl Port for PlainHub {
         at.told = at.given;
     }
 
-    /// As for any port; `None` only where the path has no session of that number.
+    /// As for any port; `None` exactly where the path has no session of that number.
     fn next(&mut self, path: PathNo, dest: DestNo, seq: u32) -> Option<Joined>
         requires acts { (⟦<PlainHub as Port>⟧.means self.old).reads path.0 dest.0 ≡ true }
         requires seq { length ((⟦<PlainHub as Port>⟧.view self.old).readings path.0 dest.0) ≡ seq }
@@ -256,9 +274,11 @@ impl Port for PlainHub {
         ensures by { ByReader path.0 dest.0 (joins result) (⟦<PlainHub as Port>⟧.view self.old) (⟦<PlainHub as Port>⟧.view self.new) }
         ensures joins { Joins (⟦<PlainHub as Port>⟧.view self.new) path dest seq result }
         ensures means { SameMeans (⟦<PlainHub as Port>⟧.means self.old) (⟦<PlainHub as Port>⟧.means self.new) }
+        ensures fresh { IsFresh (⟦<PlainHub as Port>⟧.view self.old) (⟦<PlainHub as Port>⟧.floors self.old) (next_of path.0 dest.0 seq result) }
+        ensures rise { Rise (⟦<PlainHub as Port>⟧.floors self.old) (⟦<PlainHub as Port>⟧.floors self.new) }
 
-        // Beside the port's: no session that stands is passed over.
-        ensures exact { IfNone result (session_at (⟦<PlainHub as Port>⟧.view self.old) path.0 seq ≡ None) }
+        // Beside the port's: the look is exact.
+        ensures exact { IsNextOf (⟦<PlainHub as Port>⟧.view self.old) path.0 seq result }
     {
         let Place::Occupied(row) = self.place else {
             return None;
@@ -292,6 +312,8 @@ impl Port for PlainHub {
         ensures cells { at.old.seen ≤ result.cells }
         ensures reads { Reads (⟦<PlainHub as Port>⟧.view self.new) at.new }
         ensures means { SameMeans (⟦<PlainHub as Port>⟧.means self.old) (⟦<PlainHub as Port>⟧.means self.new) }
+        ensures fresh { IsFresh (⟦<PlainHub as Port>⟧.view self.old) (⟦<PlainHub as Port>⟧.floors self.old) (Saw at.old.path.0 at.old.dest.0 at.old.seq result.cells result.bytes result.writer) }
+        ensures rise { Rise (⟦<PlainHub as Port>⟧.floors self.old) (⟦<PlainHub as Port>⟧.floors self.new) }
 
         // Beside the port's: the look is exact.
         ensures exact { IsSeenOf (⟦<PlainHub as Port>⟧.view self.old) at.old.path.0 at.old.seq result }
@@ -327,7 +349,18 @@ impl Port for PlainHub {
         cell
     }
 
-    fn leave(&mut self, end: End) -> Left {
+    /// As for any port; `Last` exactly where no other party takes part.
+    fn leave(&mut self, end: End) -> Left
+        requires { TakesPart (⟦<PlainHub as Port>⟧.view self.old) end }
+        ensures view { ⟦<PlainHub as Port>⟧.view self.new ≡ grow (left_of end result) (⟦<PlainHub as Port>⟧.view self.old) }
+        ensures by { ByEnd end (⟦<PlainHub as Port>⟧.view self.old) (⟦<PlainHub as Port>⟧.view self.new) }
+        ensures frees { FreesOwn end result }
+        ensures means { SameMeans (⟦<PlainHub as Port>⟧.means self.old) (⟦<PlainHub as Port>⟧.means self.new) }
+        ensures rise { Rise (⟦<PlainHub as Port>⟧.floors self.old) (⟦<PlainHub as Port>⟧.floors self.new) }
+
+        // Beside the port's: the last one is told so, and no other.
+        ensures exact { IsLeavingOf (⟦<PlainHub as Port>⟧.view self.new) end result }
+    {
         let Place::Occupied(row) = self.place else {
             unreachable!();
         };

@@ -1,5 +1,5 @@
 use Rattle.std.proofs.Common.{◌≡◌, ℕ, ◌+◌, ◌*◌, ◌/◌, ◌%◌, ◌^◌, ◌<◌, ◌≤◌, ◌∙◌, arith}
-use Rattle.hub_core.proofs.Journal.{hub-joint}
+use Rattle.hub_core.proofs.Owned.{hub-joint}
 use Rattle.hub_core.proofs.plain.PlainHub.word.Goals as goal
 
 -- the halves of a word

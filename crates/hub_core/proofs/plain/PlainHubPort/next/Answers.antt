@@ -1,19 +1,24 @@
 use Rattle.std.proofs.Common.{◌≡◌, length, arith, refl}
 use Rattle.hub_core.proofs.Done.{joining-done, next-number}
-use Rattle.hub_core.proofs.Exact.{none-idle, none-joined}
+use Rattle.hub_core.proofs.Exact.{none-idle, none-joined, next-exact, hub-rises}
+use Rattle.hub_core.proofs.Fresh.{past-end, rise-same}
 use Rattle.hub_core.proofs.Growing.{by-missed, reads-joining}
 use Rattle.hub_core.proofs.plain.PlainHubPort.next.Goals as goal
 use Rattle.hub_core.specs.View.{grow}
 
 pub returns-in_default : goal.returns-in_default
 unfolding grow
-returns-in_default c = record {
-  view = refl;
-  by = by-missed _ _ c.args.seq _ _ refl;
-  joins = tt;
-  means = record { pool = record { sizes = refl; writes = refl; reads = refl; most = refl }; takes = refl; spare = omega arith };
-  exact = none-idle c.args.self.now.size c.args.self.now.place c.args.self.now.past.items c.args.self.now.changes.items c.args.self.now.refused.items c.args.self.now.cells.items _ _ _ c.requires.acts c.requires.seq c.in_default.not-Occupied;
-}
+returns-in_default c =
+    let none = none-idle c.args.self.now.size c.args.self.now.place c.args.self.now.past.items c.args.self.now.changes.items c.args.self.now.refused.items c.args.self.now.cells.items _ _ _ c.requires.acts c.requires.seq c.in_default.not-Occupied in
+    record {
+      view = refl;
+      by = by-missed _ _ c.args.seq _ _ refl;
+      joins = tt;
+      means = record { pool = record { sizes = refl; writes = refl; reads = refl; most = refl }; takes = refl; spare = omega arith };
+      fresh = past-end _ _ none;
+      rise = rise-same _;
+      exact = none;
+    }
 
 pub returns-then-row-clause-view : goal.returns-then-row-clause-view
 unfolding grow
@@ -30,3 +35,12 @@ returns-clause-joins c =
 
 pub returns-then-row-clause-exact : goal.returns-then-row-clause-exact
 returns-then-row-clause-exact c = none-joined c.args.self.now.size c.args.self.now.place c.args.self.now.past.items c.args.self.now.changes.items c.args.self.now.refused.items c.args.self.now.cells.items _ _ _ _ c.requires.acts c.requires.seq c.in-Occupied.is c.if-row.true
+
+pub returns-clause-exact : goal.returns-clause-exact
+returns-clause-exact c = next-exact c.args.self.now.size c.args.self.now.place c.args.self.now.past.items c.args.self.now.changes.items c.args.self.now.refused.items c.args.self.now.cells.items _ _ _ _ c.requires.acts c.requires.seq c.in-Occupied.is c.if-row.false
+
+pub returns-then-row-clause-fresh : goal.returns-then-row-clause-fresh
+returns-then-row-clause-fresh c = past-end _ _ (returns-then-row-clause-exact c)
+
+pub returns-clause-rise : goal.returns-clause-rise
+returns-clause-rise c = hub-rises _ _ _ _ _ _ _ _ c.args.self.now.kept (returns-clause-view c)

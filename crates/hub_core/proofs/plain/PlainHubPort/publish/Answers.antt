@@ -1,5 +1,6 @@
 use Rattle.std.proofs.Common.{arith, refl}
 use Rattle.hub_core.proofs.Done.{published-done}
+use Rattle.hub_core.proofs.Exact.{hub-rises}
 use Rattle.hub_core.proofs.Growing.{same-opened, writes-published}
 use Rattle.hub_core.proofs.Keeps.{kept-occupied, open-published}
 use Rattle.hub_core.proofs.Party.{not-idle-writer, writer-of}
@@ -24,3 +25,6 @@ returns-clause-view c = published-done _ _ _ _ _ _ _ _ _ c.args.self.now.kept c.
 
 pub returns-clause-writes : goal.returns-clause-writes
 returns-clause-writes c = writes-published _ _ _ _ c.args.bytes c.requires.writes c.requires.bytes (returns-clause-view c) (same-opened _ _ refl)
+
+pub returns-clause-rise : goal.returns-clause-rise
+returns-clause-rise c = hub-rises _ _ _ _ _ _ _ _ c.args.self.now.kept (returns-clause-view c)

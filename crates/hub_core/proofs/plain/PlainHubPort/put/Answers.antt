@@ -1,5 +1,6 @@
 use Rattle.std.proofs.Common.{arith, rules}
 use Rattle.hub_core.proofs.Done.{put-done, put-kept}
+use Rattle.hub_core.proofs.Exact.{hub-rises}
 use Rattle.hub_core.proofs.Growing.{writes-put, by-put}
 use Rattle.hub_core.proofs.Keeps.{put-of}
 use Rattle.hub_core.proofs.Party.{not-idle-writer, writer-of}
@@ -31,3 +32,6 @@ returns-clause-by c = by-put _ _ _ _ _ (returns-clause-view c)
 
 pub returns-clause-writes : goal.returns-clause-writes
 returns-clause-writes c = writes-put _ _ _ _ _ c.requires.writes c.requires.room c.requires.len (returns-clause-view c) (search rules)
+
+pub returns-clause-rise : goal.returns-clause-rise
+returns-clause-rise c = hub-rises _ _ _ _ _ _ _ _ c.args.self.now.kept (returns-clause-view c)

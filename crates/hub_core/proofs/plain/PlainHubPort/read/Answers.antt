@@ -1,5 +1,6 @@
 use Rattle.std.proofs.Common.{arith, rules}
 use Rattle.hub_core.proofs.Done.{read-done, more-of}
+use Rattle.hub_core.proofs.Exact.{hub-rises}
 use Rattle.hub_core.proofs.Growing.{reads-read}
 use Rattle.hub_core.proofs.Keeps.{kept-occupied, open-read, read-within, read-cell}
 use Rattle.hub_core.proofs.Party.{not-idle-reader, reader-of}
@@ -43,3 +44,6 @@ overflow_add-at-2 c =
 
 pub returns-clause-reads : goal.returns-clause-reads
 returns-clause-reads c = reads-read _ _ _ _ _ c.requires.reads c.requires.more (returns-clause-len c) (returns-clause-view c) (search rules)
+
+pub returns-clause-rise : goal.returns-clause-rise
+returns-clause-rise c = hub-rises _ _ _ _ _ _ _ _ c.args.self.now.kept (returns-clause-view c)

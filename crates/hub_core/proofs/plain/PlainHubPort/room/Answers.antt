@@ -1,5 +1,5 @@
 use Rattle.std.proofs.Common.{refl}
-use Rattle.hub_core.proofs.Exact.{room-exact}
+use Rattle.hub_core.proofs.Exact.{room-exact, room-fresh-here, hub-rises}
 use Rattle.hub_core.proofs.Growing.{same-opened, writes-asked}
 use Rattle.hub_core.proofs.Keeps.{room-bounds}
 use Rattle.hub_core.proofs.OneView.{hub-session}
@@ -28,3 +28,9 @@ returns-clause-writes c =
 
 pub returns-clause-exact : goal.returns-clause-exact
 returns-clause-exact c = room-exact _ _ _ _ _ _ _ _ _ c.args.self.now.kept c.requires c.in-Occupied.is c.room_left-room.ensures
+
+pub returns-clause-fresh : goal.returns-clause-fresh
+returns-clause-fresh c = room-fresh-here _ _ _ _ _ _ _ _ _ c.args.self.now.kept c.requires c.in-Occupied.is c.room_left-room.ensures
+
+pub returns-clause-rise : goal.returns-clause-rise
+returns-clause-rise c = hub-rises _ _ _ _ _ _ _ _ c.args.self.now.kept (returns-clause-view c)

@@ -1,6 +1,6 @@
 use Rattle.std.proofs.Common.{arith, refl}
 use Rattle.hub_core.proofs.Done.{seen-done}
-use Rattle.hub_core.proofs.Exact.{seen-exact}
+use Rattle.hub_core.proofs.Exact.{seen-exact, seen-fresh-here, hub-rises}
 use Rattle.hub_core.proofs.Growing.{same-joined, reads-saw}
 use Rattle.hub_core.proofs.Keeps.{kept-occupied, open-seen}
 use Rattle.hub_core.proofs.Party.{not-idle-reader, reader-of}
@@ -28,3 +28,9 @@ returns-clause-reads c = reads-saw _ _ _ _ _ c.requires (returns-clause-cells c)
 
 pub returns-clause-exact : goal.returns-clause-exact
 returns-clause-exact c = seen-exact _ _ _ _ _ _ _ _ c.args.self.now.kept c.requires c.in-Occupied.is
+
+pub returns-clause-fresh : goal.returns-clause-fresh
+returns-clause-fresh c = seen-fresh-here _ _ _ _ _ _ _ _ c.args.self.now.kept c.requires c.in-Occupied.is
+
+pub returns-clause-rise : goal.returns-clause-rise
+returns-clause-rise c = hub-rises _ _ _ _ _ _ _ _ c.args.self.now.kept (returns-clause-view c)

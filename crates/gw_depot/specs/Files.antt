@@ -1,5 +1,5 @@
 -- Files by name, and what a call does to them.
-use Rattle.std.specs.Prelude.{◌≡◌, ◌≢◌, ℕ, ◌<◌, ◌≤◌, ◌↔◌, List, [], ◌++◌, length, take, drop, Option, Some, Result, IfOk, OnOk, OnErr}
+use Rattle.std.specs.Prelude.{◌≡◌, ◌≢◌, ◌⊎◌, ℕ, ◌<◌, ◌≤◌, ◌↔◌, List, [], ◌++◌, length, take, drop, Option, Some, Result, IfOk, OnOk, OnErr}
 
 -- what each name holds: nothing where the file isn't there
 abbrev pub Files : Type 0
@@ -20,9 +20,10 @@ pub record ReadsFile (files : Files) (name : List ℕ) (at count : ℕ) (got : L
   pub bytes : got ≡ take count (drop at content)
   pub end : (count ≡ 0) ↔ (length content ≤ at)
 
--- the file is there and empty, unless the call failed
+-- the file is there and empty; where the call failed it may also be as before
 pub record CreatesFile {T E : Type 0} (old new : Files) (name : List ℕ) (result : Result T E) : Type 0 where
   pub made : OnOk result (new name ≡ Some [])
+  pub kept : OnErr result ((new name ≡ old name) ⊎ (new name ≡ Some []))
   pub others : OthersStay old new name
 
 -- the file has as many bytes of the piece more as were counted, none where the call failed

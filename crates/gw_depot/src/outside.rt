@@ -44,7 +44,8 @@ pub trait Depot {
         ensures read { told self.old ≡ true → IfOk result (λ count. ReadsFile (files self.old) name.now at count (take count into.new)) }
         ensures cause { HasCause Read name.now (faults self.old) (faults self.new) (blame self.old) (blame self.new) result };
 
-    /// Makes the file empty, new or not. Other files stay, after a fault too.
+    /// Makes the file empty, new or not. After a fault it is as before, or empty. Other files stay, after a fault
+    /// too.
     fn create(&mut self, name: &str) -> Result<(), Failed>
         requires name { IsName name.now }
         ensures told { told self.new ≡ told self.old }

@@ -10,6 +10,8 @@ mod print;
 mod read;
 mod repeated;
 mod rows;
+#[cfg(test)]
+mod tests;
 mod words;
 
 pub use config::{

@@ -1,5 +1,6 @@
 use crate::{Key, TableKind};
 use gw_base::Memory;
+use std::fmt;
 use thiserror::Error;
 
 /// What is wrong at a place of the configuration.
@@ -30,6 +31,50 @@ pub struct ConfigFault {
     pub index: u32,
     /// The key; `Other` for `NotToml` and `UnknownKey`.
     pub key: Key,
+}
+
+/// The cause in words, as `wrong kind`.
+impl fmt::Display for FaultKind {
+    ghost use Rattle.std.specs.Prelude.{Some};
+    ghost use Rattle.gw_settings.specs.Said.{cause_text};
+
+    ghost output = { λ kind. Some (cause_text kind) };
+
+    fn fmt<W: fmt::Write>(&self, f: &mut fmt::Formatter<W>) -> fmt::Result {
+        match self {
+            FaultKind::NotToml => write!(f, "not toml"),
+            FaultKind::Missing => write!(f, "missing"),
+            FaultKind::WrongKind => write!(f, "wrong kind"),
+            FaultKind::OutOfRange => write!(f, "out of range"),
+            FaultKind::UnknownKey => write!(f, "unknown key"),
+            FaultKind::Repeated => write!(f, "repeated"),
+        }
+    }
+}
+
+/// The path and the cause: `linger: wrong kind`, `bus[1].name: repeated`, `bus[0].?: unknown key`, `text: not toml`.
+impl fmt::Display for ConfigFault {
+    ghost use Rattle.std.specs.Prelude.{Some};
+    ghost use Rattle.gw_settings.specs.Said.{fault_text};
+
+    ghost output = { λ fault. Some (fault_text fault) };
+
+    fn fmt<W: fmt::Write>(&self, f: &mut fmt::Formatter<W>) -> fmt::Result {
+        let ConfigFault {
+            kind,
+            table,
+            index,
+            key,
+        } = self;
+        match (kind, table) {
+            (FaultKind::NotToml, _) => write!(f, "text: {kind}"),
+            (_, TableKind::Top) => write!(f, "{key}: {kind}"),
+            _ => {
+                let entries = table.key();
+                write!(f, "{entries}[{index}].{key}: {kind}")
+            }
+        }
+    }
 }
 
 /// Why a configuration wasn't read.

@@ -1,6 +1,8 @@
 ghost use Rattle.std.specs.Prelude.{◌≡◌, option_copied};
 ghost use Rattle.gw_settings.specs.Names.{key_name};
 
+use std::fmt;
+
 /// A key of the configuration. Where two tables have a key of one name, it is one `Key`.
 #[derive(Clone, Copy, Debug, PartialEq, Eq)]
 pub enum Key {
@@ -154,5 +156,18 @@ impl Key {
             Key::Role => Some("role"),
             Key::Other => None,
         }
+    }
+}
+
+/// The key's name in a fault's path; `?` for `Other`.
+impl fmt::Display for Key {
+    ghost use Rattle.std.specs.Prelude.{Some};
+    ghost use Rattle.gw_settings.specs.Said.{key_text};
+
+    ghost output = { λ key. Some (key_text key) };
+
+    fn fmt<W: fmt::Write>(&self, f: &mut fmt::Formatter<W>) -> fmt::Result {
+        let name = self.name().unwrap_or("?");
+        write!(f, "{name}")
     }
 }

@@ -1,0 +1,2 @@
+pub mod ByBusLemmas
+pub mod MatchLemmas

@@ -1,0 +1,3 @@
+pub mod ByBus
+pub mod Match
+pub mod Table

@@ -1,0 +1,4 @@
+pub mod CellByCell
+pub mod Composing
+pub mod Playing
+pub mod Sizes

@@ -1,0 +1,5 @@
+pub mod Known
+pub mod Receiving
+pub mod Rows
+pub mod Running
+pub mod Set

@@ -1,0 +1,14 @@
+//! The receiver of one channel: its messages come in frames and are put into sessions that are shared.
+#![tactic(auto)]
+
+mod acts;
+mod putting;
+mod receiver;
+mod reception;
+mod set;
+#[cfg(test)]
+mod tests;
+
+pub use acts::RxActs;
+pub use receiver::Receiver;
+pub use set::{RxEvent, RxSet};

@@ -1,0 +1,5 @@
+mod Calls
+mod Reading
+mod Turns
+mod Idle
+mod Settles

@@ -1,0 +1,9 @@
+use Rattle.tp_sender.proofs.Idle.{turn-none, turn-joined}
+use Rattle.tp_sender.proofs.sender.Sender.turn_idle.Goals as goal
+
+pub returns-in_default-clause-step : goal.returns-in_default-clause-step
+returns-in_default-clause-step g c =
+    turn-none _ _ _ _ _ _ _ c.requires.idle c.in_default.ensures.joins.0 c.in_default.ensures.joins.2 c.nothing.ensures.boxed c.nothing.ensures.ended c.nothing.ensures.moved
+
+pub returns-clause-step : goal.returns-clause-step
+returns-clause-step g c = turn-joined _ _ _ _ _ _ _ _ _ c.requires.idle c.in-Some.ensures.joins c.in-Some.ensures.rise c.begin-outcome.ensures.step

@@ -1,0 +1,7 @@
+use Rattle.std.proofs.Common.{◌≡◌, ◌≤◌, true}
+use Rattle.tp_sender.specs.State.{ActsFor, HasFrame, Knows, since_of, state_of}
+use Rattle.tp_sender.proofs.tests.play.Given as goal
+
+abbrev pub invariant-loop-event : goal.invariant-loop-event
+invariant-loop-event g l =
+    Knows (g.P.Port.view l.port) l.sender × ActsFor (g.P.Port.means l.port) l.sender × (since_of (state_of l.sender).live ≤ l.now) × (l.full ≡ true → HasFrame (state_of l.sender).live)

@@ -1,0 +1,5 @@
+pub mod Frame
+pub mod State
+pub mod Table
+pub mod Over
+pub mod Sending

@@ -1,0 +1,59 @@
+ghost use Rattle.std.specs.Prelude.{◌≡◌, ◌<◌, length, true, None};
+ghost use Rattle.hub_core.specs.Calls.{SameMeans};
+ghost use Rattle.hub_core.specs.Floors.{Rise};
+ghost use Rattle.tp_sender.specs.State.{sending_of};
+ghost use Rattle.tp_sender.specs.Table.{joined_in};
+ghost use Rattle.tp_sender.specs.Over.{JoinsOver};
+ghost use Rattle.tp_unit.specs.Unit.{Keeps, box_meaning_of};
+
+use crate::live::{Live, Phase};
+use crate::{TxActs, TxSet};
+use cell_stream::Carry;
+use gw_base::Tick;
+use hub_core::{Joined, Port};
+use tp_unit::BoxAct;
+
+/// The sequence number of a unit's first consecutive frame (ISO 15765-2, sequence number).
+const FIRST_NUMBER: u8 = 1;
+
+/// Joins the destination's next session, where one stands.
+pub fn join<P: Port>(set: &TxSet, next: u32, tick: Tick, port: &mut P) -> Option<Live>
+    requires acts { (P.means port.old).reads set.now.path.0 set.now.dest.0 ≡ true }
+    requires next { length ((P.view port.old).readings set.now.path.0 set.now.dest.0) ≡ next }
+    ensures joins { JoinsOver set.now next tick.0 (P.floors port.old) (P.view port.old) (P.view port.new) result }
+    ensures means { SameMeans (P.means port.old) (P.means port.new) }
+    ensures rise { Rise (P.floors port.old) (P.floors port.new) }
+{
+    let at = port.next(set.path, set.dest, next)?;
+    Some(live_of(at, tick))
+}
+
+/// A session as it is joined.
+fn live_of(at: Joined, tick: Tick) -> Live
+    requires { 0 < at.len }
+    ensures at { result.at ≡ at }
+    ensures state { sending_of result ≡ record (joined_in tick.0 at.seq at.len) { at = at.at } }
+{
+    Live {
+        at,
+        carry: Carry::new(),
+        begin: tick,
+        sent: 0,
+        number: FIRST_NUMBER,
+        phase: Phase::Start,
+        since: tick,
+    }
+}
+
+/// Nothing is done.
+pub fn nothing() -> TxActs
+    ensures boxed { box_meaning_of result.boxed ≡ Keeps }
+    ensures ended { result.ended ≡ None }
+    ensures moved { result.moved ≡ None }
+{
+    TxActs {
+        boxed: BoxAct::Keep,
+        ended: None,
+        moved: None,
+    }
+}

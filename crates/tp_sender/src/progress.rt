@@ -1,0 +1,164 @@
+ghost use Rattle.std.specs.Prelude.{◌≡◌, ◌+◌, ◌≤◌};
+ghost use Rattle.hub_core.specs.Floors.{Rise};
+ghost use Rattle.tp_unit.specs.Shape.{IsShape};
+ghost use Rattle.tp_sender.specs.State.{KnowsToken, in_box, sending_of};
+ghost use Rattle.tp_sender.specs.Table.{Answered, Ends, FrameLeft, InAnswer, LiveRow, all_sent, revoked, wait_of};
+ghost use Rattle.hub_core.specs.declared.record.DestResult.TheVariants.{RunEnd as EndOfRun, Sent};
+ghost use Rattle.tp_unit.specs.Unit.{Keeps};
+ghost use Rattle.tp_sender.specs.declared.event.TxEvent.TheVariants.{Left};
+ghost use Rattle.tp_sender.specs.Over.{KeepsPort, Over, did_of};
+
+use crate::ending::{awaited, end, go_on, leave, revoke};
+use crate::frame::next_part;
+use crate::live::{Live, Outcome, Phase};
+use crate::turn::take_turn;
+use crate::{TxEvent, TxSet};
+use gw_base::Tick;
+use hub_core::{DestRecord, DestResult, Port};
+use tp_unit::BoxAct;
+
+/// The number of sequence numbers (ISO 15765-2, sequence number).
+const SEQUENCE_NUMBERS: u8 = 16;
+
+/// The ticks between two consecutive frames where no separation time is asked for.
+const LEAST_GAP: u64 = 1;
+
+/// The flow status by which a receiver lets frames come.
+const CONTINUE: u8 = 0;
+
+/// The flow status by which a receiver asks for a pause.
+const WAIT: u8 = 1;
+
+/// The flow status by which a receiver refuses a message.
+const OVERFLOW: u8 = 2;
+
+/// The frame in the box left.
+pub fn frame_left<P: Port>(set: &TxSet, mut live: Live, tick: Tick, port: &mut P) -> Outcome
+    requires shape { IsShape set.now.shape }
+    requires knows { KnowsToken (P.view port.old) set.now (live.at.seq + 1) live }
+    requires tick { tick.0 ≤ 10000000 }
+    ensures step { Over (FrameLeft set.now (sending_of live)) (P.floors port.old) (P.view port.old) (P.view port.new) (did_of tick.0 result) }
+    ensures port { KeepsPort set.now (live.at.seq + 1) result.live (P.view port.old) (P.view port.new) (P.means port.old) (P.means port.new) }
+    ensures rise { Rise (P.floors port.old) (P.floors port.new) }
+{
+    let first = live.sent == 0;
+    let sent = live.sent + next_part(&set.shape, live.at.len, live.sent) as u32;
+    if sent == live.at.len {
+        return all_left(set, live, tick, port);
+    }
+    live.sent = sent;
+    live.since = tick;
+    if first {
+        live.phase = Phase::Fc;
+        return go_on(live, BoxAct::Keep);
+    }
+    live.number = (live.number + 1) % SEQUENCE_NUMBERS;
+    live.phase = Phase::Gap {
+        until: Tick(tick.0 + LEAST_GAP),
+    };
+    go_on(live, BoxAct::Keep)
+}
+
+/// The unit's last frame left.
+fn all_left<P: Port>(set: &TxSet, live: Live, tick: Tick, port: &mut P) -> Outcome
+    requires knows { KnowsToken (P.view port.old) set.now (live.at.seq + 1) live }
+    ensures step { Over (Ends set.now (all_sent (sending_of live)) Keeps Sent) (P.floors port.old) (P.view port.old) (P.view port.new) (did_of tick.0 result) }
+    ensures port { KeepsPort set.now (live.at.seq + 1) result.live (P.view port.old) (P.view port.new) (P.means port.old) (P.means port.new) }
+    ensures rise { Rise (P.floors port.old) (P.floors port.new) }
+{
+    let ended = DestRecord {
+        path: set.path,
+        dest: set.dest,
+        seq: live.at.seq,
+        begin: live.begin,
+        sent: live.at.len,
+        end: tick,
+        result: DestResult::Sent,
+    };
+    leave(live.at, BoxAct::Keep, ended, port)
+}
+
+/// A flow control came: in every phase but Fc it is ignored.
+pub fn answer<P: Port>(set: &TxSet, live: Live, fs: u8, tick: Tick, port: &mut P) -> Outcome
+    requires knows { KnowsToken (P.view port.old) set.now (live.at.seq + 1) live }
+    ensures step { Over (InAnswer set.now (sending_of live) live.phase fs) (P.floors port.old) (P.view port.old) (P.view port.new) (did_of tick.0 result) }
+    ensures port { KeepsPort set.now (live.at.seq + 1) result.live (P.view port.old) (P.view port.new) (P.means port.old) (P.means port.new) }
+    ensures rise { Rise (P.floors port.old) (P.floors port.new) }
+{
+    match live.phase {
+        Phase::Fc => obey(set, live, fs, tick, port),
+        Phase::Start | Phase::Bytes | Phase::Box | Phase::Gap { until: _ } => {
+            go_on(live, BoxAct::Keep)
+        }
+    }
+}
+
+/// A flow control came that is awaited.
+fn obey<P: Port>(set: &TxSet, mut live: Live, fs: u8, tick: Tick, port: &mut P) -> Outcome
+    requires knows { KnowsToken (P.view port.old) set.now (live.at.seq + 1) live }
+    ensures step { Over (Answered set.now (sending_of live) fs) (P.floors port.old) (P.view port.old) (P.view port.new) (did_of tick.0 result) }
+    ensures port { KeepsPort set.now (live.at.seq + 1) result.live (P.view port.old) (P.view port.new) (P.means port.old) (P.means port.new) }
+    ensures rise { Rise (P.floors port.old) (P.floors port.new) }
+{
+    match fs {
+        CONTINUE => {
+            live.phase = Phase::Bytes;
+            live.since = tick;
+            go_on(live, BoxAct::Keep)
+        }
+        WAIT => {
+            live.phase = Phase::Fc;
+            live.since = tick;
+            go_on(live, BoxAct::Keep)
+        }
+        OVERFLOW => end(set, live, BoxAct::Keep, DestResult::FcOverflow, tick, port),
+        _ => end(
+            set,
+            live,
+            BoxAct::Keep,
+            DestResult::InvalidFs(fs),
+            tick,
+            port,
+        ),
+    }
+}
+
+/// The run ends.
+pub fn run_out<P: Port>(set: &TxSet, live: Live, tick: Tick, port: &mut P) -> Outcome
+    requires knows { KnowsToken (P.view port.old) set.now (live.at.seq + 1) live }
+    ensures step { Over (Ends set.now (sending_of live) (revoked live.phase) (EndOfRun (wait_of live.phase) live.since)) (P.floors port.old) (P.view port.old) (P.view port.new) (did_of tick.0 result) }
+    ensures port { KeepsPort set.now (live.at.seq + 1) result.live (P.view port.old) (P.view port.new) (P.means port.old) (P.means port.new) }
+    ensures rise { Rise (P.floors port.old) (P.floors port.new) }
+{
+    let boxed = revoke(live.phase);
+    let cause = DestResult::RunEnd {
+        wait: awaited(live.phase),
+        since: live.since,
+    };
+    end(set, live, boxed, cause, tick, port)
+}
+
+/// What happens to a session.
+pub fn step_live<P: Port>(
+    set: &TxSet,
+    live: Live,
+    event: TxEvent,
+    tick: Tick,
+    port: &mut P,
+) -> Outcome
+    requires shape { IsShape set.now.shape }
+    requires knows { KnowsToken (P.view port.old) set.now (live.at.seq + 1) live }
+    requires since { live.since.0 ≤ tick.0 }
+    requires tick { tick.0 ≤ 10000000 }
+    requires left { event ≡ Left → in_box live.phase }
+    ensures step { Over (LiveRow set.now (sending_of live) event) (P.floors port.old) (P.view port.old) (P.view port.new) (did_of tick.0 result) }
+    ensures port { KeepsPort set.now (live.at.seq + 1) result.live (P.view port.old) (P.view port.new) (P.means port.old) (P.means port.new) }
+    ensures rise { Rise (P.floors port.old) (P.floors port.new) }
+{
+    match event {
+        TxEvent::Turn => take_turn(set, live, tick, port),
+        TxEvent::Fc { fs, bs: _, st: _ } => answer(set, live, fs, tick, port),
+        TxEvent::Left => frame_left(set, live, tick, port),
+        TxEvent::RunEnd => run_out(set, live, tick, port),
+    }
+}

@@ -1,0 +1,63 @@
+-- Each session that was opened has one record of a destination that joined them all.
+use Rattle.std.proofs.Common.{◌≡◌, ℕ, ◌+◌, ◌≤◌, zero, suc, Option, Some, None, option_map, List, [], ◌∷◌, length, map, refl, ap, sym, ◌∙◌, arith}
+use Rattle.std.specs.Prelude.{option_to_list, slice_get}
+use Rattle.std.proofs.lemmas.List.{length-append, length-map}
+use Rattle.std.proofs.lemmas.Option.{slice_get-get_or, slice_get_within}
+use Rattle.hub_core.specs.View.{View, Session, Reading, empty_view, grows, reading_new, reading_at}
+use Rattle.hub_core.specs.declared.record.DestRecord.{DestRecord}
+use Rattle.hub_core.specs.declared.record.OpenedAt.{OpenedAt}
+use Rattle.hub_core.specs.declared.record.SessionRecord.{SessionRecord}
+use Rattle.tp_receiver.specs.Running.{RxTurn, told_by as received_by}
+use Rattle.tp_receiver.specs.declared.set.RxSet.{RxSet}
+use Rattle.tp_sender.specs.Sending.{Moment, calls_by as sent_calls, state_from, told_by as sent_by}
+use Rattle.tp_sender.specs.declared.set.TxSet.{TxSet}
+use Rattle.gw_law.specs.Delivery.{AreOfEach, AreWholeRuns}
+use Rattle.gw_law.specs.Source.{CountsFrom, sessions_in}
+use Rattle.gw_law.specs.Transfer.{NumberedFrom}
+use Rattle.gw_law.proofs.Openings.{entries-are, entries_told, entry_told, writing}
+use Rattle.gw_law.proofs.SourceLaws.{source_law_of}
+use Rattle.gw_law.proofs.TxLaw.{so-far, world_of}
+use Rattle.gw_law.proofs.TxMoves.{lives-none}
+use Rattle.gw_law.proofs.TxReadings.{readings}
+use Rattle.gw_law.proofs.TxWorld.{SoFar}
+
+-- lists that count from the same number are the same where they are as long
+same-numbers : (first : ℕ) (records : List DestRecord) (numbers : List ℕ) → NumberedFrom first records → CountsFrom first numbers → length records ≡ length numbers → map (λ (told : DestRecord). told.seq) records ≡ numbers
+same-numbers first [] [] numbered counts long = refl
+same-numbers first [] (number ∷ numbers) numbered counts long = absurd (omega (arith, long))
+same-numbers first (told ∷ records) [] numbered counts long = absurd (omega (arith, long))
+same-numbers first (told ∷ records) (number ∷ numbers) numbered counts long =
+    ap (λ n. n ∷ map (λ (r : DestRecord). r.seq) records) (numbered.0 ∙ sym counts.0) ∙ ap (λ l. number ∷ l) (same-numbers (first + 1) records numbers numbered.1 counts.1 (omega (arith, long)))
+
+-- each opened session is told once
+one-each : (told : SessionRecord) (was : Option OpenedAt) → length (option_to_list (option_map (λ (o : OpenedAt). o.seq) was)) ≡ length (option_to_list (option_map (entry_told told) was))
+one-each told None = refl
+one-each told (Some opened) = refl
+
+entries-long : (records : List SessionRecord) → length (sessions_in records) ≡ length (entries_told records)
+entries-long [] = refl
+entries-long (told ∷ records) =
+    length-append (option_to_list (option_map (λ (o : OpenedAt). o.seq) told.opened)) (sessions_in records) ∙ rw (one-each told told.opened, entries-long records) (sym (length-append (option_to_list (option_map (entry_told told) told.opened)) (entries_told records)))
+
+-- a destination's sessions are sessions of the path
+at-most : (tx : TxSet) (v : View) (known : List Reading) (number : ℕ) → v.readings tx.path.0 tx.dest.0 ≡ known → length known ≡ number →
+    ((seq : ℕ) (r : Reading) → reading_at v tx.path.0 tx.dest.0 seq ≡ Some r → (s : Session) × (slice_get (v.sessions tx.path.0) seq ≡ Some s)) → number ≤ length (v.sessions tx.path.0)
+at-most tx v known zero is long joined = omega arith
+at-most tx v known (suc last) is long joined =
+    let r = slice_get-get_or known last (reading_new 0 0) (omega (arith, long)) in
+    let s = joined last _ (ap (λ l. slice_get l last) is ∙ r) in
+    omega (arith, slice_get_within (v.sessions tx.path.0) last s.0 s.1)
+
+pub each_session_of : (rx : RxSet) (turns : List RxTurn) (tx : TxSet) (moments : List Moment) (v : View) → AreWholeRuns rx turns tx moments v → length (v.sessions rx.path.0) ≤ (state_from moments).next → AreOfEach (received_by turns) (sent_by moments)
+each_session_of rx turns tx moments v runs all =
+    let so : SoFar tx.shape (world_of tx moments) = so-far tx moments runs.shape runs.sent in
+    let source = source_law_of rx turns runs.received runs.idle in
+    let read = readings tx moments runs.shape runs.sent empty_view refl in
+    let known : List Reading = (grows (sent_calls moments) empty_view).readings tx.path.0 tx.dest.0 in
+    let joined : length known ≡ (state_from moments).next = sym (length-map known (λ (r : Reading). r.len)) ∙ ap length read.fixed ∙ so.lens in
+    let path : tx.path.0 ≡ rx.path.0 = ap (λ p. p.0) runs.path in
+    let entries = entries-are rx turns v runs.received runs.idle runs.sessions in
+    let most : (state_from moments).next ≤ length (v.sessions tx.path.0) =
+    at-most tx v known (state_from moments).next runs.readings joined (λ seq r is. let s = runs.streams.joined tx.path.0 tx.dest.0 seq r is in (s.0, s.1)) in
+    same-numbers 0 (sent_by moments) (sessions_in (received_by turns)) so.numbered source.sessions
+    (omega (arith, (lives-none tx.shape (world_of tx moments) (state_from moments).live so.going runs.ended so.lives).1, all, most, ap (λ p. length (v.sessions p)) path, entries-long (received_by turns), ap length entries, length-map (v.sessions rx.path.0) (writing rx.path.0).fixed))

@@ -1,0 +1,5 @@
+use Rattle.gw_law.proofs.EachSession.{each_session_of}
+use Rattle.gw_law.proofs.each.each_session_law.Goals as goal
+
+pub returns : goal.returns
+returns c = each_session_of

@@ -1,0 +1,4 @@
+pub mod Delivery
+pub mod Pool
+pub mod Source
+pub mod Transfer

@@ -1,0 +1,16 @@
+//! Laws over whole runs: what lists of frames, flow controls and records say together, whatever machine made them.
+#![tactic(auto)]
+
+mod delivery;
+mod each;
+mod pool;
+mod source;
+mod stored;
+mod transfer;
+
+pub use delivery::delivery_law;
+pub use each::each_session_law;
+pub use pool::pool_law;
+pub use source::source_law;
+pub use stored::stored_law;
+pub use transfer::transfer_law;

@@ -1,0 +1,7 @@
+use Rattle.std.proofs.Common.{◌≡◌, ◌++◌, flat_map, take}
+use Rattle.std.specs.String.{string_bytes}
+use Rattle.session_report.specs.Lines.{session_line}
+use Rattle.session_report.proofs.print.push_sessions.Given as goal
+
+abbrev pub invariant-loop-record : goal.invariant-loop-record
+invariant-loop-record l = string_bytes l.text ≡ string_bytes l.initial.text ++ flat_map session_line (take l.record-index l.records)

@@ -1,16 +1,19 @@
 -- Why a command answers as it does.
-use Rattle.std.proofs.Common.{◌≡◌, ℕ, ◌≤◌, Bool, true, List, Some, None, subst, sym, inl, inr, arith}
+use Rattle.std.proofs.Common.{◌≡◌, ℕ, ◌≤◌, Bool, true, false, List, refl, subst, sym, inl, inr, arith}
 use Rattle.gw_depot.specs.Fault.{Blame}
 use Rattle.gw_depot.specs.Files.{Files}
 use Rattle.gw_run.specs.declared.status.FileRole.{FileRole}
-use Rattle.gw_run.specs.declared.status.FileRole.TheVariants.{Config, Log, Out, Report, Say}
+use Rattle.gw_run.specs.declared.status.FileRole.TheVariants.{Say}
 use Rattle.gw_run.specs.declared.status.Status.{Status}
-use Rattle.gw_run.specs.declared.status.Status.TheVariants.{Ok, Usage, Unbuilt, ReadFault, WriteFault, Memory, Limit}
-use Rattle.gw_run.specs.Answered.{Answers, IsFaultOf, IsWriteFaultOf}
+use Rattle.gw_run.specs.declared.status.Status.TheVariants.{Ok, Accepted, Usage, ConfigRefused, Unbuilt, ReadFault, WriteFault, Memory, Limit}
+use Rattle.gw_run.specs.declared.status.Summary.{Summary}
+use Rattle.gw_run.specs.Answered.{Answers, IsFaultOf}
 use Rattle.gw_run.specs.Causes.{IsCause, IsFault, LeavesFiles}
 use Rattle.gw_run.specs.Forwarded.{Forwards, IfDone}
 use Rattle.gw_run.specs.Results.{WriteFailed}
 use Rattle.gw_run.specs.Say.{AfterTelling}
+use Rattle.gw_run.specs.Status.{is_done}
+use Rattle.gw_run.proofs.Exact.{is_complete, is_exact}
 
 -- a count that rose since a later time rose since an earlier one
 pub write_failed-earlier : (config report : List ℕ) (earlier before now : ℕ) (blame : Blame) (role : FileRole) → earlier ≤ before →
@@ -22,33 +25,43 @@ write_failed-earlier config report earlier before now blame role less failed = r
   blamed = failed.blamed;
 }
 
-written : (config report : List ℕ) (before now : ℕ) (blame : Blame) (said said' : ℕ) (role : FileRole) → WriteFailed config report before now blame role →
-    IsWriteFaultOf config report before now blame said said' role
-written config report before now blame said said' Config failed = failed
-written config report before now blame said said' (Log bus) failed = failed
-written config report before now blame said said' (Out bus) failed = failed
-written config report before now blame said said' Report failed = failed
-written config report before now blame said said' Say failed = let file : None ≡ Some failed.name = failed.file in cc
+-- what holds of a summary holds of that of a command that was done
+summary_of : (P : Summary → Type 0) (status : Status) → is_done status ≡ true → IfDone status P → (summary : Summary) × P summary
+summary_of P (Ok summary) done holds = (summary, holds)
+summary_of P Accepted done holds = absurd holds
+summary_of P Usage done holds = let clash : false ≡ true = done in cc
+summary_of P (ConfigRefused cause) done holds = let clash : false ≡ true = done in cc
+summary_of P (Unbuilt form) done holds = let clash : false ≡ true = done in cc
+summary_of P (ReadFault role) done holds = let clash : false ≡ true = done in cc
+summary_of P (WriteFault role) done holds = let clash : false ≡ true = done in cc
+summary_of P Memory done holds = let clash : false ≡ true = done in cc
+summary_of P (Limit which value) done holds = let clash : false ≡ true = done in cc
 
-fault-of : (config report : List ℕ) (before now : ℕ) (blame : Blame) (said said' : ℕ) (status : Status) → IsFault config report before now blame status →
-    IsFaultOf config report before now blame said said' status
-fault-of config report before now blame said said' (Ok summary) fault = tt
-fault-of config report before now blame said said' Usage fault = tt
-fault-of config report before now blame said said' (Unbuilt form) fault = tt
-fault-of config report before now blame said said' (ReadFault role) fault = fault
-fault-of config report before now blame said said' (WriteFault role) fault = written config report before now blame said said' role fault
-fault-of config report before now blame said said' Memory fault = tt
-fault-of config report before now blame said said' (Limit which value) fault = tt
+-- what is answered of a status holds of it
+answers-of : (told : Bool) (before after : Files) (config report : List ℕ) (faults faults' : ℕ) (blame : Blame) (said said' : ℕ) (result : Status) →
+    (told ≡ true → IfDone result (Forwards before after config report)) → (told ≡ true → IsCause before config report result) →
+    (told ≡ true → LeavesFiles result before after config report) → IsFaultOf config report faults faults' blame said said' result →
+    Answers told before after config report faults faults' blame said said' result
+answers-of told before after config report faults faults' blame said said' result done cause files fault = record {
+  done = done;
+  cause = cause;
+  exact = λ is. is_exact before after config report result (done is) (cause is) (files is);
+  complete = λ is. is_complete before config report faults faults' blame said said' result (cause is) fault;
+  files = files;
+  fault = fault;
+}
 
 -- what was told of a status is answered for the status's reasons
 pub answers : (told : Bool) (before after : Files) (config report : List ℕ) (faults faults' : ℕ) (blame : Blame) (said said' : ℕ) (status result : Status) →
     (told ≡ true → IfDone status (Forwards before after config report)) → (told ≡ true → IsCause before config report status) →
-    (told ≡ true → LeavesFiles status before after) → IsFault config report faults faults' blame status → AfterTelling status said said' result →
+    (told ≡ true → LeavesFiles status before after config report) → IsFault config report faults faults' blame status → AfterTelling status said said' result →
     Answers told before after config report faults faults' blame said said' result
 answers told before after config report faults faults' blame said said' status result done cause files fault (inl same) =
     subst (λ r. Answers told before after config report faults faults' blame said said' r) (sym same)
-    (record { done = done; cause = cause; files = files; fault = fault-of config report faults faults' blame said said' status fault })
+    (answers-of told before after config report faults faults' blame said said' status done cause files (inl fault))
 answers told before after config report faults faults' blame said said' status result done cause files fault (inr (was, inl (same, rose))) =
-    subst (λ r. Answers told before after config report faults faults' blame said said' r) (sym same) (record { done = λ is. tt; cause = λ is. tt; files = λ is. tt; fault = rose })
+    subst (λ r. Answers told before after config report faults faults' blame said said' r) (sym same)
+    (answers-of told before after config report faults faults' blame said said' (WriteFault Say) (λ is. tt) (λ is. tt) (λ is. inr (refl, summary_of _ status was (done is))) (inr (refl, rose)))
 answers told before after config report faults faults' blame said said' status result done cause files fault (inr (was, inr same)) =
-    subst (λ r. Answers told before after config report faults faults' blame said said' r) (sym same) (record { done = λ is. tt; cause = λ is. tt; files = λ is. tt; fault = tt })
+    subst (λ r. Answers told before after config report faults faults' blame said said' r) (sym same)
+    (answers-of told before after config report faults faults' blame said said' Memory (λ is. tt) (λ is. tt) (λ is. inr (summary_of _ status was (done is))) (inl tt))

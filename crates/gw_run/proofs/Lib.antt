@@ -1,12 +1,17 @@
 pub mod Answered
 pub mod Built
+pub mod Checked
+pub mod Cuts
+pub mod Exact
 pub mod Left
 pub mod Logs
 pub mod Numbered
 pub mod Pieces
 pub mod Plans
+pub mod Refused
 pub mod Rises
 pub mod Saying
+pub mod Seconds
 pub mod Short
 pub mod Starts
 pub mod Stopping

@@ -50,6 +50,10 @@ log_ended bus content piece frames so_far none = record {
 pub not_empty : (xs : List ℕ) → false ≡ (length xs == 0) → xs ≢ []
 not_empty xs some none = let clash : false ≡ true = rw none at some in cc
 
+pub holds_some : (xs : List ℕ) → false ≡ (length xs == 0) → 0 < length xs
+holds_some [] some = let clash : false ≡ true = some in cc
+holds_some (x ∷ xs) some = omega arith
+
 -- and it ends a last line that has none
 pub last_line_ended : (bus : BaseBus) (content line : List ℕ) (old new : List Stamped) →
     ReadSoFar bus content line old → line ≢ [] → AddsLine bus line old new → IsBuiltLog bus content new

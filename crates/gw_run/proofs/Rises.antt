@@ -55,6 +55,9 @@ range-more a (suc n) =
     let next : a + 1 + n ≡ a + suc n = omega arith in
     ap (λ t. a ∷ t) (range-more (a + 1) n ∙ ap (λ k. range_with_len (a + 1) n ++ k ∷ []) next)
 
+pub places-more : (n : ℕ) → range_with_len 0 (n + 1) ≡ range_with_len 0 n ++ n ∷ []
+places-more n = let none : 0 + n ≡ n = omega arith in rw add-one (range-more 0 n ∙ ap (λ k. range_with_len 0 n ++ k ∷ []) none)
+
 -- the greatest tick with one more frame
 pub last_tick-more : (start : ℕ) (frames : List Stamped) (i : ℕ) (s : Stamped) → i < length frames → get_or frames i s ≡ s →
     last_tick_of start (take (i + 1) frames) ≡ max (last_tick_of start (take i frames)) (tick_at start PERIOD s.at.0)
@@ -62,7 +65,7 @@ last_tick-more start frames i s inside is =
     let more : take (i + 1) frames ≡ take i frames ++ s ∷ [] = take_more frames i s inside ∙ ap (λ x. take i frames ++ x ∷ []) is in
     rw (more, map-append, map-append, fold-append) refl
 
-filter_map-one : {X Y : Type 0} (h : X → Option Y) (x : X) → filter_map h (x ∷ []) ≡ option_to_list (h x)
+pub filter_map-one : {X Y : Type 0} (h : X → Option Y) (x : X) → filter_map h (x ∷ []) ≡ option_to_list (h x)
 filter_map-one h x = elim (h x) as (λ o. cons_option o [] ≡ option_to_list o) [ Some y ↦ refl | None ↦ refl ]
 
 -- the messages with those of one more frame
@@ -71,9 +74,7 @@ pub transfers-more : (start : ℕ) (frames : List Stamped) (i : ℕ) (s : Stampe
     ≡ filter_map (transfer_at start frames) (range_with_len 0 i) ++ option_to_list (option_map (λ bytes. record { tick = last_tick_of start (take (i + 1) frames); bytes = bytes }) (single_in s.frame))
 transfers-more start frames i s inside is =
     let there : slice_get frames i ≡ Some s = slice_get_read frames (length frames) i s refl inside (sym is) in
-    let next : range_with_len 0 (i + 1) ≡ range_with_len 0 i ++ i ∷ [] =
-    let none : 0 + i ≡ i = omega arith in rw add-one (range-more 0 i ∙ ap (λ k. range_with_len 0 i ++ k ∷ []) none) in
-    ap (filter_map (transfer_at start frames)) next
+    ap (filter_map (transfer_at start frames)) (places-more i)
     ∙ filter_map-append (transfer_at start frames) (range_with_len 0 i) (i ∷ [])
     ∙ ap (λ t. filter_map (transfer_at start frames) (range_with_len 0 i) ++ t) (filter_map-one (transfer_at start frames) i ∙ rw there refl)
 

@@ -22,7 +22,7 @@ use Rattle.gw_run.proofs.Logs.{ReadFrom}
 use Rattle.gw_run.proofs.Pieces.{read_within, take-whole}
 
 -- as many frames as lines
-all_zip-long : {A B : Type 0} (R : A → B → Type 0) (xs : List A) (ys : List B) → AllZip R xs ys → length xs ≡ length ys
+pub all_zip-long : {A B : Type 0} (R : A → B → Type 0) (xs : List A) (ys : List B) → AllZip R xs ys → length xs ≡ length ys
 all_zip-long R [] [] all = refl
 all_zip-long R [] (y ∷ ys) all = absurd all
 all_zip-long R (x ∷ xs) [] all = absurd all
@@ -64,9 +64,9 @@ counted bus content piece frames so_far = all_zip-long _ so_far.lines frames so_
 
 -- the line that ends here isn't built
 pub stops_here : (bus : BaseBus) (most : ℕ) (content line tail : List ℕ) (frames : List Stamped) (stop : LineStop) →
-    ReadSoFar bus content line frames → EndsLine line tail → Refuses bus line (length frames) stop → Stops bus most (content ++ tail) stop
-stops_here bus most content line tail frames Memory so_far ends refused = tt
-stops_here bus most content line tail frames (Unbuilt number) so_far ends refused = record {
+    ReadSoFar bus content line frames → EndsLine line tail → length frames < most → Refuses bus line (length frames) stop → Stops bus most (content ++ tail) stop
+stops_here bus most content line tail frames Memory so_far ends few refused = tt
+stops_here bus most content line tail frames (Unbuilt number) so_far ends few refused = record {
   lines = so_far.lines;
   frames = frames;
   line = line;
@@ -78,14 +78,15 @@ stops_here bus most content line tail frames (Unbuilt number) so_far ends refuse
   ends = ends;
   not_built = refused.1;
   count = refused.0 ∙ ap (λ n. n + 1) (sym (counted bus content line frames so_far));
+  within = omega (arith, refused.0, few);
 }
-stops_here bus most content line tail frames Limit so_far ends refused = absurd refused
+stops_here bus most content line tail frames Limit so_far ends few refused = absurd refused
 
 -- the line is too long, wherever it ends
-pub stops_within : (bus : BaseBus) (content piece later : List ℕ) (byte : ℕ) (frames : List Stamped) (number : ℕ) →
-    IsInterface (interface_of bus) → ReadSoFar bus content piece frames → 513 ≤ length piece → byte ≢ 10 → number ≡ length frames + 1 →
-    StopsAt bus (content ++ byte ∷ later) number
-stops_within bus content piece later byte frames number name so_far long other is =
+pub stops_within : (bus : BaseBus) (most : ℕ) (content piece later : List ℕ) (byte : ℕ) (frames : List Stamped) (number : ℕ) →
+    IsInterface (interface_of bus) → ReadSoFar bus content piece frames → 513 ≤ length piece → byte ≢ 10 → number ≡ length frames + 1 → length frames < most →
+    StopsAt bus most (content ++ byte ∷ later) number
+stops_within bus most content piece later byte frames number name so_far long other is few =
     let front : FrontLine later = front_line later in
     let line : List ℕ = piece ++ byte ∷ front.line in
     let all : piece ++ byte ∷ later ≡ line ++ front.tail = ap (λ t. piece ++ byte ∷ t) front.all ∙ sym (append_assoc piece (byte ∷ front.line) front.tail) in
@@ -104,6 +105,7 @@ stops_within bus content piece later byte frames number name so_far long other i
       ends = elim front.ends [ inl none ↦ inl (none, some) | inr feed ↦ inr feed ];
       not_built = too_long bus line name much;
       count = is ∙ ap (λ n. n + 1) (sym (counted bus content piece frames so_far));
+      within = omega (arith, is, few);
     }
 
 -- one line too many begins

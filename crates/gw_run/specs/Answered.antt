@@ -1,36 +1,49 @@
 -- What a command answers, and why.
-use Rattle.std.specs.Prelude.{◌≡◌, ℕ, Bool, true, List}
+use Rattle.std.specs.Prelude.{◌≡◌, ◌⊎◌, ℕ, Bool, true, List}
 use Rattle.gw_depot.specs.Fault.{Blame, Rose}
 use Rattle.gw_depot.specs.Files.{Files}
-use Rattle.gw_run.specs.declared.status.FileRole.{FileRole}
-use Rattle.gw_run.specs.declared.status.FileRole.TheVariants.{Config, Log, Out, Report, Say}
+use Rattle.gw_run.specs.declared.log.Stamped.{Stamped}
+use Rattle.gw_run.specs.declared.status.FileRole.TheVariants.{Say}
+use Rattle.gw_run.specs.declared.status.Form.{Form}
 use Rattle.gw_run.specs.declared.status.Status.{Status}
-use Rattle.gw_run.specs.declared.status.Status.TheVariants.{Ok, Usage, Unbuilt, ReadFault, WriteFault, Memory, Limit}
-use Rattle.gw_run.specs.Causes.{IsCause, LeavesFiles}
-use Rattle.gw_run.specs.Forwarded.{Forwards, IfDone}
-use Rattle.gw_run.specs.Results.{ReadFailed, WriteFailed}
+use Rattle.gw_run.specs.declared.status.Status.TheVariants.{Ok, Accepted, Usage, ConfigRefused, Unbuilt, ReadFault, WriteFault, Memory, Limit}
+use Rattle.gw_run.specs.declared.status.Which.{Which}
+use Rattle.gw_run.specs.Causes.{IsCause, IsFault, LeavesFiles}
+use Rattle.gw_run.specs.Forwarded.{Forwards, IfDone, IsBuilt}
+use Rattle.gw_run.specs.Status.{is_done}
 
--- a create or an append of the file failed last, and the depot's count rose; what is said failed where the sink's count rose
-abbrev pub IsWriteFaultOf : (config report : List ℕ) → (faults faults' : ℕ) → Blame → (said said' : ℕ) → FileRole → Type 0
-IsWriteFaultOf config report faults faults' blame said said' Config = WriteFailed config report faults faults' blame Config
-IsWriteFaultOf config report faults faults' blame said said' (Log bus) = WriteFailed config report faults faults' blame (Log bus)
-IsWriteFaultOf config report faults faults' blame said said' (Out bus) = WriteFailed config report faults faults' blame (Out bus)
-IsWriteFaultOf config report faults faults' blame said said' Report = WriteFailed config report faults faults' blame Report
-IsWriteFaultOf config report faults faults' blame said said' Say = Rose said said'
-
--- a fault is told only where the count of faults rose, with the last failed call to blame
+-- a fault is told only with its call to blame: of a file the depot's, and of what is said the sink's, whose count rose
 abbrev pub IsFaultOf : (config report : List ℕ) → (faults faults' : ℕ) → Blame → (said said' : ℕ) → Status → Type 0
-IsFaultOf config report faults faults' blame said said' (Ok summary) = Unit {0}
-IsFaultOf config report faults faults' blame said said' Usage = Unit {0}
-IsFaultOf config report faults faults' blame said said' (Unbuilt form) = Unit {0}
-IsFaultOf config report faults faults' blame said said' (ReadFault role) = ReadFailed config report faults faults' blame role
-IsFaultOf config report faults faults' blame said said' (WriteFault role) = IsWriteFaultOf config report faults faults' blame said said' role
-IsFaultOf config report faults faults' blame said said' Memory = Unit {0}
-IsFaultOf config report faults faults' blame said said' (Limit which value) = Unit {0}
+IsFaultOf config report faults faults' blame said said' status = IsFault config report faults faults' blame status ⊎ ((status ≡ WriteFault Say) × Rose said said')
+
+-- a read failed, or memory was wanting
+abbrev pub IsCutShort : Status → Type 0
+IsCutShort (Ok summary) = ⊥
+IsCutShort Accepted = ⊥
+IsCutShort Usage = ⊥
+IsCutShort (ConfigRefused cause) = ⊥
+IsCutShort (Unbuilt form) = ⊥
+IsCutShort (ReadFault role) = Unit {0}
+IsCutShort (WriteFault role) = ⊥
+IsCutShort Memory = Unit {0}
+IsCutShort (Limit which value) = ⊥
+
+-- a refusal with a cause in the files comes wherever it has its cause, but where a read fails or memory is wanting
+pub record IsExact (before : Files) (config report : List ℕ) (result : Status) : Type 0 where
+  pub unbuilt : (form : Form) → IsCause before config report (Unbuilt form) → (result ≡ Unbuilt form) ⊎ IsCutShort result
+  pub limit : (which : Which) (value : ℕ) → IsCause before config report (Limit which value) → (result ≡ Limit which value) ⊎ IsCutShort result
+
+-- a run of what is built is done to its end where no call fails, but where memory is wanting
+abbrev pub IsComplete : (before : Files) → (config report : List ℕ) → (faults faults' said said' : ℕ) → Status → Type 0
+IsComplete before config report faults faults' said said' result =
+    (source destination : List Stamped) (start : ℕ) → IsBuilt before config report source destination start →
+    ¬ Rose faults faults' → ¬ Rose said said' → (is_done result ≡ true) ⊎ (result ≡ Memory)
 
 -- what the run of a configuration answers: what it has done, or why it was refused, and which files it left
 pub record Answers (told : Bool) (before after : Files) (config report : List ℕ) (faults faults' : ℕ) (blame : Blame) (said said' : ℕ) (result : Status) : Type 0 where
   pub done : told ≡ true → IfDone result (Forwards before after config report)
   pub cause : told ≡ true → IsCause before config report result
-  pub files : told ≡ true → LeavesFiles result before after
+  pub exact : told ≡ true → IsExact before config report result
+  pub complete : told ≡ true → IsComplete before config report faults faults' said said' result
+  pub files : told ≡ true → LeavesFiles result before after config report
   pub fault : IsFaultOf config report faults faults' blame said said' result

@@ -16,3 +16,4 @@ pub mod Forwarded
 pub mod Plan
 pub mod Causes
 pub mod Answered
+pub mod Checked

@@ -1,5 +1,5 @@
 -- A log: bytes that are cut at each line feed, and a frame for each line (this project's own, after candump's log format).
-use Rattle.std.specs.Prelude.{◌≡◌, ◌≢◌, ◌⊎◌, ℕ, ◌+◌, Bool, true, Some, List, [], ◌∷◌, ◌++◌, All, flat_map, length}
+use Rattle.std.specs.Prelude.{◌≡◌, ◌≢◌, ◌⊎◌, ℕ, ◌+◌, ◌≤◌, Bool, true, Some, List, [], ◌∷◌, ◌++◌, All, flat_map, length}
 use Rattle.std.specs.List.{AllZip}
 use Rattle.gw_run.specs.declared.base.BaseBus.{BaseBus}
 use Rattle.gw_run.specs.declared.log.Stamped.{Stamped}
@@ -56,8 +56,8 @@ pub record ReadsLog (told : Bool) (files : Files) (bus : BaseBus) (frames : List
   pub there : told ≡ true → files (log_of bus) ≡ Some content
   pub built : IsBuiltLog bus content frames
 
--- after lines that are built stands one that isn't; it is the line with this number, counted from 1
-pub record StopsAt (bus : BaseBus) (content : List ℕ) (number : ℕ) : Type 0 where
+-- after lines that are built stands one that isn't, among so many; it is the line with this number, counted from 1
+pub record StopsAt (bus : BaseBus) (most : ℕ) (content : List ℕ) (number : ℕ) : Type 0 where
   pub lines : List (List ℕ)
   pub frames : List Stamped
   pub line : List ℕ
@@ -69,6 +69,7 @@ pub record StopsAt (bus : BaseBus) (content : List ℕ) (number : ℕ) : Type 0 
   pub ends : EndsLine line tail
   pub not_built : (stamped : Stamped) → ¬ IsBuiltLine bus (without_return line) stamped
   pub count : number ≡ length lines + 1
+  pub within : number ≤ most
 
 -- after so many lines, all of them built, a further one begins
 pub record GoesPast (bus : BaseBus) (content : List ℕ) (most : ℕ) : Type 0 where
@@ -84,7 +85,7 @@ pub record GoesPast (bus : BaseBus) (content : List ℕ) (most : ℕ) : Type 0 w
 -- why the content isn't read to its end; want of memory has no cause in it
 abbrev pub Stops : BaseBus → (most : ℕ) → (content : List ℕ) → LineStop → Type 0
 Stops bus most content Memory = Unit {0}
-Stops bus most content (Unbuilt number) = StopsAt bus content number
+Stops bus most content (Unbuilt number) = StopsAt bus most content number
 Stops bus most content Limit = GoesPast bus content most
 
 -- why the line added no frame after those of so many lines

@@ -1,5 +1,5 @@
 -- What a run leaves behind, and which file a fault is blamed on.
-use Rattle.std.specs.Prelude.{◌≡◌, ◌≢◌, ◌⊎◌, ℕ, zero, suc, List, [], Option, Some, None}
+use Rattle.std.specs.Prelude.{◌≡◌, ◌≢◌, ◌⊎◌, ℕ, zero, suc, List, [], take, Option, Some, None}
 use Rattle.gw_depot.specs.Fault.{Blame, Rose}
 use Rattle.gw_depot.specs.Files.{Files}
 use Rattle.gw_depot.specs.declared.outside.CallKind.TheVariants.{Read, Create, Append}
@@ -14,6 +14,17 @@ pub record HasResults (old new : Files) (output report text : List ℕ) : Type 0
   pub source : new (output_of Can0) ≡ Some []
   pub destination : new (output_of Can1) ≡ Some output
   pub told : new report ≡ Some text
+  pub others : (name : List ℕ) → name ≢ output_of Can0 → name ≢ output_of Can1 → name ≢ report → new name ≡ old name
+
+-- the file is as before, or holds a beginning of the bytes
+abbrev pub IsBegun : (old new : Files) → (name bytes : List ℕ) → Type 0
+IsBegun old new name bytes = (new name ≡ old name) ⊎ ((count : ℕ) × (new name ≡ Some (take count bytes)))
+
+-- each output is as before or a beginning of its text; so is the report, and where it isn't as before the outputs are whole; every other file is as before
+pub record HasBegun (old new : Files) (output report text : List ℕ) : Type 0 where
+  pub source : IsBegun old new (output_of Can0) []
+  pub destination : IsBegun old new (output_of Can1) output
+  pub told : (new report ≡ old report) ⊎ ((new (output_of Can0) ≡ Some []) × (new (output_of Can1) ≡ Some output) × ((count : ℕ) × (new report ≡ Some (take count text))))
   pub others : (name : List ℕ) → name ≢ output_of Can0 → name ≢ output_of Can1 → name ≢ report → new name ≡ old name
 
 -- the bus with this number

@@ -25,3 +25,9 @@ AfterTelling status before now result =
 pub record TellsLine (status : Status) (old new : List ℕ) (before now : ℕ) (result : Status) : Type 0 where
   pub done : is_done result ≡ true → new ≡ old ++ line_of status
   pub said : (new ≡ old ++ line_of status) ⊎ ((new ≡ old) ⊎ (Rose before now × ((count : ℕ) × (new ≡ old ++ take count (line_of status)))))
+
+-- what was told of the answer, or of the Ok that couldn't be said
+pub record SaysAnswer (old new : List ℕ) (before now : ℕ) (result : Status) : Type 0 where
+  pub status : Status
+  pub stands : AfterTelling status before now result
+  pub line : TellsLine status old new before now result

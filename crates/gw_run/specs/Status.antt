@@ -5,15 +5,20 @@ use Rattle.gw_run.specs.declared.status.Form.{Form}
 use Rattle.gw_run.specs.declared.status.Form.TheVariants.{Configuration, Line}
 use Rattle.gw_run.specs.declared.status.FileRole.{FileRole}
 use Rattle.gw_run.specs.declared.status.FileRole.TheVariants.{Config, Log, Out, Report, Say}
+use Rattle.gw_settings.specs.Said.{fault_text}
+use Rattle.route_check.specs.Texts.{conflict_text}
+use Rattle.gw_run.specs.declared.status.ConfigCause.TheVariants.{Fault, Conflict}
 use Rattle.gw_run.specs.declared.status.Which.{Which}
-use Rattle.gw_run.specs.declared.status.Which.TheVariants.{Lines, Ticks}
+use Rattle.gw_run.specs.declared.status.Which.TheVariants.{ConfigBytes, Lines, Ticks}
 use Rattle.gw_run.specs.declared.status.Status.{Status}
-use Rattle.gw_run.specs.declared.status.Status.TheVariants.{Ok, Usage, Unbuilt, ReadFault, WriteFault, Memory, Limit}
+use Rattle.gw_run.specs.declared.status.Status.TheVariants.{Ok, Accepted, Usage, ConfigRefused, Unbuilt, ReadFault, WriteFault, Memory, Limit}
 
 -- the number that the program exits with
 abbrev pub code_of : Status → ℕ
 code_of (Ok summary) = 0
+code_of Accepted = 0
 code_of Usage = 1
+code_of (ConfigRefused cause) = 2
 code_of (ReadFault role) = 4
 code_of (WriteFault role) = 5
 code_of Memory = 6
@@ -23,7 +28,9 @@ code_of (Unbuilt form) = 9
 -- the command was done to its end
 abbrev pub is_done : Status → Bool
 is_done (Ok summary) = true
+is_done Accepted = true
 is_done Usage = false
+is_done (ConfigRefused cause) = false
 is_done (ReadFault role) = false
 is_done (WriteFault role) = false
 is_done Memory = false
@@ -50,13 +57,17 @@ role_text Say = codes "say"
 
 -- a count that has a limit
 abbrev pub which_text : Which → List ℕ
+which_text ConfigBytes = codes "config-bytes"
 which_text Lines = codes "lines"
 which_text Ticks = codes "ticks"
 
 -- what is said of a status, without its line feed
 abbrev pub status_text : Status → List ℕ
 status_text (Ok summary) = codes "done " ++ summary_text summary
+status_text Accepted = codes "accepted"
 status_text Usage = codes "usage: gateway run CONFIG REPORT; gateway check CONFIG; gateway make SEED SIZE"
+status_text (ConfigRefused (Fault fault)) = codes "config " ++ fault_text fault
+status_text (ConfigRefused (Conflict conflict)) = codes "config: " ++ conflict_text conflict
 status_text (ReadFault role) = codes "read " ++ role_text role
 status_text (WriteFault role) = codes "write " ++ role_text role
 status_text Memory = codes "memory"

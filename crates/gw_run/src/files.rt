@@ -1,16 +1,18 @@
 //! Whole files over a depot that reads and appends in pieces.
-ghost use Rattle.std.specs.Prelude.{◌≡◌, ◌<◌, ◌≤◌, true, IfOk, IsSome, MatchBool, Some};
+ghost use Rattle.std.specs.Prelude.{◌≡◌, ◌<◌, ◌≤◌, true, IfErr, IfOk, IsSome, MatchBool, Some};
 ghost use Rattle.gw_depot.specs.declared.outside.CallKind.TheVariants.{Read, Append};
 ghost use Rattle.gw_depot.specs.Fault.{HasCause};
 ghost use Rattle.gw_depot.specs.Files.{IsName};
-ghost use Rattle.gw_run.specs.Whole.{AppendsAll};
+ghost use Rattle.gw_run.specs.Whole.{AppendsAll, FaultsOn, HoldsShort, StopsReading};
 
+use gw_base::Bytes;
 use gw_depot::{Depot, Failed};
+use std::alloc::Global;
 
 /// How many bytes one read asks for.
 const PIECE: usize = 4096;
 
-fn are_same(some: &[u8], other: &[u8]) -> bool
+pub(crate) fn are_same(some: &[u8], other: &[u8]) -> bool
     ensures { MatchBool result (some.now ≡ other.now) (¬ (some.now ≡ other.now)) }
 {
     some == other
@@ -42,6 +44,49 @@ pub(crate) fn holds_exactly<D: Depot>(
             return Ok(false);
         }
         done += count;
+    }
+}
+
+/// Why a file wasn't read whole.
+#[derive(Clone, Copy, Debug, PartialEq, Eq)]
+pub(crate) enum ReadStop {
+    /// A read failed.
+    Fault,
+    Memory,
+    /// The file has more bytes than it may.
+    TooLong,
+}
+
+/// The file's bytes, of which there may be so many. A file that isn't there is a fault.
+pub(crate) fn read_whole<D: Depot>(
+    alloc: Global,
+    depot: &mut D,
+    name: &str,
+    most: usize,
+) -> Result<Bytes, ReadStop>
+    requires { IsName name.now }
+    ensures told { D.told depot.new ≡ D.told depot.old }
+    ensures files { D.files depot.new ≡ D.files depot.old }
+    ensures whole { D.told depot.old ≡ true → IfOk result (HoldsShort (D.files depot.old) name.now most) }
+    ensures stopped { D.told depot.old ≡ true → IfErr result (StopsReading (D.files depot.old) name.now most) }
+    ensures fault { IfErr result (FaultsOn name.now (D.faults depot.old) (D.faults depot.new) (D.blame depot.new)) }
+{
+    let mut piece = [0u8; PIECE];
+    let mut bytes = Bytes::new(alloc);
+    loop {
+        let done = bytes.items().len();
+        let Ok(count) = depot.read(name, done as u64, &mut piece) else {
+            return Err(ReadStop::Fault);
+        };
+        if count == 0 {
+            return Ok(bytes);
+        }
+        if count > most - done {
+            return Err(ReadStop::TooLong);
+        }
+        let Ok(()) = bytes.append(&piece[..count]) else {
+            return Err(ReadStop::Memory);
+        };
     }
 }
 

@@ -2,6 +2,7 @@
 #![tactic(auto)]
 
 mod base;
+mod check;
 mod files;
 mod gate;
 mod log;
@@ -20,6 +21,6 @@ mod words;
 
 pub use gate::{Gate, OpenGate};
 pub use log::Stamped;
-pub use status::{FileRole, Form, Status, Summary, Which};
+pub use status::{ConfigCause, FileRole, Form, Status, Summary, Which};
 pub use top::run;
 pub use transfer::Transfer;

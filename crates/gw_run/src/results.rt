@@ -1,9 +1,9 @@
 //! What a run leaves behind: the outputs and the report.
-ghost use Rattle.std.specs.Prelude.{◌≡◌, ◌≢◌, ◌≤◌, true, List, ℕ, OnOk, IfErr};
+ghost use Rattle.std.specs.Prelude.{◌≡◌, ◌≢◌, ◌≤◌, true, List, ℕ, OnOk, OnErr, IfErr};
 ghost use Rattle.gw_depot.specs.Files.{IsName};
 ghost use Rattle.gw_run.specs.Base.{output_of};
 ghost use Rattle.gw_run.specs.declared.base.BaseBus.TheVariants.{Can0, Can1};
-ghost use Rattle.gw_run.specs.Results.{HasResults, WriteFailed};
+ghost use Rattle.gw_run.specs.Results.{HasBegun, HasResults, WriteFailed};
 
 use crate::base::{BaseBus, CAN0, CAN1};
 use crate::files::append_all;
@@ -21,6 +21,8 @@ pub(crate) fn write_results<D: Depot>(
     requires apart { (report.now ≢ output_of BaseBus.Can0) × (report.now ≢ output_of BaseBus.Can1) }
     ensures told { D.told depot.new ≡ D.told depot.old }
     ensures results { D.told depot.old ≡ true → OnOk result (HasResults (D.files depot.old) (D.files depot.new) output.now report.now text.now) }
+    ensures file { IfErr result (λ role. role ≢ FileRole.Say) }
+    ensures begun { D.told depot.old ≡ true → OnErr result (HasBegun (D.files depot.old) (D.files depot.new) output.now report.now text.now) }
     ensures later { D.faults depot.old ≤ D.faults depot.new }
     ensures cause { IfErr result (λ role. (config : List ℕ) → WriteFailed config report.now (D.faults depot.old) (D.faults depot.new) (D.blame depot.new) role) }
 {

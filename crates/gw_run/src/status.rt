@@ -2,6 +2,8 @@
 ghost use Rattle.std.specs.Prelude.{◌≡◌};
 
 use gw_base::BusNo;
+use gw_settings::ConfigFault;
+use route_check::Conflict;
 use std::fmt;
 
 /// What is said where the words have no shape.
@@ -48,9 +50,20 @@ pub enum FileRole {
     Say,
 }
 
+/// Why a configuration is refused.
+#[derive(Clone, Copy, Debug, PartialEq, Eq)]
+pub enum ConfigCause {
+    /// The first fault of its text.
+    Fault(ConfigFault),
+    /// The first conflict between its entries.
+    Conflict(Conflict),
+}
+
 /// A count that has a limit.
 #[derive(Clone, Copy, Debug, PartialEq, Eq)]
 pub enum Which {
+    /// The bytes of the configuration.
+    ConfigBytes,
     /// The lines of all logs together.
     Lines,
     /// The ticks of the run.
@@ -60,10 +73,14 @@ pub enum Which {
 /// How a command ended.
 #[derive(Clone, Copy, Debug, PartialEq, Eq)]
 pub enum Status {
-    /// The command was done to its end.
+    /// The run was done to its end.
     Ok(Summary),
+    /// The check was done, and the configuration has no fault and no conflict.
+    Accepted,
     /// The words have no shape of a command.
     Usage,
+    /// The configuration has a fault or a conflict.
+    ConfigRefused(ConfigCause),
     /// What the command needs isn't built yet.
     Unbuilt(Form),
     /// A read of the file failed.
@@ -84,8 +101,9 @@ impl Status {
         ensures { result ≡ code_of self.now }
     {
         match self {
-            Status::Ok(_) => 0,
+            Status::Ok(_) | Status::Accepted => 0,
             Status::Usage => 1,
+            Status::ConfigRefused(_) => 2,
             Status::ReadFault(_) => 4,
             Status::WriteFault(_) => 5,
             Status::Memory => 6,
@@ -98,7 +116,7 @@ impl Status {
     pub(crate) fn is_done(&self) -> bool
         ensures { result ≡ is_done self.now }
     {
-        matches!(self, Status::Ok(_))
+        matches!(self, Status::Ok(_) | Status::Accepted)
     }
 }
 
@@ -163,6 +181,7 @@ impl fmt::Display for Which {
 
     fn fmt<W: fmt::Write>(&self, f: &mut fmt::Formatter<W>) -> fmt::Result {
         match self {
+            Which::ConfigBytes => write!(f, "config-bytes"),
             Which::Lines => write!(f, "lines"),
             Which::Ticks => write!(f, "ticks"),
         }
@@ -179,7 +198,12 @@ impl fmt::Display for Status {
     fn fmt<W: fmt::Write>(&self, f: &mut fmt::Formatter<W>) -> fmt::Result {
         match self {
             Status::Ok(summary) => write!(f, "done {summary}"),
+            Status::Accepted => write!(f, "accepted"),
             Status::Usage => write!(f, "{USAGE}"),
+            Status::ConfigRefused(ConfigCause::Fault(fault)) => write!(f, "config {fault}"),
+            Status::ConfigRefused(ConfigCause::Conflict(conflict)) => {
+                write!(f, "config: {conflict}")
+            }
             Status::Unbuilt(form) => write!(f, "unbuilt {form}"),
             Status::ReadFault(role) => write!(f, "read {role}"),
             Status::WriteFault(role) => write!(f, "write {role}"),

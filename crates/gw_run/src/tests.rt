@@ -81,15 +81,17 @@ const FORWARDED: [(&[u8], &[u8], &[u8], &[u8], &[u8]); 4] = [
 ];
 
 /// Words that ask for no command.
-const SHAPELESS: [&[&str]; 8] = [
+const SHAPELESS: [&[&str]; 10] = [
     &[],
     &["run"],
     &["run", "gw.toml"],
     &["run", "gw.toml", "gw.toml"],
     &["run", "gw.toml", ".."],
     &["run", "gw.toml", "a/b"],
-    &["check", "gw.toml"],
     &["run", "gw.toml", "gw.report", "more"],
+    &["check"],
+    &["check", "."],
+    &["check", "gw.toml", "gw.report"],
 ];
 
 /// What is said of them.
@@ -399,5 +401,88 @@ fn a_long_line_is_not_built(rt: HostRuntime) -> Result<(), Fail> {
             "{len}"
         );
     }
+    Ok(())
+}
+
+#[test]
+fn an_empty_line_comes_before_too_many_lines(rt: HostRuntime) -> Result<(), Fail> {
+    let mut log = Vec::new(rt.alloc());
+    for _ in 0..1_000_001u32 {
+        log.push(b'\n')?;
+    }
+    let mut depot = depot_with_logs(rt.alloc(), log.as_slice(), EMPTY)?;
+    let mut say = MemSink::new(rt.alloc());
+    assert_eq!(rt; exit_code(&rt, rt.alloc(), &RUN, &mut depot, &mut say)?, 9);
+    assert_eq!(rt; say.bytes(), b"unbuilt log can0 line 1\n".as_slice());
+    assert_eq!(rt; results(&depot), [None, None, None]);
+    Ok(())
+}
+
+/// A channel whose receive address is that of the base configuration's first one.
+const SAME_ADDRESS: &str = r#"[[channel]]
+name = "C"
+bus = "can0"
+rx = "700"
+tx = "70A"
+"#;
+
+/// A configuration in two parts and the bytes that line feeds after it fill up, the exit code, and what is said of it.
+const CHECKED: [(&str, &str, usize, u8, &[u8]); 7] = [
+    (CONFIGURATION, "", 0, 0, b"accepted\n"),
+    (CONFIGURATION, "", 65_536, 0, b"accepted\n"),
+    (CONFIGURATION, "", 65_537, 7, b"limit config-bytes 65537\n"),
+    ("", "", 0, 2, b"config buffers: missing\n"),
+    ("buffers", "", 0, 2, b"config text: not toml\n"),
+    ("linger = \"x\"", "", 0, 2, b"config linger: wrong kind\n"),
+    (
+        CONFIGURATION,
+        SAME_ADDRESS,
+        0,
+        2,
+        b"config: same-address channel 0 channel 2\n",
+    ),
+];
+
+/// The words of a command to check.
+const CHECK: [&str; 2] = ["check", "gw.toml"];
+
+#[test]
+fn a_checked_configuration_is_accepted_or_its_cause_is_said(rt: HostRuntime) -> Result<(), Fail> {
+    for (text, more, len, code, said) in CHECKED {
+        let mut content = Vec::new(rt.alloc());
+        content.extend_from_slice(text.as_bytes())?;
+        content.extend_from_slice(more.as_bytes())?;
+        for _ in content.len()..len {
+            content.push(b'\n')?;
+        }
+        let mut depot = MemDepot::new(rt.alloc());
+        depot.set("gw.toml", content.as_slice())?;
+        let mut say = MemSink::new(rt.alloc());
+        assert_eq!(rt;
+            exit_code(&rt, rt.alloc(), &CHECK, &mut depot, &mut say)?,
+            code
+        );
+        assert_eq!(rt; say.bytes(), said);
+        assert_eq!(rt; depot.contents("gw.toml"), Some(content.as_slice()));
+        assert_eq!(rt; results(&depot), [None, None, None]);
+    }
+    Ok(())
+}
+
+#[test]
+fn a_check_that_can_not_be_read_or_said_is_a_fault(rt: HostRuntime) -> Result<(), Fail> {
+    let mut say = MemSink::new(rt.alloc());
+    let mut depot = MemDepot::new(rt.alloc());
+    assert_eq!(rt;
+        exit_code(&rt, rt.alloc(), &CHECK, &mut depot, &mut say)?,
+        4
+    );
+    assert_eq!(rt; say.bytes(), b"read config\n".as_slice());
+    depot.set("gw.toml", CONFIGURATION.as_bytes())?;
+    say.fail(1);
+    assert_eq!(rt;
+        exit_code(&rt, rt.alloc(), &CHECK, &mut depot, &mut say)?,
+        5
+    );
     Ok(())
 }

@@ -1,5 +1,5 @@
 //! The top call: words in, files read and written, a status out.
-ghost use Rattle.std.specs.Prelude.{◌≡◌, ◌≢◌, ◌↔◌, ◌+◌, ◌≤◌, ◌<◌, List, ℕ, ◌++◌, true, length, map, All, IfOk, IfErr, MatchBool, Some};
+ghost use Rattle.std.specs.Prelude.{◌≡◌, ◌≢◌, ◌⊎◌, ◌↔◌, ◌+◌, ◌≤◌, ◌<◌, List, ℕ, ◌++◌, true, length, map, All, IfOk, IfErr, MatchBool, Some};
 ghost use Rattle.std.specs.String.{string_bytes};
 ghost use Rattle.gw_depot.specs.declared.outside.CallKind.TheVariants.{Read};
 ghost use Rattle.gw_depot.specs.Fault.{HasCause};
@@ -8,18 +8,21 @@ ghost use Rattle.gw_run.specs.declared.base.BaseBus.TheVariants.{Can0, Can1};
 ghost use Rattle.gw_run.specs.Base.{base_text};
 ghost use Rattle.gw_run.specs.Answered.{Answers};
 ghost use Rattle.gw_run.specs.Causes.{IsCause, IsFault, LeavesFiles, StopsPlan, log_status};
+ghost use Rattle.gw_run.specs.Checked.{AnswersCheck};
 ghost use Rattle.gw_run.specs.Dated.{AreDated};
 ghost use Rattle.gw_run.specs.Forwarded.{Collides, Counts, Forwards, IfDone, IsLog, IsOutput};
 ghost use Rattle.gw_run.specs.Log.{ReadsLog};
 ghost use Rattle.gw_run.specs.Output.{output_text};
 ghost use Rattle.gw_run.specs.Plan.{IsPlan};
 ghost use Rattle.gw_run.specs.Report.{report_text};
+ghost use Rattle.gw_run.specs.Say.{SaysAnswer};
 ghost use Rattle.gw_run.specs.Singles.{stamps_of, transfers_of, TicksRise};
 ghost use Rattle.gw_run.specs.Start.{IsStart};
-ghost use Rattle.gw_run.specs.Words.{IsRun};
+ghost use Rattle.gw_run.specs.Words.{AreShapeless, IsCheck, IsRun};
 
 use crate::base::{BASE_CONFIGURATION, BaseBus, CAN0, CAN1, LINGER, PERIOD};
-use crate::files::holds_exactly;
+use crate::check::check;
+use crate::files::{are_same, holds_exactly};
 use crate::gate::Gate;
 use crate::log::{LineStop, LogStop, Stamped, read_log};
 use crate::output::output_text;
@@ -29,7 +32,7 @@ use crate::say::tell;
 use crate::singles::{SingleStop, last_tick, transfers_of};
 use crate::start::start_of;
 use crate::status::{FileRole, Form, Status, Summary, Which};
-use crate::words::{Command, are_same, read_words};
+use crate::words::{Command, RunFiles, read_words};
 use gw_base::{BusNo, Bytes};
 use gw_depot::{Depot, Failed, Sink};
 use std::alloc::Global;
@@ -45,13 +48,15 @@ const MOST_TICKS: u64 = 10_000_000;
 fn is_output(name: &str) -> bool
     ensures { MatchBool result (IsOutput name.now) (¬ IsOutput name.now) }
 {
-    are_same(name, BaseBus::Can0.output()) || are_same(name, BaseBus::Can1.output())
+    are_same(name.as_bytes(), BaseBus::Can0.output().as_bytes())
+        || are_same(name.as_bytes(), BaseBus::Can1.output().as_bytes())
 }
 
 fn is_log(name: &str) -> bool
     ensures { MatchBool result (IsLog name.now) (¬ IsLog name.now) }
 {
-    are_same(name, BaseBus::Can0.log()) || are_same(name, BaseBus::Can1.log())
+    are_same(name.as_bytes(), BaseBus::Can0.log().as_bytes())
+        || are_same(name.as_bytes(), BaseBus::Can1.log().as_bytes())
 }
 
 /// Whether the configuration would be written over, or a log or an output by the report.
@@ -155,12 +160,12 @@ fn summary_of(messages: u64) -> Summary
 }
 
 /// Runs the base configuration over its two logs.
-fn forward<D: Depot>(alloc: Global, command: &Command<'_>, depot: &mut D) -> Status
+fn forward<D: Depot>(alloc: Global, command: &RunFiles<'_>, depot: &mut D) -> Status
     requires { IsName command.now.config.now × IsName command.now.report.now }
     ensures done { D.told depot.old ≡ true → IfDone result (Forwards (D.files depot.old) (D.files depot.new) command.now.config.now command.now.report.now) }
     ensures shaped { result ≢ Status.Usage }
     ensures cause { D.told depot.old ≡ true → IsCause (D.files depot.old) command.now.config.now command.now.report.now result }
-    ensures files { D.told depot.old ≡ true → LeavesFiles result (D.files depot.old) (D.files depot.new) }
+    ensures files { D.told depot.old ≡ true → LeavesFiles result (D.files depot.old) (D.files depot.new) command.now.config.now command.now.report.now }
     ensures fault { IsFault command.now.config.now command.now.report.now (D.faults depot.old) (D.faults depot.new) (D.blame depot.new) result }
 {
     let Ok(base) = is_base(depot, command.config) else {
@@ -200,6 +205,9 @@ fn forward<D: Depot>(alloc: Global, command: &Command<'_>, depot: &mut D) -> Sta
 ///
 /// `run CONFIG REPORT` forwards the messages in the logs that the configuration names, writes an output for each
 /// bus and then the report. So far only the base configuration is built, and in its logs only single frames.
+/// `check CONFIG` reads a configuration and checks it, also one whose runs aren't built. It answers `Accepted`, or
+/// `ConfigRefused` with the first fault of the text or else the first conflict. Whether an output is CONFIG's own file
+/// isn't looked at. No file is created or changed.
 /// The outside is asked through `depot` and `say`; `rt` and `gate` are for workers in threads, which aren't built yet.
 pub fn run<R: Threads + Sync, D: Depot, K: Sink, G: Gate + Sync>(
     rt: &R,
@@ -209,12 +217,17 @@ pub fn run<R: Threads + Sync, D: Depot, K: Sink, G: Gate + Sync>(
     say: &mut K,
     gate: &G,
 ) -> Status
-    ensures usage { (result ≡ Status.Usage) ↔ ((config report : List ℕ) → ¬ IsRun (map string_bytes words.now) config report) }
-    ensures answers { result ≢ Status.Usage → (config : List ℕ) × (report : List ℕ) × IsRun (map string_bytes words.now) config report
-        × Answers (D.told depot.old) (D.files depot.old) (D.files depot.new) config report (D.faults depot.old) (D.faults depot.new) (D.blame depot.new) (K.faults say.old) (K.faults say.new) result }
+    ensures usage { (result ≡ Status.Usage) ↔ AreShapeless (map string_bytes words.now) }
+    ensures idle { result ≡ Status.Usage → depot.new ≡ depot.old }
+    ensures said { K.told say.old ≡ true → SaysAnswer (K.said say.old) (K.said say.new) (K.faults say.old) (K.faults say.new) result }
+    ensures answers { result ≢ Status.Usage → ((config : List ℕ) × (report : List ℕ) × IsRun (map string_bytes words.now) config report
+        × Answers (D.told depot.old) (D.files depot.old) (D.files depot.new) config report (D.faults depot.old) (D.faults depot.new) (D.blame depot.new) (K.faults say.old) (K.faults say.new) result)
+        ⊎ ((config : List ℕ) × IsCheck (map string_bytes words.now) config
+        × AnswersCheck (D.told depot.old) (D.files depot.old) (D.files depot.new) config (D.faults depot.old) (D.faults depot.new) (D.blame depot.new) (K.faults say.old) (K.faults say.new) result) }
 {
-    let Some(command) = read_words(words) else {
-        return tell(alloc, Status::Usage, say);
-    };
-    tell(alloc, forward(alloc, &command, depot), say)
+    match read_words(words) {
+        None => tell(alloc, Status::Usage, say),
+        Some(Command::Run(files)) => tell(alloc, forward(alloc, &files, depot), say),
+        Some(Command::Check(config)) => tell(alloc, check(alloc, config, depot), say),
+    }
 }

@@ -1,6 +1,6 @@
 -- Each call that failed is the one to blame, and those that didn't leave the results.
 use Rattle.std.proofs.Common.{refl, ◌∙◌, inl, inr, arith}
-use Rattle.gw_run.proofs.Left.{results_made}
+use Rattle.gw_run.proofs.Left.{outputs_made, results_made, report_made, report_not_made}
 use Rattle.gw_run.proofs.results.write_results.Goals as goal
 
 pub returns-in_default-clause-cause : goal.returns-in_default-clause-cause
@@ -48,10 +48,34 @@ returns-clause-results g c is =
     let made_source = c.in-Ok.ensures.told ∙ is in
     let made_destination = c.in-Ok-create.ensures.told ∙ made_source in
     let sent = c.in-Ok-append_all.ensures.told ∙ made_destination in
-    let made_report = c.in-Ok-create-2.ensures.told ∙ sent in
-    results_made _ _ _ _ _ _ _ _ _ c.requires.apart.0 c.requires.apart.1
+    results_made _ _ _ _ _ _ _ c.requires.apart.0 c.requires.apart.1
+    (outputs_made _ _ _ _ _
     (rw c.output.ensures.output at c.in-Ok.ensures.created is)
     (rw c.output-2.ensures.output at c.in-Ok-create.ensures.created made_source)
-    (rw c.output-3.ensures.output at c.in-Ok-append_all.ensures.appended made_destination)
+    (rw c.output-3.ensures.output at c.in-Ok-append_all.ensures.appended made_destination))
     (c.in-Ok-create-2.ensures.created sent)
-    (c.in-Ok-append_all-2.ensures.appended made_report)
+    (c.in-Ok-append_all-2.ensures.appended (c.in-Ok-create-2.ensures.told ∙ sent))
+
+pub returns-in_default-create-2-clause-begun : goal.returns-in_default-create-2-clause-begun
+returns-in_default-create-2-clause-begun g c is =
+    let made_source = c.in-Ok.ensures.told ∙ is in
+    let made_destination = c.in-Ok-create.ensures.told ∙ made_source in
+    report_not_made _ _ _ _ _ _ _ c.requires.apart.0 c.requires.apart.1
+    (outputs_made _ _ _ _ _
+    (rw c.output.ensures.output at c.in-Ok.ensures.created is)
+    (rw c.output-2.ensures.output at c.in-Ok-create.ensures.created made_source)
+    (rw c.output-3.ensures.output at c.in-Ok-append_all.ensures.appended made_destination))
+    (c.in_default-create-2.ensures.created (c.in-Ok-append_all.ensures.told ∙ made_destination))
+
+pub returns-in_default-append_all-2-clause-begun : goal.returns-in_default-append_all-2-clause-begun
+returns-in_default-append_all-2-clause-begun g c is =
+    let made_source = c.in-Ok.ensures.told ∙ is in
+    let made_destination = c.in-Ok-create.ensures.told ∙ made_source in
+    let sent = c.in-Ok-append_all.ensures.told ∙ made_destination in
+    report_made _ _ _ _ _ _ _ _ c.requires.apart.0 c.requires.apart.1
+    (outputs_made _ _ _ _ _
+    (rw c.output.ensures.output at c.in-Ok.ensures.created is)
+    (rw c.output-2.ensures.output at c.in-Ok-create.ensures.created made_source)
+    (rw c.output-3.ensures.output at c.in-Ok-append_all.ensures.appended made_destination))
+    (c.in-Ok-create-2.ensures.created sent)
+    (c.in_default-append_all-2.ensures.appended (c.in-Ok-create-2.ensures.told ∙ sent))

@@ -8,6 +8,6 @@ report_text-requires c = rw c.items-2.ensures (omega (arith, c.in-Ok.ensures.few
 
 pub returns-clause-planned : goal.returns-clause-planned
 returns-clause-planned c =
-    is_plan _ _ _ c.start_of.result.0 c.in-Ok.transfers c.start_of.ensures.start c.in-Ok.ensures.ok c.in-Ok.ensures.rise
+    is_plan _ _ _ c.start_of.result.0 c.in-Ok.transfers c.start_of.ensures.start (omega (arith, c.last_tick.ensures.last)) c.in-Ok.ensures.ok c.in-Ok.ensures.rise
     (rw c.items.ensures at c.in-Ok-output_text.ensures) (rw c.items-2.ensures at c.in-Ok-report_text.ensures) (ap length c.items-3.ensures)
     (rw c.items-3.ensures (omega (arith, c.in-Ok.ensures.few, c.requires.few)))

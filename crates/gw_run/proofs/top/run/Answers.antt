@@ -1,6 +1,15 @@
--- The words were those of a run, and its status was told.
+-- The words were those of a run or of a check, and its status was told.
+use Rattle.std.proofs.Common.{inl, inr}
 use Rattle.gw_run.proofs.Answered.{answers}
+use Rattle.gw_run.proofs.Checked.{answers_check}
 use Rattle.gw_run.proofs.top.run.Goals as goal
 
-pub returns-clause-answers : goal.returns-clause-answers
-returns-clause-answers g c other = (_, _, c.in-Some.ensures.exact, answers _ _ _ _ _ _ _ _ _ _ _ _ c.forward.ensures.done c.forward.ensures.cause c.forward.ensures.files c.forward.ensures.fault c.tell-2.ensures.answer)
+pub returns-in-Some-Run-clause-answers : goal.returns-in-Some-Run-clause-answers
+returns-in-Some-Run-clause-answers g c other =
+    let words = rw c.in-Some-Run.field-0-is at c.in-Some-Run.ensures.exact in
+    inl (_, _, words, answers _ _ _ _ _ _ _ _ _ _ _ _ c.forward.ensures.done c.forward.ensures.cause c.forward.ensures.files c.forward.ensures.fault c.tell-in-Some-Run.ensures.answer)
+
+pub returns-in-Some-Check-clause-answers : goal.returns-in-Some-Check-clause-answers
+returns-in-Some-Check-clause-answers g c other =
+    let words = rw c.in-Some-Check.field-0-is at c.in-Some-Check.ensures.exact in
+    inr (_, words, answers_check _ _ _ _ _ _ _ _ _ _ _ c.check.ensures.files c.check.ensures.cause (c.check.ensures.fault _ _) c.tell-in-Some-Check.ensures.answer)

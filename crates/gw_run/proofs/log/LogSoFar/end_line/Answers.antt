@@ -12,4 +12,4 @@ returns-clause-read c content so_far =
 pub returns-in_err-push_line-clause-stops : goal.returns-in_err-push_line-clause-stops
 returns-in_err-push_line-clause-stops c =
     let p = err_from_is_err_and c.from_residual.result c.from_residual.ensures.1 in
-    rw (p.1, p.2) (λ content later so_far. stops_here _ _ _ _ (10 ∷ later) _ _ so_far (inr (later, refl)) (rw c.as_slice.ensures.value at c.in_err-push_line.ensures.refused))
+    rw (p.1, p.2) (λ content later so_far. stops_here _ _ _ _ (10 ∷ later) _ _ so_far (inr (later, refl)) c.requires (rw c.as_slice.ensures.value at c.in_err-push_line.ensures.refused))

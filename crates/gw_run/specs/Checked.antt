@@ -1,0 +1,68 @@
+-- What the check of a configuration answers, and why.
+use Rattle.std.specs.Prelude.{◌≡◌, ◌⊎◌, ℕ, Bool, true, List, Some}
+use Rattle.gw_config.specs.Config.{Configuration}
+use Rattle.gw_config.specs.Document.{HasFault, Spells}
+use Rattle.gw_depot.specs.declared.outside.CallKind.TheVariants.{Read}
+use Rattle.gw_depot.specs.Fault.{Blame, Rose}
+use Rattle.gw_depot.specs.Files.{Files}
+use Rattle.route_check.specs.Conflicts.{IsAccepted, IsFirstConflict}
+use Rattle.gw_run.specs.declared.status.ConfigCause.{ConfigCause}
+use Rattle.gw_run.specs.declared.status.ConfigCause.TheVariants.{Fault, Conflict}
+use Rattle.gw_run.specs.declared.status.FileRole.TheVariants.{Config, Say}
+use Rattle.gw_run.specs.declared.status.Status.{Status}
+use Rattle.gw_run.specs.declared.status.Status.TheVariants.{Ok, Accepted, Usage, ConfigRefused, Unbuilt, ReadFault, WriteFault, Memory, Limit}
+use Rattle.gw_run.specs.declared.status.Which.TheVariants.{ConfigBytes, Lines, Ticks}
+use Rattle.gw_run.specs.Answered.{IsCutShort}
+use Rattle.gw_run.specs.Whole.{HoldsShort, IsTooLong}
+
+-- the text spells a configuration without a conflict
+abbrev pub SpellsAccepted : List ℕ → Type 0
+SpellsAccepted text = (config : Configuration) × Spells text config × IsAccepted config
+
+-- the text is refused as a configuration: by its first fault, or else by its first conflict
+abbrev pub IsRefusedFor : ConfigCause → List ℕ → Type 0
+IsRefusedFor (Fault fault) text = HasFault text fault
+IsRefusedFor (Conflict conflict) text = (config : Configuration) × Spells text config × IsFirstConflict config conflict
+
+-- the file holds a text of at most 65,536 bytes, and the fact holds of it
+abbrev pub HoldsText : Files → List ℕ → (List ℕ → Type 0) → Type 0
+HoldsText files config P = (text : List ℕ) × HoldsShort files config 65_536 text × P text
+
+-- why a check over files that are told was answered so; faults and want of memory have no cause in the files
+abbrev pub IsCheckCause : Files → (config : List ℕ) → Status → Type 0
+IsCheckCause before config (Ok summary) = ⊥
+IsCheckCause before config Accepted = HoldsText before config SpellsAccepted
+IsCheckCause before config Usage = ⊥
+IsCheckCause before config (ConfigRefused cause) = HoldsText before config (IsRefusedFor cause)
+IsCheckCause before config (Unbuilt form) = ⊥
+IsCheckCause before config (ReadFault role) = Unit {0}
+IsCheckCause before config (WriteFault role) = HoldsText before config SpellsAccepted
+IsCheckCause before config Memory = Unit {0}
+IsCheckCause before config (Limit ConfigBytes value) = (value ≡ 65_537) × IsTooLong before config 65_536
+IsCheckCause before config (Limit Lines value) = ⊥
+IsCheckCause before config (Limit Ticks value) = ⊥
+
+-- a fault is told only with its call to blame: a read of the configuration, or what is said
+abbrev pub IsCheckFault : (config : List ℕ) → (faults faults' : ℕ) → Blame → (said said' : ℕ) → Status → Type 0
+IsCheckFault config faults faults' blame said said' (Ok summary) = Unit {0}
+IsCheckFault config faults faults' blame said said' Accepted = Unit {0}
+IsCheckFault config faults faults' blame said said' Usage = Unit {0}
+IsCheckFault config faults faults' blame said said' (ConfigRefused cause) = Unit {0}
+IsCheckFault config faults faults' blame said said' (Unbuilt form) = Unit {0}
+IsCheckFault config faults faults' blame said said' (ReadFault role) = (role ≡ Config) × Rose faults faults' × (blame ≡ Some (Read, config))
+IsCheckFault config faults faults' blame said said' (WriteFault role) = (role ≡ Say) × Rose said said'
+IsCheckFault config faults faults' blame said said' Memory = Unit {0}
+IsCheckFault config faults faults' blame said said' (Limit which value) = Unit {0}
+
+-- each answer comes wherever it has its cause, but where a read fails or memory is wanting; what is accepted may not be said
+pub record IsCheckExact (before : Files) (config : List ℕ) (result : Status) : Type 0 where
+  pub accepted : HoldsText before config SpellsAccepted → (result ≡ Accepted) ⊎ (result ≡ WriteFault Say) ⊎ IsCutShort result
+  pub refused : (cause : ConfigCause) → HoldsText before config (IsRefusedFor cause) → (result ≡ ConfigRefused cause) ⊎ IsCutShort result
+  pub limit : IsTooLong before config 65_536 → (result ≡ Limit ConfigBytes 65_537) ⊎ IsCutShort result
+
+-- what the check of a configuration answers and why; it changes no file
+pub record AnswersCheck (told : Bool) (before after : Files) (config : List ℕ) (faults faults' : ℕ) (blame : Blame) (said said' : ℕ) (result : Status) : Type 0 where
+  pub cause : told ≡ true → IsCheckCause before config result
+  pub exact : told ≡ true → IsCheckExact before config result
+  pub files : after ≡ before
+  pub fault : IsCheckFault config faults faults' blame said said' result

@@ -24,7 +24,7 @@ impl Table {
     ghost use Rattle.route_table.specs.Match.{are_apart, channels_of, paths_of};
     ghost use Rattle.route_table.specs.Table.{IsTableOf};
 
-    /// The table of these channels and interface paths; it copies them.
+    /// The table of these channels and interface paths; it copies them. `Memory` where memory is wanting.
     ///
     /// No frame may belong to two channels: no two entries have one bus, one identifier and overlapping addresses, which
     /// all are but two that are there and differ.

@@ -120,7 +120,8 @@ fn push_moves(moves: &[Move], text: &mut String) -> Result<(), Memory>
     Ok(())
 }
 
-/// The report's text: a line for its version, the clock, each session, each destination, each move and the pool.
+/// The report's text: a line for its version, the clock, each session, each destination, each move and the pool, in this
+/// order and each with a line feed (this project's own). `Memory` where memory is wanting.
 pub fn print_report(alloc: Global, report: &Report) -> Result<String, Memory>
     ensures { IfOk result (λ text. string_bytes text ≡ report_text report.now) }
 {

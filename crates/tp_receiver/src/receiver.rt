@@ -40,7 +40,8 @@ impl Receiver {
     ghost use Rattle.tp_receiver.specs.Rows.{Over, RxStep, Ends, Interrupts, Starts, Refuses, Grants, Continues, Carries, ConsecutiveRow, TimerRow, LeftRow, EndRow};
     ghost use Rattle.tp_unit.specs.Unit.{meaning_of, SingleFrame, FirstFrame};
 
-    /// A receiver that is idle, and whose channel had no start yet.
+    /// A receiver that is idle, and whose channel had no start yet. A path has 1 to 8 destinations, and a frame at most
+    /// one address byte.
     pub fn new(set: RxSet) -> Receiver
         requires { IsRxSet set }
         ensures set { result.set ≡ set }
@@ -61,7 +62,11 @@ impl Receiver {
         matches!(self.state, State::Busy(_))
     }
 
-    /// One step: what the event comes to in this tick.
+    /// A step in a tick: what the event, the state and the port's answers come to (ISO 15765-2, segmentation and
+    /// reassembly; sessions, records and cells are this project's own).
+    ///
+    /// Ticks never fall. A unit is one that was read of a frame of `dl` bytes, and needs a take, nine cells that may be
+    /// put, and a number below 1,000,000. `FcLeft` counts only where a flow control of this reception lay in its box.
     pub fn step<P: Port>(&mut self, event: RxEvent, tick: Tick, port: &mut P) -> RxActs
         requires acts { ActsFor self.old.set (P.means port.old) }
         requires knows { Knows (P.view port.old) self.old }

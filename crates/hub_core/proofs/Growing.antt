@@ -9,7 +9,7 @@ use Rattle.gw_base.specs.Cell.{count_of}
 use Rattle.gw_base.specs.declared.numbers.BufNo.{BufNo}
 use Rattle.hub_core.specs.Calls.{SameParties, ByWriter, ByReader, ByEnd, left_of, freed_by}
 use Rattle.hub_core.specs.Tokens.{Writes, Reads, SessionIs, ReadingIs, opened_new, joined_new, asked, put_one, published, saw, read_one, SameOpened, SameJoined}
-use Rattle.hub_core.specs.View.{View, Change, Session, Reading, at_one, at_two, change_at, session_new, reading_new, session_at, reading_at, grow, Took, Refused, Entered, Asked, Put, Published, Joining, Missed, Saw, Read, Closed, Parted}
+use Rattle.hub_core.specs.View.{View, Change, Session, Reading, at_one, at_two, change_at, session_new, reading_new, session_at, reading_at, grow, grows, Event, Took, Refused, Entered, Asked, Put, Published, Joining, Missed, Saw, Read, Closed, Parted}
 use Rattle.gw_base.specs.declared.numbers.DestNo.{DestNo}
 use Rattle.gw_base.specs.declared.numbers.PathNo.{PathNo}
 use Rattle.hub_core.specs.declared.port.Left.{Left}
@@ -38,11 +38,16 @@ slice_get-change_at zero f (y ∷ xs) x is = cc
 slice_get-change_at (suc k) f (y ∷ xs) x is = slice_get-change_at k f xs x is
 
 -- a function of two numbers at the pair where it was changed, and elsewhere
-at_two-same : {A : Type 0} (p d : ℕ) (x : A) (f : ℕ → ℕ → A) → at_two p d x f p d ≡ x
+pub at_two-same : {A : Type 0} (p d : ℕ) (x : A) (f : ℕ → ℕ → A) → at_two p d x f p d ≡ x
 at_two-same {A = A} p d x f = ap (λ (g : ℕ → A). g d) (at_one-same p (at_one d x (f p)) f) ∙ at_one-same d x (f p)
 
 at_two-beside : {A : Type 0} (p d e : ℕ) (x : A) (f : ℕ → ℕ → A) → e ≢ d → at_two p d x f p e ≡ f p e
 at_two-beside {A = A} p d e x f other = ap (λ (g : ℕ → A). g e) (at_one-same p (at_one d x (f p)) f) ∙ at_one-other d e x (f p) other
+
+-- a view grown by two lists of events, one after the other
+pub grows-append : (events later : List Event) (v : View) → grows (events ++ later) v ≡ grows later (grows events v)
+grows-append [] later v = refl
+grows-append (event ∷ events) later v = grows-append events later (grow event v)
 
 -- the list of one writer's sessions is another one; all else stays
 pub by_writer : (path more : ℕ) (sessions : List Session) (v w : View) → w.readings ≡ v.readings → w.sessions ≡ at_one path sessions v.sessions →
@@ -309,7 +314,7 @@ same-joined a b is = record {
 }
 
 -- the item after a list's own
-slice_get-pushed : {A : Type 0} (xs : List A) (x : A) (k : ℕ) → length xs ≡ k → slice_get (xs ++ x ∷ []) k ≡ Some x
+pub slice_get-pushed : {A : Type 0} (xs : List A) (x : A) (k : ℕ) → length xs ≡ k → slice_get (xs ++ x ∷ []) k ≡ Some x
 slice_get-pushed xs x k at = slice_get-get_or (xs ++ x ∷ []) k x (omega (arith, at, length-append xs (x ∷ []))) ∙ ap Some (get_or_push xs x x k at)
 
 -- a session that was entered is known

@@ -8,7 +8,7 @@ use Rattle.std.proofs.lemmas.Option.{slice_get-get_or, slice_get_within, get_or_
 use Rattle.std.proofs.Math.ListN.{get_or-append}
 use Rattle.std.specs.Prelude.{slice_get, ◌==◌, if◌then◌else◌, IsBitSet}
 use Rattle.gw_base.specs.Fit.{IsSmallest}
-use Rattle.hub_core.specs.Joint.{number_of, numbered, moved, replay, IsLawful, IsOverflow, IsJournal}
+use Rattle.hub_core.specs.Joint.{CountsFrom, AreInOrder, number_of, numbered, moved, replay, IsLawful, IsOverflow, IsJournal}
 use Rattle.hub_core.specs.Plain.{Moves, IsMove, IsRefused, change_of, refusal_of, number_in, takes_in, free_set, take_in, taken, left_by, hub_view}
 use Rattle.hub_core.specs.declared.row.ChangeRow.{ChangeRow}
 use Rattle.hub_core.specs.declared.row.ChangeRow.TheVariants.{Took, Gave}
@@ -22,6 +22,14 @@ use Rattle.hub_core.specs.declared.token.End.TheVariants.{Write, Read}
 pub number-is : (row : ChangeRow) → number_of (change_of row) ≡ number_in row
 number-is (Took change need) = refl
 number-is (Gave change) = refl
+
+-- the changes stand in the order of their numbers
+in-order-from : (first : ℕ) (rows : List ChangeRow) → ((i : ℕ) (r : ChangeRow) → slice_get rows i ≡ Some r → number_in r ≡ first + i) → CountsFrom first (map number_of (map change_of rows))
+in-order-from first [] counts = tt
+in-order-from first (row ∷ rows) counts = (number-is row ∙ counts 0 row refl ∙ omega arith, in-order-from (first + 1) rows (λ i r there. counts (suc i) r there ∙ omega arith))
+
+pub in-order : (size : ℕ) (place : Place) (changes : List ChangeRow) (refused : List RefusalRow) (past : List Row) → Moves size place changes refused past → AreInOrder (map change_of changes)
+in-order size place changes refused past moves = in-order-from 1 changes (λ i r there. (moves.each i r there).number ∙ omega arith)
 
 -- a change is found by its number, where the numbers count the places
 numbered-at : (base : ℕ) (rows : List ChangeRow) (at n : ℕ) (row : ChangeRow) → ((i : ℕ) (r : ChangeRow) → slice_get rows i ≡ Some r → number_in r ≡ base + i + 1) →

@@ -8,3 +8,4 @@ mod Party
 mod Streams
 pub mod Fresh
 pub mod Growing
+pub mod Whole

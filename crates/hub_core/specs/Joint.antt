@@ -1,5 +1,5 @@
 -- What the views of all ports of one hub say together, where each party stands in one of them.
-use Rattle.std.specs.Prelude.{◌≡◌, ◌≢◌, ℕ, ◌+◌, ◌-◌, ◌^◌, ◌<◌, ◌≤◌, ◌==◌, zero, suc, true, false, List, length, take, find, slice_get, All, Option, Some, None, IsBitSet}
+use Rattle.std.specs.Prelude.{◌≡◌, ◌≢◌, ℕ, ◌+◌, ◌-◌, ◌^◌, ◌<◌, ◌≤◌, ◌==◌, zero, suc, true, false, List, [], ◌∷◌, length, map, take, find, slice_get, All, Option, Some, None, IsBitSet}
 use Rattle.gw_base.specs.Cell.{counted}
 use Rattle.gw_base.specs.Fit.{IsSmallest, NoneFits}
 use Rattle.hub_core.specs.View.{View, Change, Taken, Freed, Refusal, Session, Reading, session_at, reading_at}
@@ -8,6 +8,15 @@ use Rattle.hub_core.specs.View.{View, Change, Taken, Freed, Refusal, Session, Re
 abbrev pub number_of : Change → ℕ
 number_of (Taken number buf need) = number
 number_of (Freed number buf) = number
+
+-- the numbers from one on, each once and in order
+abbrev pub CountsFrom : ℕ → List ℕ → Type 0
+CountsFrom first [] = Unit {0}
+CountsFrom first (number ∷ numbers) = (number ≡ first) × CountsFrom (first + 1) numbers
+
+-- the changes stand in the order of their numbers, from 1
+abbrev pub AreInOrder : List Change → Type 0
+AreInOrder changes = CountsFrom 1 (map number_of changes)
 
 -- the change of a number, where there is one
 abbrev pub numbered : List Change → ℕ → Option Change

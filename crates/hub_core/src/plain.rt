@@ -108,11 +108,12 @@ impl PlainHub {
 }
 
 impl PlainHub {
-    ghost use Rattle.hub_core.specs.Joint.{Joint};
+    ghost use Rattle.hub_core.specs.Joint.{AreInOrder, Joint};
 
     /// The pool word: the number of changes in its upper 32 bits, the free set in its lower 32.
     pub fn word(&self) -> u64
-        ensures { Joint (⟦<PlainHub as Port>⟧.means self.now).sizes (result / 2 ^ 32) (result % 2 ^ 32) (⟦<PlainHub as Port>⟧.view self.now) }
+        ensures joint { Joint (⟦<PlainHub as Port>⟧.means self.now).sizes (result / 2 ^ 32) (result % 2 ^ 32) (⟦<PlainHub as Port>⟧.view self.now) }
+        ensures in_order { AreInOrder (⟦<PlainHub as Port>⟧.view self.now).changes }
     {
         ((self.changes.len() as u64) << 32) + self.free_set() as u64
     }

@@ -71,7 +71,7 @@ record Stands (shape : Shape) (message : List ℕ) (place number : ℕ) (left : 
   last : last_place 0 walk.pieces + 1 ≡ place
 
 -- the attempt with one more piece
-abbrev with_piece : Walk → ℕ → List ℕ → Walk
+abbrev pub with_piece : Walk → ℕ → List ℕ → Walk
 with_piece walk at bytes = record { len = walk.len; size = walk.size; pieces = walk.pieces ++ record { at = at; bytes = bytes } ∷ []; wrong = walk.wrong }
 
 -- the next frame is counted, with the bytes that it was given

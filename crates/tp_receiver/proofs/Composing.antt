@@ -23,10 +23,7 @@ use Rattle.tp_receiver.specs.Known.{HasOpened, carried}
 use Rattle.tp_receiver.specs.Receiving.{Busy, RxState, RxMove, awaited_since, busy_of, gone_on, idle, later_act, moves_of, moves_in, state_in}
 use Rattle.tp_receiver.specs.Rows.{After, Begins, Interrupts, Opens, Over, Starts, asks, cells_of, puts}
 use Rattle.tp_unit.specs.Unit.{Meaning, BoxMeaning, Keeps, Offers, Revokes}
-
-pub grows-append : (xs ys : List Event) (v : View) → grows (xs ++ ys) v ≡ grows ys (grows xs v)
-grows-append [] ys v = refl
-grows-append (x ∷ xs) ys v = grows-append xs ys (grow x v)
+use Rattle.hub_core.proofs.Growing.{grows-append}
 
 pub moves_in-append : (xs ys : List Event) → moves_in (xs ++ ys) ≡ moves_in xs ++ moves_in ys
 moves_in-append xs ys = flat_map-append moves_of xs ys

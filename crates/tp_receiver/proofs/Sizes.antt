@@ -6,7 +6,7 @@ use Rattle.tp_unit.specs.Reading.{unit_in, kind_at, low_nibble_at, short_length,
 use Rattle.tp_unit.specs.Unit.{Meaning, SingleFrame, FirstFrame}
 
 -- what holds in both cases
-either : (P : Meaning → Type 0) (b : Bool) (x y : Meaning) → (b ≡ true → P x) → (b ≡ false → P y) → P (if b then x else y)
+pub either : (P : Meaning → Type 0) (b : Bool) (x y : Meaning) → (b ≡ true → P x) → (b ≡ false → P y) → P (if b then x else y)
 either P true x y yes_case no_case = yes_case refl
 either P false x y yes_case no_case = no_case refl
 

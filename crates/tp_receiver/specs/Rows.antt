@@ -2,8 +2,10 @@
 use Rattle.std.specs.Prelude.{◌≡◌, ◌≢◌, ℕ, ◌+◌, ◌/◌, ◌<◌, ◌≤◌, Bool, true, false, Option, Some, None, List, [], ◌∷◌, ◌++◌, length, map, take}
 use Rattle.cell_stream.specs.Packing.{IsPacked}
 use Rattle.gw_base.specs.Cell.{counted}
+use Rattle.hub_core.specs.Calls.{freed_by}
 use Rattle.hub_core.specs.Floors.{Floors, AreFresh}
-use Rattle.hub_core.specs.View.{View, Change, Event, Took, Refused, Entered, Asked, Put, Published, Closed, grows}
+use Rattle.hub_core.specs.View.{View, Event, Took, Refused, Entered, Asked, Put, Published, Closed, grows}
+use Rattle.hub_core.specs.declared.port.Left.{Left}
 use Rattle.hub_core.specs.declared.record.Move.{Move}
 use Rattle.hub_core.specs.declared.record.OpenedAt.{OpenedAt}
 use Rattle.hub_core.specs.declared.record.RxLimit.TheVariants.{Cf as CfLimit}
@@ -45,8 +47,8 @@ pub record After (before : List Event) (m : RxMove) (Row : RxMove → Type 0) : 
 
 -- the reception ends so: the writer leaves, what lies in the box doesn't leave, the record is made
 pub record Ends (set : RxSet) (next seq : ℕ) (busy : Busy) (result : SessionResult) (m : RxMove) : Type 0 where
-  pub freed : List Change
-  pub calls : m.calls ≡ Closed set.path.0 busy.opened.seq freed ∷ []
+  pub left : Left
+  pub calls : m.calls ≡ Closed set.path.0 busy.opened.seq (freed_by left) ∷ []
   pub act : m.act ≡ revoking busy.wait
   pub records : m.records ≡ ended set busy result m.tick ∷ []
   pub new : m.new ≡ idle next seq

@@ -36,10 +36,6 @@ means-after l m n first second = record {
   spare = omega (arith, first.spare, second.spare);
 }
 
-pub grows-append : (events later : List Event) (v : View) → grows (events ++ later) v ≡ grows later (grows events v)
-grows-append [] later v = refl
-grows-append (first ∷ events) later v = grows-append events later (grow first v)
-
 pub reads-fresh : (floors : Floors) (v : View) (path dest seq : ℕ) (cells : List ℕ) → AreFresh floors v (map (Read path dest seq) cells)
 reads-fresh floors v path dest seq [] = tt
 reads-fresh floors v path dest seq (cell ∷ cells) = (tt, reads-fresh floors (grow (Read path dest seq cell) v) path dest seq cells)

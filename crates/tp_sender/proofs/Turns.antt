@@ -19,8 +19,9 @@ use Rattle.tp_sender.specs.State.{Sending, sending_of, KnowsLive, KnowsToken}
 use Rattle.tp_sender.specs.Table.{Did, Ends, Fetches, GoesOn, InBytes, InStart, InTurn, Lacks, OffersNext, fetched, in_phase, is_reached, look_at, next_part}
 use Rattle.tp_sender.specs.Table.{Enough, Short, Reached, NeverReached, NotReached}
 use Rattle.tp_sender.specs.Over.{KeepsPort, Over, ReadsEnough}
-use Rattle.tp_sender.proofs.Calls.{by-after, grows-append, means-after, reads-fresh}
+use Rattle.tp_sender.proofs.Calls.{by-after, means-after, reads-fresh}
 use Rattle.tp_sender.proofs.Reading.{sending-with}
+use Rattle.hub_core.proofs.Growing.{grows-append}
 
 -- the session after a look
 pub record Looks (live next : Live) (look : Seen) : Type 0 where

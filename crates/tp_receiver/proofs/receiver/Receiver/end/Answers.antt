@@ -9,5 +9,5 @@ returns-clause-over g c = record {
   grown = c.leave-left.ensures.view ∙ ap (λ p. grow (Closed p c.args.reception.writer.seq (freed_by c.leave-left.result)) (g.P.Port.view c.args.port.now)) c.requires.path;
   fresh = (tt, tt);
   moves_are = c.left.ensures.moves ∙ sym (append-nil _);
-  row = record { freed = freed_by c.leave-left.result; calls = refl; act = c.left.ensures.fc ∙ c.revoking-fc.ensures; records = c.left.ensures.records ∙ ap (λ r. r ∷ []) c.ended-record.ensures; new = refl };
+  row = record { left = c.leave-left.result; calls = refl; act = c.left.ensures.fc ∙ c.revoking-fc.ensures; records = c.left.ensures.records ∙ ap (λ r. r ∷ []) c.ended-record.ensures; new = refl };
 }

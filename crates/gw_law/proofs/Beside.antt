@@ -2,7 +2,7 @@
 use Rattle.std.proofs.Common.{◌≡◌, ℕ, List, [], ◌∷◌, ◌++◌, refl, ap, inl, inr, eq-eqb}
 use Rattle.std.proofs.lemmas.Bool.{cases_eq, ne_eqb}
 use Rattle.hub_core.specs.View.{View, Event, Session, Reading, at_one, at_two, change_at, empty_view, grow, grows, session_new, reading_new, Took, Refused, Entered, Asked, Put, Published, Joining, Missed, Saw, Read, Closed, Parted}
-use Rattle.gw_law.proofs.Sides.{grows-append}
+use Rattle.hub_core.proofs.Growing.{grows-append}
 
 one-beside : {A : Type 0} (p q : ℕ) (g : A → A) (f h : ℕ → A) → f q ≡ h q → at_one p (g (f p)) f q ≡ at_one p (g (h p)) h q
 one-beside p q g f h is = elim (cases_eq q p) [

@@ -1,5 +1,5 @@
 -- The law of delivery: the laws of the source and of the destination meet in what the hub says of their sessions.
-use Rattle.std.proofs.Common.{◌≡◌, ℕ, ◌+◌, ◌≤◌, zero, suc, Bool, true, false, cond, Option, Some, None, option_map, List, [], ◌∷◌, ◌++◌, length, map, take, drop, refl, ap, sym, ◌∙◌, subst, arith, append-nil, length-append}
+use Rattle.std.proofs.Common.{◌≡◌, ℕ, ◌+◌, ◌≤◌, zero, suc, Bool, true, false, cond, Option, Some, None, option_map, List, [], ◌∷◌, ◌++◌, length, take, drop, refl, ap, sym, ◌∙◌, subst, arith, append-nil, length-append}
 use Rattle.std.specs.Prelude.{filter, option_to_list, slice_get}
 use Rattle.std.specs.List.{AllByRecursion, AllZip}
 use Rattle.std.proofs.lemmas.List.{length-take-le, take-append-drop, take-append-le, take-take}
@@ -26,14 +26,8 @@ use Rattle.gw_law.proofs.Openings.{Entry, entries-are, entries_told, entry_told,
 use Rattle.gw_law.proofs.Sides.{cells_at-there}
 use Rattle.gw_law.proofs.SourceLaws.{source_law_of}
 use Rattle.gw_law.proofs.TxLaw.{law}
-use Rattle.gw_law.proofs.TxLists.{each-map}
 use Rattle.gw_law.proofs.TxReadings.{readings}
-
--- an item of a list that is mapped
-pub mapped-at : {A B : Type 0} (f : A → B) (k : ℕ) (xs : List A) (y : B) → slice_get (map f xs) k ≡ Some y → (x : A) × (slice_get xs k ≡ Some x) × (f x ≡ y)
-mapped-at f k [] y is = cc
-mapped-at f zero (x ∷ xs) y is = (x, refl, cc)
-mapped-at f (suc k) (x ∷ xs) y is = mapped-at f k xs y is
+use Rattle.gw_law.proofs.Lists.{all-weaker, mapped-at, zip-all}
 
 -- the record that opened a session, its unit, and what it tells of it
 pub record Found (R : Cut Seen → SessionRecord → Type 0) (units : List (Cut Seen)) (records : List SessionRecord) (seq : ℕ) (entry : Entry) : Type 0 where
@@ -99,7 +93,7 @@ record Joins (chan : ℕ) (d : Delivery) (t : Transfer) (seq len : ℕ) : Type 0
   bytes : (sent : ℕ) → sent ≤ length (t.read seq) → take sent (t.read seq) ≡ take sent (reassembled d.source unit)
 
 -- a front of cells is a front of bytes
-front-bytes : (stored read : List ℕ) (n sent : ℕ) → read ≡ bytes_of (take n stored) → sent ≤ length read → (length read ≤ length (bytes_of stored)) × (take sent read ≡ take sent (bytes_of stored))
+pub front-bytes : (stored read : List ℕ) (n sent : ℕ) → read ≡ bytes_of (take n stored) → sent ≤ length read → (length read ≤ length (bytes_of stored)) × (take sent read ≡ take sent (bytes_of stored))
 front-bytes stored read n sent is within =
     let all : bytes_of stored ≡ read ++ bytes_of (drop n stored) = ap bytes_of (sym (take-append-drop n stored)) ∙ flat_map-append cell_bytes (take n stored) (drop n stored) ∙ ap (λ b. b ++ bytes_of (drop n stored)) (sym is) in
     rw all (omega (arith, length-append read (bytes_of (drop n stored))), sym (take-append-le sent read (bytes_of (drop n stored)) within))
@@ -172,20 +166,14 @@ sent-in : (P : DestRecord → Type 0) (told : DestRecord) (records : List DestRe
 sent-in P told records true is all = (is, all)
 sent-in P told records false is all = all
 
-all-sent : (P : DestRecord → Type 0) (records : List DestRecord) → AllByRecursion P records → AllByRecursion P (filter has_sent records)
+pub all-sent : (P : DestRecord → Type 0) (records : List DestRecord) → AllByRecursion P records → AllByRecursion P (filter has_sent records)
 all-sent P [] all = tt
 all-sent P (told ∷ records) all = sent-in P told (filter has_sent records) (has_sent told) all.0 (all-sent P records all.1)
 
-zip-all : {A B : Type 0} (P : B → Type 0) (R S : A → B → Type 0) (xs : List A) (ys : List B) → ((x : A) (y : B) → P y → R x y → S x y) → AllByRecursion P ys → AllZip R xs ys → AllZip S xs ys
-zip-all P R S [] [] on all zip = tt
-zip-all P R S [] (y ∷ ys) on all zip = absurd zip
-zip-all P R S (x ∷ xs) [] on all zip = absurd zip
-zip-all P R S (x ∷ xs) (y ∷ ys) on all zip = (on x y all.0 zip.0, zip-all P R S xs ys on all.1 zip.1)
-
 -- no transmission goes on where no session is being sent
-none-goes : (t : Transfer) (now : ℕ) (live : Option Sending) (going : List (Cut Seen)) → live ≡ None → GoesOnWith t now live going → going ≡ []
-none-goes t now None going is goes = goes
-none-goes t now (Some s) going is goes = cc
+pub none-going : (t : Transfer) (now : ℕ) (live : Option Sending) (going : List (Cut Seen)) → live ≡ None → GoesOnWith t now live going → going ≡ []
+none-going t now None going is goes = goes
+none-going t now (Some s) going is goes = cc
 
 pub delivery_law_of : (rx : RxSet) (turns : List RxTurn) (tx : TxSet) (moments : List Moment) (v : View) → AreWholeRuns rx turns tx moments v → DeliveryLaw (delivery_of rx turns tx moments)
 delivery_law_of rx turns tx moments v runs =
@@ -194,11 +182,11 @@ delivery_law_of rx turns tx moments v runs =
     let transfer : TransferLaw t = law tx moments runs.shape runs.sent in
     let source = source_law_of rx turns runs.received runs.idle in
     let joined : (told : DestRecord) (tells : Tells t told) → Joins rx.chan.0 d t told.seq tells.len = λ told tells. joins rx turns tx moments v told.seq tells.len runs tells.joined in
-    let whole : attempts_in false t.frames ≡ transfer.ended = transfer.cut ∙ ap (λ l. transfer.ended ++ l) (none-goes t t.now t.live transfer.going runs.ended transfer.goes_on) ∙ append-nil transfer.ended in
+    let whole : attempts_in false t.frames ≡ transfer.ended = transfer.cut ∙ ap (λ l. transfer.ended ++ l) (none-going t t.now t.live transfer.going runs.ended transfer.goes_on) ∙ append-nil transfer.ended in
     record {
       sessions = source.sessions;
       numbered = transfer.numbered;
-      names = each-map (Tells t) (Names d) t.records (λ told tells. names-of rx.chan.0 d t told tells (joined told tells)) transfer.told;
+      names = all-weaker (Tells t) (Names d) t.records (λ told tells. names-of rx.chan.0 d t told tells (joined told tells)) transfer.told;
       delivers = rw whole (zip-all (Tells t) (SendsFor t) (Delivers d) transfer.ended (filter has_sent t.records) (λ cut told tells sends. delivers-so rx.chan.0 d t cut told tells refl refl (joined told tells) sends)
           (all-sent (Tells t) t.records transfer.told) transfer.sends);
     }

@@ -40,7 +40,7 @@ entries-long (told ∷ records) =
     length-append (option_to_list (option_map (λ (o : OpenedAt). o.seq) told.opened)) (sessions_in records) ∙ rw (one-each told told.opened, entries-long records) (sym (length-append (option_to_list (option_map (entry_told told) told.opened)) (entries_told records)))
 
 -- a destination's sessions are sessions of the path
-at-most : (tx : TxSet) (v : View) (known : List Reading) (number : ℕ) → v.readings tx.path.0 tx.dest.0 ≡ known → length known ≡ number →
+pub at-most : (tx : TxSet) (v : View) (known : List Reading) (number : ℕ) → v.readings tx.path.0 tx.dest.0 ≡ known → length known ≡ number →
     ((seq : ℕ) (r : Reading) → reading_at v tx.path.0 tx.dest.0 seq ≡ Some r → (s : Session) × (slice_get (v.sessions tx.path.0) seq ≡ Some s)) → number ≤ length (v.sessions tx.path.0)
 at-most tx v known zero is long joined = omega arith
 at-most tx v known (suc last) is long joined =

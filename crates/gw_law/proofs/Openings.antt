@@ -5,6 +5,7 @@ use Rattle.std.specs.List.{flat_map}
 use Rattle.std.proofs.lemmas.List.{length-append, map-append}
 use Rattle.std.proofs.lemmas.Grind.{flat_map-append}
 use Rattle.gw_base.specs.Cell.{counted}
+use Rattle.hub_core.specs.Calls.{freed_by}
 use Rattle.hub_core.specs.View.{View, Event, Session, Change, empty_view, session_new, grow, grows, Took, Refused, Entered, Asked, Put, Published, Joining, Missed, Saw, Read, Closed, Parted}
 use Rattle.hub_core.proofs.Growing.{at_one-same}
 use Rattle.hub_core.specs.declared.record.OpenedAt.{OpenedAt}
@@ -130,6 +131,7 @@ abbrev pub needs_by : Bool → List RxTurn → List ℕ
 needs_by functional [] = []
 needs_by functional (turn ∷ earlier) = needs_by functional earlier ++ need_in functional turn.event
 
+-- the reception in progress is of one of the sessions
 abbrev pub IsBelow : ℕ → Option Busy → Type 0
 IsBelow n None = Unit {0}
 IsBelow n (Some busy) = busy.opened.seq < n
@@ -211,7 +213,7 @@ quiet : (path : ℕ) (state : RxState) (m : RxMove) → IsBelow state.seq state.
 quiet path state m below row = rw (row.calls, row.records, row.new) (enters-none path state.seq state.busy below)
 
 ends-idle : (set : RxSet) (next seq : ℕ) (busy : Busy) (how : SessionResult) (m : RxMove) → Ends set next seq busy how m → Enters set.path.0 seq [] (Some busy) m.calls m.records seq None
-ends-idle set next seq busy how m row = rw (row.calls, row.records) (record { fill = fill-closed set.path.0 seq busy.opened.seq row.freed; count = omega arith; entries = refl; outcomes = refl; needs_are = refl; below = tt })
+ends-idle set next seq busy how m row = rw (row.calls, row.records) (record { fill = fill-closed set.path.0 seq busy.opened.seq (freed_by row.left); count = omega arith; entries = refl; outcomes = refl; needs_are = refl; below = tt })
 
 ends : (set : RxSet) (next seq : ℕ) (busy : Busy) (how : SessionResult) (m : RxMove) → Ends set next seq busy how m → EntersBy set.path.0 seq [] (Some busy) m
 ends set next seq busy how m row = rw row.new (ends-idle set next seq busy how m row)

@@ -26,11 +26,12 @@ use Rattle.tp_receiver.specs.Running.{RxTurn, calls_by, seen_by, seen_in, told_b
 use Rattle.tp_receiver.specs.declared.set.RxSet.{RxSet}
 use Rattle.gw_law.specs.Pool.{AreAllOver, AreAllUsed, AreFreed, AreNamed, Asks, Channel, IsIn, IsLawfulMove, IsNextMove, IsOpened, IsPoolRun, IsRefused, IsServed, IsUnnamed, IsWholeRun, MovesBuf, NamesTake, PoolEnds, PoolLaw, Source, channel_of, free_after, free_at, freeing, move_numbered, need_of, taking}
 use Rattle.gw_law.specs.Source.{CountsFrom, Tells, is_overflow, sessions_in}
-use Rattle.gw_law.proofs.Deliveries.{find, mapped-at}
+use Rattle.gw_law.proofs.Deliveries.{find}
 use Rattle.gw_law.proofs.FreeSets.{whole-again}
 use Rattle.gw_law.proofs.Openings.{Denied, Entry, Granted, Outcome, entries-are, entries_told, entry_told, need_by, need_in, needs_by, openings, outcome_by, outcome_going, outcome_of, outcome_told, writing}
 use Rattle.gw_law.proofs.SourceLaws.{source_law_of}
 use Rattle.gw_law.proofs.Stores.{store}
+use Rattle.gw_law.proofs.Lists.{mapped-at, zip-both}
 
 -- the moves of changes, by their numbers
 picked : (b : Bool) (x : Change) (change : Option Change) (move : Option Move) → move ≡ option_map move_of change → cond b (Some (move_of x)) move ≡ option_map move_of (cond b (Some x) change)
@@ -256,12 +257,6 @@ asks chan address count now stored sizes v attempt told joint counts tells said 
   served = λ opened is. served sizes count now v (need_of attempt) opened joint counts (granted v (need_of attempt) told.result told.opened opened is said);
   refused = λ change free need is. refused sizes count now v (need_of attempt) change free need joint (denied v (need_of attempt) change free need told.result told.opened is tells.opens said);
 }
-
-zip-both : {A B : Type 0} (P Q R : A → B → Type 0) (xs : List A) (ys : List B) → ((x : A) (y : B) → P x y → Q x y → R x y) → AllZip P xs ys → AllZip Q xs ys → AllZip R xs ys
-zip-both P Q R [] [] on first second = tt
-zip-both P Q R [] (y ∷ ys) on first second = absurd first
-zip-both P Q R (x ∷ xs) [] on first second = absurd first
-zip-both P Q R (x ∷ xs) (y ∷ ys) on first second = (on x y first.0 second.0, zip-both P Q R xs ys on first.1 second.1)
 
 -- the numbers of the sessions after a record
 record Further (first : ℕ) (told : SessionRecord) (records : List SessionRecord) : Type 0 where

@@ -4,8 +4,9 @@ use Rattle.std.specs.Prelude.{map, slice_get}
 use Rattle.std.proofs.lemmas.Bool.Decides.{nat_tests}
 use Rattle.std.proofs.lemmas.Grind.{flat_map-append}
 use Rattle.std.proofs.lemmas.List.{length-append}
-use Rattle.hub_core.proofs.Growing.{at_one-same, length-change_at}
-use Rattle.hub_core.specs.View.{View, Change, Event, Session, at_one, change_at, empty_view, session_at, session_new, grow, grows, Took, Refused, Entered, Asked, Put, Published, Joining, Missed, Saw, Read, Closed, Parted}
+use Rattle.hub_core.proofs.Growing.{at_one-same, grows-append, length-change_at}
+use Rattle.hub_core.specs.Calls.{freed_by}
+use Rattle.hub_core.specs.View.{View, Change, Event, Session, at_one, change_at, empty_view, session_at, session_new, grow, grows, Took, Refused, Entered, Asked, Put, Published, Closed}
 use Rattle.gw_base.specs.Cell.{counted}
 use Rattle.hub_core.specs.declared.record.OpenedAt.{OpenedAt}
 use Rattle.hub_core.specs.declared.record.RxLimit.TheVariants.{Cf as CfLimit}
@@ -18,7 +19,7 @@ use Rattle.tp_receiver.specs.Rows.{After, Begins, Carries, Ends, FirstRow, Grant
 use Rattle.tp_receiver.specs.Rows.{NoneReads, All, NoBuffer, Completes, NoBufferFirst, Opened, NoneReadsOn, TooLittleRoom, Adds, Fills as FillsRow, TooLong, TooShort, WrongNumber, RightNumber, InTime, TooLate, FromBox, NotAwaited}
 use Rattle.tp_receiver.specs.Running.{Happened, RxTurn, calls_by, cell_in, cells_in, put_in, state_of}
 use Rattle.tp_unit.specs.Unit.{BoxMeaning, Keeps, Offers, Meaning, SingleFrame, FirstFrame, ConsecutiveFrame, FlowControl, NoUnit}
-use Rattle.tp_receiver.proofs.Composing.{grows-append}
+use Rattle.gw_law.proofs.Openings.{IsBelow}
 
 false_true : false ≡ true → ⊥
 false_true is = cc
@@ -164,38 +165,33 @@ fills-after path a b xs ys v first second =
 pub fills-nothing : (path : ℕ) (v : View) → Fills path 0 [] v v
 fills-nothing path v = fills-none path [] v v refl (λ place. refl)
 
--- the reception in progress is of one of the sessions
-abbrev pub BelowBy : ℕ → Option Busy → Type 0
-BelowBy seq None = Unit {0}
-BelowBy seq (Some busy) = busy.opened.seq < seq
-
 -- a move's calls add to the sessions of its path, and its state counts them
 pub record Counts (path seq : ℕ) (m : RxMove) (v : View) : Type 0 where
   pub more : ℕ
   pub fills : Fills path more m.calls v (grows m.calls v)
   pub counted : m.new.seq ≡ seq + more
-  pub below : BelowBy m.new.seq m.new.busy
+  pub below : IsBelow m.new.seq m.new.busy
 
 -- the calls that are known
-counts-by : (path seq more : ℕ) (m : RxMove) (v : View) (calls : List Event) (state : RxState) → m.calls ≡ calls → m.new ≡ state → Fills path more calls v (grows calls v) → state.seq ≡ seq + more → BelowBy state.seq state.busy → Counts path seq m v
+counts-by : (path seq more : ℕ) (m : RxMove) (v : View) (calls : List Event) (state : RxState) → m.calls ≡ calls → m.new ≡ state → Fills path more calls v (grows calls v) → state.seq ≡ seq + more → IsBelow state.seq state.busy → Counts path seq m v
 counts-by path seq more m v calls state is new fills counted below =
     let P : List Event → Type 0 = λ c. Fills path more c v (grows c v) in
-    let Q : RxState → Type 0 = λ s. BelowBy s.seq s.busy in
+    let Q : RxState → Type 0 = λ s. IsBelow s.seq s.busy in
     record { more = more; fills = subst P (sym is) fills; counted = ap (λ (s : RxState). s.seq) new ∙ counted; below = subst Q (sym new) below }
 
-counts-quiet : (path next seq : ℕ) (busy : Option Busy) (m : RxMove) (v : View) → BelowBy seq busy → Quiet (record { next = next; seq = seq; busy = busy }) m → Counts path seq m v
+counts-quiet : (path next seq : ℕ) (busy : Option Busy) (m : RxMove) (v : View) → IsBelow seq busy → Quiet (record { next = next; seq = seq; busy = busy }) m → Counts path seq m v
 counts-quiet path next seq busy m v below row = counts-by path seq 0 m v [] (record { next = next; seq = seq; busy = busy }) row.calls row.new (fills-nothing path v) (omega arith) below
 
 counts-ends : (set : RxSet) (next seq : ℕ) (busy : Busy) (how : SessionResult) (m : RxMove) (v : View) → Ends set next seq busy how m → Counts set.path.0 seq m v
 counts-ends set next seq busy how m v row =
-    counts-by set.path.0 seq 0 m v (Closed set.path.0 busy.opened.seq row.freed ∷ []) (idle next seq) row.calls row.new (fills-closed set.path.0 busy.opened.seq row.freed v) (omega arith) tt
+    counts-by set.path.0 seq 0 m v (Closed set.path.0 busy.opened.seq (freed_by row.left) ∷ []) (idle next seq) row.calls row.new (fills-closed set.path.0 busy.opened.seq (freed_by row.left) v) (omega arith) tt
 
 -- first calls, and the rest
 counts-after : (path seq more : ℕ) (m : RxMove) (v : View) (before rest : List Event) → m.calls ≡ before ++ rest → Fills path more before v (grows before v) → Counts path (seq + more) (record m { calls = rest }) (grows before v) → Counts path seq m v
 counts-after path seq more m v before rest is first later =
     counts-by path seq (more + later.more) m v (before ++ rest) m.new is refl (fills-after path more later.more before rest v first later.fills) (later.counted ∙ omega arith) later.below
 
-counts-silent : (path next seq : ℕ) (busy : Option Busy) (m : RxMove) (v : View) → m.calls ≡ [] → m.new ≡ record { next = next; seq = seq; busy = busy } → BelowBy seq busy → Counts path seq m v
+counts-silent : (path next seq : ℕ) (busy : Option Busy) (m : RxMove) (v : View) → m.calls ≡ [] → m.new ≡ record { next = next; seq = seq; busy = busy } → IsBelow seq busy → Counts path seq m v
 counts-silent path next seq busy m v silent new below = counts-by path seq 0 m v [] (record { next = next; seq = seq; busy = busy }) silent new (fills-nothing path v) (omega arith) below
 
 same-count : (path seq : ℕ) (m : RxMove) (v : View) → Counts path seq m v → Counts path (seq + 0) m v
@@ -267,12 +263,12 @@ counts-carries set next seq busy bytes m v at below (FillsRow room readers cells
     counts-put set seq room readers busy cells m v row.rest row.row.rest at below row.calls row.row.calls
     (counts-ends set next seq (gone_on busy (length bytes) m.tick) Whole (record m { calls = row.row.rest }) (grows (puts set.path.0 busy.opened.seq cells) (grows (asks set busy room readers) v)) row.row.row)
 
-counts-first : (set : RxSet) (next seq size : ℕ) (busy : Option Busy) (meaning : Meaning) (functional : Bool) (m : RxMove) (v : View) → length (v.sessions set.path.0) ≡ seq → BelowBy seq busy → FirstRow set (record { next = next; seq = seq; busy = busy }) size meaning functional m → Counts set.path.0 seq m v
+counts-first : (set : RxSet) (next seq size : ℕ) (busy : Option Busy) (meaning : Meaning) (functional : Bool) (m : RxMove) (v : View) → length (v.sessions set.path.0) ≡ seq → IsBelow seq busy → FirstRow set (record { next = next; seq = seq; busy = busy }) size meaning functional m → Counts set.path.0 seq m v
 counts-first set next seq size busy meaning true m v at below row = counts-quiet set.path.0 next seq busy m v below row
 counts-first set next seq size busy meaning false m v at below row = counts-starts set next seq size busy meaning m v at row
 
 -- each row
-counts : (set : RxSet) (next seq : ℕ) (busy : Option Busy) (event : RxInput) (m : RxMove) (v : View) → length (v.sessions set.path.0) ≡ seq → BelowBy seq busy → RxStep set (record { next = next; seq = seq; busy = busy }) event m → Counts set.path.0 seq m v
+counts : (set : RxSet) (next seq : ℕ) (busy : Option Busy) (event : RxInput) (m : RxMove) (v : View) → length (v.sessions set.path.0) ≡ seq → IsBelow seq busy → RxStep set (record { next = next; seq = seq; busy = busy }) event m → Counts set.path.0 seq m v
 counts set next seq busy (Came size (SingleFrame bytes)) m v at below row = counts-starts set next seq size busy (SingleFrame bytes) m v at row
 counts set next seq busy (Came size (FirstFrame len bytes)) m v at below row = counts-first set next seq size busy (FirstFrame len bytes) set.functional m v at below row
 counts set next seq None (Came size (ConsecutiveFrame number bytes)) m v at below row = counts-quiet set.path.0 next seq None m v below row
@@ -294,7 +290,7 @@ counts set next seq (Some busy) RunEnds m v at below row = counts-ends set next 
 -- all turns
 pub record AllFilled (set : RxSet) (turns : List RxTurn) : Type 0 where
   pub number : length ((grows (calls_by turns) empty_view).sessions set.path.0) ≡ (state_of turns).seq
-  pub below : BelowBy (state_of turns).seq (state_of turns).busy
+  pub below : IsBelow (state_of turns).seq (state_of turns).busy
   pub cells : (place : ℕ) → cells_at ((grows (calls_by turns) empty_view).sessions set.path.0) place ≡ put_in set turns place
 
 pub all-filled : (set : RxSet) (turns : List RxTurn) → Happened set turns → AllFilled set turns
@@ -314,34 +310,3 @@ all-filled set (turn ∷ earlier) happened =
 pub stored_in : (set : RxSet) (turns : List RxTurn) → Happened set turns → (seq : ℕ) (s : Session) → session_at (grows (calls_by turns) empty_view) set.path.0 seq ≡ Some s → s.cells ≡ put_in set turns seq
 stored_in set turns happened seq s known =
     sym (cells_at-is ((grows (calls_by turns) empty_view).sessions set.path.0) seq s known) ∙ (all-filled set turns happened).cells seq
-
--- what calls make of a path's sessions depends on these alone: calls of other parties may stand between
-same-at : (path p : ℕ) (change : List Session → List Session) (v w : ℕ → List Session) (same : Bool) → (path == p) ≡ same → v path ≡ w path → (if same then change (v p) else v path) ≡ (if same then change (w p) else w path)
-same-at path p change v w true is same =
-    let here : path ≡ p = grind (arith, nat_tests) in
-    ap change (ap v (sym here) ∙ same ∙ ap w here)
-same-at path p change v w false is same = same
-
-same-grow : (path : ℕ) (event : Event) (v w : View) → v.sessions path ≡ w.sessions path → (grow event v).sessions path ≡ (grow event w).sessions path
-unfolding grow
-same-grow path (Took number buf size need) v w same = same
-same-grow path (Refused number free need) v w same = same
-same-grow path (Entered p seq buf number size len readers) v w same = same-at path p (λ s. s ++ session_new buf number size len readers ∷ []) v.sessions w.sessions (path == p) refl same
-same-grow path (Asked p seq cells readers) v w same = same-at path p (change_at seq (λ s. record s { room = cells; readers = readers })) v.sessions w.sessions (path == p) refl same
-same-grow path (Put p seq cell) v w same = same-at path p (change_at seq (λ s. record s { cells = s.cells ++ cell ∷ []; room = s.room - 1 })) v.sessions w.sessions (path == p) refl same
-same-grow path (Published p seq bytes) v w same = same-at path p (change_at seq (λ s. record s { shown = length s.cells; told = s.told + bytes })) v.sessions w.sessions (path == p) refl same
-same-grow path (Joining p dest seq buf len) v w same = same
-same-grow path (Missed p dest seq) v w same = same
-same-grow path (Saw p dest seq cells bytes writer) v w same = same
-same-grow path (Read p dest seq cell) v w same = same
-same-grow path (Closed p seq freed) v w same = same-at path p (change_at seq (λ s. record s { stands = false })) v.sessions w.sessions (path == p) refl same
-same-grow path (Parted p dest seq freed) v w same = same
-
-pub same-grows : (path : ℕ) (calls : List Event) (v w : View) → v.sessions path ≡ w.sessions path → (grows calls v).sessions path ≡ (grows calls w).sessions path
-same-grows path [] v w same = same
-same-grows path (event ∷ calls) v w same = same-grows path calls (grow event v) (grow event w) (same-grow path event v w same)
-
--- one more turn of the receiver, and a call of another party
-pub sessions-more : (path : ℕ) (old new : View) (earlier calls : List Event) → new ≡ grows calls old → old.sessions path ≡ (grows earlier empty_view).sessions path → new.sessions path ≡ (grows (earlier ++ calls) empty_view).sessions path
-sessions-more path old new earlier calls grown so =
-    ap (λ (v : View). v.sessions path) grown ∙ same-grows path calls old (grows earlier empty_view) so ∙ ap (λ (v : View). v.sessions path) (sym (grows-append earlier calls empty_view))

@@ -7,6 +7,7 @@ use Rattle.std.proofs.lemmas.Bool.Decides.{nat_tests}
 use Rattle.std.proofs.lemmas.List.{length-append, length-map, map-append}
 use Rattle.std.proofs.lemmas.Grind.{flat_map-append}
 use Rattle.hub_core.specs.View.{View, Event, change_at, grow, grows}
+use Rattle.hub_core.proofs.Growing.{grows-append}
 
 -- the cells of the item with that number; none where there is no such item
 abbrev pub cells_at : {A : Type 0} → (A → List ℕ) → ℕ → List A → List ℕ
@@ -71,10 +72,6 @@ added side calls = length (flat_map side.fixed_by calls)
 
 pub fill-none : {A B : Type 0} (side : Side A B) (n : ℕ) → Fill side n []
 fill-none side n v at = record { fixed = sym (append-nil (map side.fixed (side.items v))); cells = λ k. sym (append-nil (cells_at side.cells k (side.items v))) }
-
-pub grows-append : (calls more : List Event) (v : View) → grows (calls ++ more) v ≡ grows more (grows calls v)
-grows-append [] more v = refl
-grows-append (call ∷ calls) more v = grows-append calls more (grow call v)
 
 pub fill-join : {A B : Type 0} (side : Side A B) (n m : ℕ) (calls more : List Event) → m ≡ n + added side calls → Fill side n calls → Fill side m more → Fill side n (calls ++ more)
 fill-join side n m calls more is first second v at =

@@ -1,5 +1,5 @@
 -- What a receiver's records say so far, and how each part of a step changes it.
-use Rattle.std.proofs.Common.{◌≡◌, ◌≢◌, ℕ, ◌+◌, ◌%◌, ◌<◌, ◌≤◌, ◌↔◌, Bool, true, false, Option, Some, None, List, [], ◌∷◌, ◌++◌, length, map, take, refl, ap, sym, ◌∙◌, subst, arith, append-nil, take_all}
+use Rattle.std.proofs.Common.{◌≡◌, ◌≢◌, ℕ, ◌+◌, ◌%◌, ◌<◌, ◌≤◌, ◌↔◌, Bool, true, false, Some, None, List, [], ◌∷◌, ◌++◌, length, map, take, refl, ap, sym, ◌∙◌, subst, arith, append-nil, take_all}
 use Rattle.std.specs.List.{AllByRecursion, AllZip}
 use Rattle.std.proofs.lemmas.List.{length-append, length-map, map-append}
 use Rattle.std.proofs.lemmas.Grind.{flat_map-append}
@@ -19,7 +19,8 @@ use Rattle.tp_receiver.specs.Receiving.{Busy, ended, refused, gone_on, due as bu
 use Rattle.tp_unit.specs.Unit.{ConsecutiveFrame}
 use Rattle.gw_law.specs.Source.{CountsFrom, Tells, is_overflow, opened_by, sessions_in}
 use Rattle.gw_law.proofs.Stores.{store, Adds}
-use Rattle.gw_law.proofs.Tellings.{all-push, counts-push, with_frame, zip-grow, zip-push, zip-stored}
+use Rattle.gw_law.proofs.Tellings.{counts-push, with_frame, zip-grow, zip-stored}
+use Rattle.gw_law.proofs.Lists.{all-push, all-weaker, none-some, zip-push}
 
 -- a record ended by that tick, and its session is one of the first ones
 pub record IsOver (now seq : ℕ) (told : SessionRecord) : Type 0 where
@@ -69,18 +70,14 @@ pub record IsBusy (set : RxSet) (next seq : ℕ) (busy : Busy) (calls : List Eve
 abbrev pub Same : ℕ → List Event → List Event → Type 0
 Same path old new = (number : ℕ) → store path new number ≡ store path old number
 
-all-weaker : {A : Type 0} (P Q : A → Type 0) → ((x : A) → P x → Q x) → (xs : List A) → AllByRecursion P xs → AllByRecursion Q xs
-all-weaker P Q weaker [] all = tt
-all-weaker P Q weaker (x ∷ xs) all = (weaker x all.0, all-weaker P Q weaker xs all.1)
-
 -- the store of the sessions told stays, and time passes
 pub told-later : (set : RxSet) (old new : List Event) (before now : ℕ) (attempts : List (Cut Seen)) (records : List SessionRecord) → before ≤ now → ((number : ℕ) → number < length (sessions_in records) → store set.path.0 new number ≡ store set.path.0 old number) →
     AreTold set old before attempts records → AreTold set new now attempts records
 told-later set old new before now attempts records later same told = record {
-  tells = zip-stored set.chan.0 set.a (length (sessions_in records)) (store set.path.0 old) (store set.path.0 new) attempts records same (all-weaker (IsOver before (length (sessions_in records))) (λ (r : SessionRecord). (opened : OpenedAt) → r.opened ≡ Some opened → opened.seq < length (sessions_in records)) (λ r over. over.below) records told.over) told.tells;
+  tells = zip-stored set.chan.0 set.a (length (sessions_in records)) (store set.path.0 old) (store set.path.0 new) attempts records same (all-weaker (IsOver before (length (sessions_in records))) (λ (r : SessionRecord). (opened : OpenedAt) → r.opened ≡ Some opened → opened.seq < length (sessions_in records)) records (λ r over. over.below) told.over) told.tells;
   numbers = told.numbers;
   sessions = told.sessions;
-  over = all-weaker (IsOver before (length (sessions_in records))) (IsOver now (length (sessions_in records))) (λ r over. record { ended = omega (arith, over.ended, later); below = over.below }) records told.over;
+  over = all-weaker (IsOver before (length (sessions_in records))) (IsOver now (length (sessions_in records))) records (λ r over. record { ended = omega (arith, over.ended, later); below = over.below }) told.over;
 }
 
 pub idle-later : (set : RxSet) (next seq : ℕ) (old new : List Event) (before now : ℕ) (seen : List Seen) (records : List SessionRecord) → before ≤ now → Same set.path.0 old new → IsIdle set next seq old before seen records → IsIdle set next seq new now seen records
@@ -110,7 +107,7 @@ busy-later set next seq busy old new before now seen records later same so = rec
     bytes = so.underway.bytes;
     number = so.underway.number;
     right = so.underway.right;
-    early = all-weaker (λ (p : Piece). p.at ≤ before) (λ (p : Piece). p.at ≤ now) (λ p early. omega (arith, early, later)) (walk_of set.a so.attempt).pieces so.underway.early;
+    early = all-weaker (λ (p : Piece). p.at ≤ before) (λ (p : Piece). p.at ≤ now) (walk_of set.a so.attempt).pieces (λ p early. omega (arith, early, later)) so.underway.early;
     puts = same busy.opened.seq ∙ so.underway.puts;
   };
 }
@@ -122,7 +119,7 @@ idle-other set next seq calls seen records frame other so =
     let P : List (Cut Seen) → Type 0 = λ attempts. AreTold set calls frame.at attempts records in
     record {
       told = subst P (sym (cuts-grow (λ (s : Seen). is_start set.functional s.meaning) seen frame other)) (record {
-        tells = zip-grow set.chan.0 set.a (store set.path.0 calls) frame (attempts_in set.functional seen) records (all-weaker (IsOver frame.at (length (sessions_in records))) (λ (r : SessionRecord). r.end.0 ≤ frame.at) (λ r over. over.ended) records so.told.over) so.told.tells;
+        tells = zip-grow set.chan.0 set.a (store set.path.0 calls) frame (attempts_in set.functional seen) records (all-weaker (IsOver frame.at (length (sessions_in records))) (λ (r : SessionRecord). r.end.0 ≤ frame.at) records (λ r over. over.ended) so.told.over) so.told.tells;
         numbers = so.told.numbers;
         sessions = so.told.sessions;
         over = so.told.over;
@@ -164,9 +161,6 @@ busy-passed set next seq busy calls seen records frame so other passed =
 differ : {b : Bool} → b ≡ false → b ≡ true → ⊥
 differ other is = cc
 
-none-some : {A : Type 0} {o : Option A} {x : A} → o ≡ None → o ≡ Some x → ⊥
-none-some none is = cc
-
 next-number : (n : ℕ) → (n % 16 + 1) % 16 ≡ (n + 1) % 16
 next-number n = omega arith
 
@@ -182,7 +176,7 @@ told-push set calls now attempts records attempt told so tells n ended counts be
       numbers = rw (map-append) (counts-push 0 told.n (map (λ (r : SessionRecord). r.n) records) so.numbers (rw length-map (omega (arith, n))));
       sessions = rw sessions counts;
       over = all-push (IsOver now (length (sessions_in (records ++ told ∷ [])))) records told
-          (all-weaker (IsOver now (length (sessions_in records))) (IsOver now (length (sessions_in (records ++ told ∷ [])))) (λ r over. record { ended = over.ended; below = λ opened at. omega (arith, over.below opened at, more) }) records so.over)
+          (all-weaker (IsOver now (length (sessions_in records))) (IsOver now (length (sessions_in (records ++ told ∷ [])))) records (λ r over. record { ended = over.ended; below = λ opened at. omega (arith, over.below opened at, more) }) so.over)
           (record { ended = ended; below = λ opened at. rw sessions (below opened at) });
     }
 

@@ -12,18 +12,11 @@ use Rattle.tp_attempts.proofs.Cuts.{grow, grow_after}
 use Rattle.tp_attempts.proofs.Walks.{look-ended, walk_of-more}
 use Rattle.tp_unit.specs.Unit.{Meaning, SingleFrame, FirstFrame, ConsecutiveFrame, FlowControl, NoUnit}
 use Rattle.gw_law.specs.Source.{CountsFrom, Covers, Tells}
+use Rattle.gw_law.proofs.Lists.{all-join}
 
 -- the attempt with one more frame
 abbrev pub with_frame : Cut Seen → Seen → Cut Seen
 with_frame attempt frame = record { start = attempt.start; after = attempt.after ++ frame ∷ [] }
-
-pub all-push : {A : Type 0} (P : A → Type 0) (xs : List A) (x : A) → AllByRecursion P xs → P x → AllByRecursion P (xs ++ x ∷ [])
-all-push P [] x all one = (one, tt)
-all-push P (y ∷ xs) x all one = (all.0, all-push P xs x all.1 one)
-
-pub all-join : {A : Type 0} (P : A → Type 0) (xs ys : List A) → AllByRecursion P xs → AllByRecursion P ys → AllByRecursion P (xs ++ ys)
-all-join P [] ys all others = others
-all-join P (x ∷ xs) ys all others = (all.0, all-join P xs ys all.1 others)
 
 -- one look at a frame of that tick: it adds pieces of the tick, and a wrong number that wasn't there is of the tick
 pub record Looked (before after : Walk) (tick : ℕ) : Type 0 where
@@ -112,13 +105,6 @@ pub zip-grow : (chan address : ℕ) (stored : ℕ → List ℕ) (frame : Seen) (
     AllByRecursion (λ (told : SessionRecord). told.end.0 ≤ frame.at) records → AllZip (Tells chan address stored) attempts records → AllZip (Tells chan address stored) (grow frame attempts) records
 zip-grow chan address stored frame [] records ended tells = tells
 zip-grow chan address stored frame (attempt ∷ later) records ended tells = zip-grow_after chan address stored frame attempt later records ended tells
-
--- one attempt more, with its record
-pub zip-push : {A B : Type 0} (R : A → B → Type 0) (xs : List A) (ys : List B) (x : A) (y : B) → AllZip R xs ys → R x y → AllZip R (xs ++ x ∷ []) (ys ++ y ∷ [])
-zip-push R [] [] x y all one = (one, tt)
-zip-push R [] (z ∷ ys) x y all one = absurd all
-zip-push R (w ∷ xs) [] x y all one = absurd all
-zip-push R (w ∷ xs) (z ∷ ys) x y all one = (all.0, zip-push R xs ys x y all.1 one)
 
 -- what is put elsewhere doesn't matter
 tells-stored : (chan address : ℕ) (old new : ℕ → List ℕ) (attempt : Cut Seen) (told : SessionRecord) → ((opened : OpenedAt) → told.opened ≡ Some opened → new opened.seq ≡ old opened.seq) → Tells chan address old attempt told → Tells chan address new attempt told

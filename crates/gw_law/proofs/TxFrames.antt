@@ -1,5 +1,5 @@
 -- What a frame that leaves adds to a transmission.
-use Rattle.std.proofs.Common.{◌≡◌, ℕ, ◌-◌, ◌<◌, ◌≤◌, Bool, true, false, None, List, [], ◌∷◌, ◌++◌, length, take, refl, ap, sym, subst, ◌∙◌, arith}
+use Rattle.std.proofs.Common.{◌≡◌, ℕ, ◌-◌, ◌<◌, ◌≤◌, Bool, true, false, None, List, ◌++◌, length, take, refl, ap, sym, subst, ◌∙◌, arith}
 use Rattle.std.specs.Prelude.{nat_le}
 use Rattle.std.proofs.Math.Seq.{take-append_seam}
 use Rattle.std.proofs.lemmas.List.{length-append}
@@ -15,14 +15,11 @@ use Rattle.tp_attempts.proofs.Walks.{look-counts}
 use Rattle.tp_sender.specs.Frame.{start_with}
 use Rattle.gw_law.specs.Transfer.{is_consecutive}
 use Rattle.tp_sender.specs.Sending.{IsNoData}
+use Rattle.tp_attempts.proofs.Segments.{with_piece}
 
 -- the frame of a unit, as reassembly sees it
 abbrev pub seen_unit : Shape → ℕ → Meaning → Seen
 seen_unit shape at unit = seen_frame (address_size shape) at (frame_of shape unit)
-
--- a transmission with one piece more
-abbrev pub with_piece : Walk → ℕ → List ℕ → Walk
-with_piece walk at bytes = record { len = walk.len; size = walk.size; pieces = walk.pieces ++ record { at = at; bytes = bytes } ∷ []; wrong = walk.wrong }
 
 -- a consecutive frame of the due bytes is counted
 pub looks-next : (shape : Shape) (at number : ℕ) (bytes : List ℕ) (walk : Walk) → IsShape shape → fits_shape shape (ConsecutiveFrame number bytes) ≡ true → walk.size ≡ shape.dl → walk.wrong ≡ None →

@@ -168,7 +168,7 @@ left-step set m earlier unit records live at lies effect act told goes next so =
     (ap (λ r. (transfer_of set earlier).records ++ r) told) goes refl
     (ap (λ b. box_then b None) (sym act) ∙ ap (λ e. box_then m.did.act (box_once e (box_after earlier))) (sym at)) (ap (λ e. after_left e m.did.tick (clear_from earlier)) (sym at)) (sym next) so
 
-part-some : (shape : Shape) (len sent : ℕ) → IsShape shape → sent < len → 0 < part_after shape len sent
+pub part-some : (shape : Shape) (len sent : ℕ) → IsShape shape → sent < len → 0 < part_after shape len sent
 part-some shape len sent sound more = grind (arith, nat_tests, size_of shape sound, length-address shape.address)
 
 left-by : (set : TxSet) (m : TxMove) (earlier : List Moment) (s : Sending) (unit : Meaning) → IsShape set.shape → m.event ≡ Left → (state_from earlier).live ≡ Some s → s.phase ≡ Box → box_after earlier ≡ Some unit → s.sent < s.len →

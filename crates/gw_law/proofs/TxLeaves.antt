@@ -27,11 +27,12 @@ use Rattle.tp_unit.specs.Shape.{IsShape, address_size, fits_shape, part_of_conse
 use Rattle.tp_unit.specs.Unit.{Meaning, ConsecutiveFrame}
 use Rattle.std.proofs.lemmas.List.{map-append}
 use Rattle.gw_law.specs.Transfer.{Sends, SendsFor, Tells, Transfer, has_sent, is_consecutive, ticks_of}
-use Rattle.gw_law.proofs.TxFrames.{Begins, begins, looks-next, seen_unit, with_piece}
-use Rattle.gw_law.proofs.TxLists.{each-map, each-next, numbered-next, zip-map, zip-next}
+use Rattle.gw_law.proofs.TxFrames.{Begins, begins, looks-next, seen_unit}
+use Rattle.gw_law.proofs.Lists.{all-push, all-weaker, numbered-next, zip-push, zip-weaker}
 use Rattle.gw_law.proofs.TxMoves.{grows-same, lives-some}
 use Rattle.gw_law.proofs.TxPaces.{MayLeave, paced-next}
 use Rattle.gw_law.proofs.TxWorld.{GoesOn, Grows, IsOnWay, Lives, SoFar, Way, World, Unsent, UnderWay, sends-on, tells-on}
+use Rattle.tp_attempts.proofs.Segments.{with_piece}
 
 -- the frames that left are a transmission of the session
 pub sends-way : (shape : Shape) (t : Transfer) (seq len sent begin clear : ℕ) (taken rest : List ℕ) (cut : Cut Seen) → t.address ≡ address_size shape → slice_get t.lens seq ≡ Some len → t.read seq ≡ taken ++ rest → length taken ≡ sent →
@@ -69,7 +70,7 @@ closes t frames records told ended last cut sends (NoneSent none zero_sent) =
 closes t frames records told ended last cut sends (OneSent one is some right) =
     let more : filter has_sent (records ++ told ∷ []) ≡ filter has_sent records ++ told ∷ [] = filter-sent records told true (grind (arith, nat_tests)) in
     let Z : List DestRecord → Type 0 = λ r. AllZip (SendsFor t) (ended ++ one ∷ []) r in
-    record { all = ended ++ one ∷ []; cut = cut ∙ ap (λ l. ended ++ l) is ∙ sym (append-nil (ended ++ one ∷ [])); sends = subst Z (sym more) (zip-next (SendsFor t) ended (filter has_sent records) one told sends right) }
+    record { all = ended ++ one ∷ []; cut = cut ∙ ap (λ l. ended ++ l) is ∙ sym (append-nil (ended ++ one ∷ [])); sends = subst Z (sym more) (zip-push (SendsFor t) ended (filter has_sent records) one told sends right) }
 
 -- one more session is told of
 pub finishes : (shape : Shape) (v w : World) (told : DestRecord) (last : List (Cut Seen)) → (so : SoFar shape v) → Grows v.told w.told → AllByRecursion (λ answer. answer.tick ≤ w.told.now) w.told.answers →
@@ -78,7 +79,7 @@ pub finishes : (shape : Shape) (v w : World) (told : DestRecord) (last : List (C
 finishes shape v w told last so grows past cut records idle seq next lens unread tells last_is =
     let T : List DestRecord → Type 0 = λ r. AllByRecursion (Tells w.told) r in
     let sends : AllZip (SendsFor w.told) so.ended (filter has_sent v.told.records) =
-    zip-map (SendsFor v.told) (SendsFor w.told) so.ended (filter has_sent v.told.records) (λ c d. sends-on v.told w.told d.seq d.sent d.begin.0 d.end.0 c grows) so.sends in
+    zip-weaker (SendsFor v.told) (SendsFor w.told) so.ended (filter has_sent v.told.records) (λ c d. sends-on v.told w.told d.seq d.sent d.begin.0 d.end.0 c grows) so.sends in
     let all : Closes w.told w.told.frames v.told.records told = closes w.told w.told.frames v.told.records told so.ended last cut sends last_is in
     let Z : List DestRecord → Type 0 = λ r. AllZip (SendsFor w.told) all.all (filter has_sent r) in
     let L : Option Sending → Type 0 = λ l. Lives shape w l [] in
@@ -87,7 +88,7 @@ finishes shape v w told last so grows past cut records idle seq next lens unread
       address = grows.address ∙ so.address;
       past = past;
       numbered = rw records (numbered-next 0 v.told.records told so.numbered (omega (arith, seq)));
-      tells = subst T (sym records) (each-next (Tells w.told) v.told.records told (each-map (Tells v.told) (Tells w.told) v.told.records (λ d. tells-on v.told w.told d grows) so.tells) tells);
+      tells = subst T (sym records) (all-push (Tells w.told) v.told.records told (all-weaker (Tells v.told) (Tells w.told) v.told.records (λ d. tells-on v.told w.told d grows) so.tells) tells);
       lens = lens;
       unread = unread;
       ended = all.all;
@@ -154,7 +155,7 @@ ticks-by cut seen b is =
     filter-append (λ (s : Seen). is_consecutive s.meaning) cut.after (seen ∷ []) ∙ rw is refl in
     ap (λ l. cut.start.at ∷ map (λ (s : Seen). s.at) l) kept ∙ ap (λ l. cut.start.at ∷ l) (map-append (λ (s : Seen). s.at) (filter (λ (s : Seen). is_consecutive s.meaning) cut.after) (if b then seen ∷ [] else []))
 
-ticks-next : (cut : Cut Seen) (seen : Seen) → is_consecutive seen.meaning ≡ true → ticks_of (record { start = cut.start; after = cut.after ++ seen ∷ [] }) ≡ ticks_of cut ++ seen.at ∷ []
+pub ticks-next : (cut : Cut Seen) (seen : Seen) → is_consecutive seen.meaning ≡ true → ticks_of (record { start = cut.start; after = cut.after ++ seen ∷ [] }) ≡ ticks_of cut ++ seen.at ∷ []
 ticks-next cut seen is = ticks-by cut seen true is
 
 pub ticks-same : (cut : Cut Seen) (seen : Seen) → is_consecutive seen.meaning ≡ false → ticks_of (record { start = cut.start; after = cut.after ++ seen ∷ [] }) ≡ ticks_of cut
@@ -211,8 +212,8 @@ leaves-next shape answers clear begin now len sent number taken frames ended cut
         size = λ lt. way.size (omega (arith, count, more));
         right = way.right;
         bytes = joined-more walk.pieces piece ∙ ap (λ l. l ++ offered) way.bytes;
-        ticks = each-next (λ (p : Piece). (begin ≤ p.at) × (p.at ≤ now)) walk.pieces piece way.ticks (le, omega arith);
-        clear_is = each-next (λ (p : Piece). p.at < now + 1) walk.pieces piece (each-map (λ (p : Piece). (begin ≤ p.at) × (p.at ≤ now)) (λ (p : Piece). p.at < now + 1) walk.pieces (λ p at. omega (arith, at.1)) way.ticks) (omega arith);
+        ticks = all-push (λ (p : Piece). (begin ≤ p.at) × (p.at ≤ now)) walk.pieces piece way.ticks (le, omega arith);
+        clear_is = all-push (λ (p : Piece). p.at < now + 1) walk.pieces piece (all-weaker (λ (p : Piece). (begin ≤ p.at) × (p.at ≤ now)) (λ (p : Piece). p.at < now + 1) walk.pieces (λ p at. omega (arith, at.1)) way.ticks) (omega arith);
         paced = paced-next answers walk.pieces piece may way.paced;
       });
       every = ap (λ (w : Walk). map (λ (p : Piece). p.at) w.pieces) looked ∙ map-append (λ (p : Piece). p.at) walk.pieces (piece ∷ []) ∙ ap (λ l. l ++ now ∷ []) every ∙ sym (ticks-next cut x (ap is_consecutive (reads_back shape (ConsecutiveFrame number offered) sound fits_it)));

@@ -25,7 +25,7 @@ use Rattle.tp_unit.specs.Unit.{Meaning}
 use Rattle.gw_law.specs.Transfer.{Paced, Sends, SendsFor, Tells, Transfer, answer_after, has_sent, ticks_of}
 use Rattle.gw_law.proofs.TxFrames.{no-consecutive, looks-none, no-start, seen_unit}
 use Rattle.gw_law.proofs.TxLeaves.{ticks-same, OneSent, finishes, leaves-first, leaves-next, record_of, sends-way}
-use Rattle.gw_law.proofs.TxLists.{each-map, zip-grow, zip-map}
+use Rattle.gw_law.proofs.Lists.{all-weaker, zip-grow, zip-weaker}
 use Rattle.gw_law.proofs.TxMoves.{grows-same, lives-some}
 use Rattle.gw_law.proofs.TxPaces.{MayLeave, counts_after, may-later, may-next}
 use Rattle.gw_law.proofs.TxWorld.{Boxed, GoesOn, IsBoxed, IsOnWay, Lives, Ready, SoFar, Unanswered, Way, World, Unsent, UnderWay, sends-on, so-cut, tells-on}
@@ -267,7 +267,7 @@ other-with shape w seen ended going none so cut sends lives = record {
   address = so.address;
   past = so.past;
   numbered = so.numbered;
-  tells = each-map (Tells w.told) (Tells (adds seen w).told) w.told.records (λ told. tells-on w.told (adds seen w).told told (grows-same w.told (adds seen w).told refl refl refl (λ number. refl))) so.tells;
+  tells = all-weaker (Tells w.told) (Tells (adds seen w).told) w.told.records (λ told. tells-on w.told (adds seen w).told told (grows-same w.told (adds seen w).told refl refl refl (λ number. refl))) so.tells;
   lens = so.lens;
   unread = so.unread;
   ended = ended;
@@ -285,14 +285,14 @@ other-by shape w seen [] none so is =
     other-with shape w seen (grow seen so.ended) [] none so
     (cuts-grow (λ (s : Seen). is_start false s.meaning) w.told.frames seen (no-start seen.meaning none) ∙ ap (grow seen) at ∙ sym (append-nil (grow seen so.ended)))
     (zip-grow (SendsFor t) seen so.ended (filter has_sent w.told.records) (λ c told is. sends-same t t told.seq told.sent told.begin.0 told.end.0 c seen none refl refl refl refl is)
-    (zip-map (SendsFor w.told) (SendsFor t) so.ended (filter has_sent w.told.records) (λ c told. sends-on w.told t told.seq told.sent told.begin.0 told.end.0 c (grows-same w.told t refl refl refl (λ number. refl))) so.sends))
+    (zip-weaker (SendsFor w.told) (SendsFor t) so.ended (filter has_sent w.told.records) (λ c told. sends-on w.told t told.seq told.sent told.begin.0 told.end.0 c (grows-same w.told t refl refl refl (λ number. refl))) so.sends))
     (subst L is so.lives)
 other-by shape w seen (cut ∷ []) none so is =
     let L : List (Cut Seen) → Type 0 = λ l. Lives shape w w.told.live l in
     let t : Transfer = (adds seen w).told in
     other-with shape w seen so.ended (record { start = cut.start; after = cut.after ++ seen ∷ [] } ∷ []) none so
     (cuts-more (λ (s : Seen). is_start false s.meaning) w.told.frames seen so.ended cut (no-start seen.meaning none) (so.cut ∙ ap (λ l. so.ended ++ l) is))
-    (zip-map (SendsFor w.told) (SendsFor t) so.ended (filter has_sent w.told.records) (λ c told. sends-on w.told t told.seq told.sent told.begin.0 told.end.0 c (grows-same w.told t refl refl refl (λ number. refl))) so.sends)
+    (zip-weaker (SendsFor w.told) (SendsFor t) so.ended (filter has_sent w.told.records) (λ c told. sends-on w.told t told.seq told.sent told.begin.0 told.end.0 c (grows-same w.told t refl refl refl (λ number. refl))) so.sends)
     (on-lives shape w seen w.told.live cut none (subst L is so.lives))
 other-by shape w seen (cut ∷ second ∷ later) none so is =
     let L : List (Cut Seen) → Type 0 = λ l. Lives shape w w.told.live l in

@@ -18,9 +18,10 @@ use Rattle.tp_sender.specs.Table.{fetched, in_phase, joined_in}
 use Rattle.tp_unit.specs.declared.shape.Shape.{Shape}
 use Rattle.tp_unit.specs.Shape.{address_size, fits_shape}
 use Rattle.gw_law.specs.Transfer.{Transfer, answer_after}
-use Rattle.gw_law.proofs.TxLists.{each-map, each-next, slice_get-next}
+use Rattle.gw_law.proofs.Lists.{all-push, all-weaker}
 use Rattle.gw_law.proofs.TxPaces.{MayLeave, answer-next, counts_after, may-later, may-more, paced-more}
 use Rattle.gw_law.proofs.TxWorld.{Boxed, GoesOn, Grows, IsOnWay, Lives, Ready, SoFar, Unanswered, Way, World, Unsent, UnderWay, so-on}
+use Rattle.hub_core.proofs.Growing.{slice_get-pushed}
 
 -- nothing is added to lists and bytes
 pub grows-same : (t u : Transfer) → u.address ≡ t.address → u.answers ≡ t.answers → u.lens ≡ t.lens → ((number : ℕ) → u.read number ≡ t.read number) → Grows t u
@@ -37,7 +38,7 @@ on-way-later shape answers clear begin now later len taken walk le is = record {
   size = is.size;
   right = is.right;
   bytes = is.bytes;
-  ticks = each-map (λ (piece : Piece). (begin ≤ piece.at) × (piece.at ≤ now)) (λ (piece : Piece). (begin ≤ piece.at) × (piece.at ≤ later)) walk.pieces (λ piece at. (at.0, omega (arith, at.1, le))) is.ticks;
+  ticks = all-weaker (λ (piece : Piece). (begin ≤ piece.at) × (piece.at ≤ now)) (λ (piece : Piece). (begin ≤ piece.at) × (piece.at ≤ later)) walk.pieces (λ piece at. (at.0, omega (arith, at.1, le))) is.ticks;
   clear_is = is.clear_is;
   paced = is.paced;
 }
@@ -83,7 +84,7 @@ later-lives shape w tick (Some s) going le lives = record {
 pub later : (shape : Shape) (w : World) (tick : ℕ) → w.told.now ≤ tick → SoFar shape w → SoFar shape (at_tick tick w)
 later shape w tick le so =
     so-on shape w (at_tick tick w) so (grows-same w.told (at_tick tick w).told refl refl refl (λ number. refl))
-    (each-map (λ (answer : Answer). answer.tick ≤ w.told.now) (λ (answer : Answer). answer.tick ≤ tick) w.told.answers (λ answer at. omega (arith, at, le)) so.past)
+    (all-weaker (λ (answer : Answer). answer.tick ≤ w.told.now) (λ (answer : Answer). answer.tick ≤ tick) w.told.answers (λ answer at. omega (arith, at, le)) so.past)
     refl refl so.lens so.unread (later-lives shape w tick w.told.live so.going le so.lives)
 
 -- the session that is being sent
@@ -106,7 +107,7 @@ joined shape w len idle some so =
     so-on shape w (joins len w) so (record { address = refl; answers = ([], sym (append-nil w.told.answers)); lens = (len ∷ [], refl); read = λ number. ([], sym (append-nil (w.told.read number))) }) so.past refl refl
     (omega (arith, so.lens, length-append w.told.lens (len ∷ []))) (λ number le. so.unread number (omega (arith, le)))
     (record {
-      joined_is = slice_get-next w.told.lens len w.next so.lens;
+      joined_is = slice_get-pushed w.told.lens len w.next so.lens;
       next = refl;
       before = none.1;
       unfinished = some;
@@ -279,7 +280,7 @@ pub ignored : (shape : Shape) (w : World) (answer : Answer) → NotAwaiting w.to
 ignored shape w answer out le so =
     so-on shape w (answers answer w.told.live w) so
     (record { address = refl; answers = (answer ∷ [], refl); lens = ([], sym (append-nil w.told.lens)); read = λ number. ([], sym (append-nil (w.told.read number))) })
-    (each-next (λ (a : Answer). a.tick ≤ w.told.now) w.told.answers answer so.past le) refl refl so.lens so.unread (answered-lives shape w answer w.told.live so.going out so.lives)
+    (all-push (λ (a : Answer). a.tick ≤ w.told.now) w.told.answers answer so.past le) refl refl so.lens so.unread (answered-lives shape w answer w.told.live so.going out so.lives)
 
 -- the answer that is awaited
 unanswered-first : (clear : ℕ) (pieces : List Piece) (first : Piece) → pieces ≡ first ∷ [] → AllByRecursion (λ piece. piece.at < clear) pieces → first.at < clear
@@ -324,7 +325,7 @@ obeys shape w s phase answer is at tick box way so =
     (let P : Phase → Type 0 = λ p. Way shape w.told.answers w.clear s.begin w.told.now s.len s.number s.sent on.taken p s.since so.going in subst P at on.way) in
     so-on shape w (answers answer (Some (in_phase phase w.told.now s)) w) so
     (record { address = refl; answers = (answer ∷ [], refl); lens = ([], sym (append-nil w.told.lens)); read = λ number. ([], sym (append-nil (w.told.read number))) })
-    (each-next (λ (a : Answer). a.tick ≤ w.told.now) w.told.answers answer so.past (omega (arith, tick))) refl refl so.lens so.unread
+    (all-push (λ (a : Answer). a.tick ≤ w.told.now) w.told.answers answer so.past (omega (arith, tick))) refl refl so.lens so.unread
     (record {
       joined_is = on.joined_is;
       next = on.next;

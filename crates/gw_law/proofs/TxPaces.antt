@@ -21,10 +21,13 @@ none-by : (b : Bool) (x : Answer) (o p q : Option Answer) → (o ≡ None → p 
 none-by true x o p q on is = cc
 none-by false x o p q on is = on is
 
+pub answer-skips : (since : ℕ) (answers more : List Answer) → answer_after since answers ≡ None → answer_after since (answers ++ more) ≡ answer_after since more
+answer-skips since [] more is = refl
+answer-skips since (x ∷ answers) more is =
+    none-by (counts_after since x) x (answer_after since answers) (answer_after since (answers ++ more)) (answer_after since more) (answer-skips since answers more) is
+
 pub answer-next : (since : ℕ) (answers : List Answer) (a : Answer) → answer_after since answers ≡ None → answer_after since (answers ++ a ∷ []) ≡ (if counts_after since a then Some a else None)
-answer-next since [] a is = refl
-answer-next since (x ∷ answers) a is =
-    none-by (counts_after since x) x (answer_after since answers) (answer_after since (answers ++ a ∷ [])) (if counts_after since a then Some a else None) (answer-next since answers a) is
+answer-next since answers a is = answer-skips since answers (a ∷ []) is
 
 permits-by : (o p : Option Answer) (tick : ℕ) → ((a : Answer) → o ≡ Some a → p ≡ Some a) → Permits o tick → Permits p tick
 permits-by None p tick on may = absurd may

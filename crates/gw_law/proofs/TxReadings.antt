@@ -1,6 +1,6 @@
 -- The readings that a sender's calls make: their lengths and cells are what it joined and read.
-use Rattle.std.proofs.Common.{◌≡◌, ℕ, ◌+◌, ◌<◌, false, Option, Some, None, List, [], ◌∷◌, ◌++◌, map, refl, arith, eq-eqb}
-use Rattle.hub_core.specs.View.{Event, Change, Reading, at_two, reading_new, grow, Joining, Missed, Saw, Read, Parted}
+use Rattle.std.proofs.Common.{◌≡◌, ℕ, ◌+◌, ◌<◌, false, Option, Some, None, List, [], ◌∷◌, ◌++◌, map, refl, arith}
+use Rattle.hub_core.specs.View.{Event, Change, Reading, reading_new, grow, Joining, Missed, Saw, Read, Parted}
 use Rattle.hub_core.specs.declared.port.Seen.{Seen}
 use Rattle.hub_core.specs.declared.record.DestResult.{DestResult}
 use Rattle.hub_core.specs.declared.record.DestResult.TheVariants.{Sent, SourceEnded, BsTimeout, FcOverflow, InvalidFs, CsTimeout, AsTimeout, RunEnd as EndOfRun}
@@ -20,6 +20,7 @@ use Rattle.gw_law.proofs.Sides.{Fill, Side, fill-adds, fill-changes, fill-join, 
 use Rattle.gw_law.proofs.TxLaw.{so-far, world_of}
 use Rattle.gw_law.proofs.TxMoves.{lives-some}
 use Rattle.gw_law.proofs.TxWorld.{SoFar}
+use Rattle.hub_core.proofs.Growing.{at_two-same}
 
 -- the readings of a path and destination
 abbrev pub reading : ℕ → ℕ → Side Reading ℕ
@@ -27,9 +28,6 @@ reading path dest = record { items = λ v. v.readings path dest; fixed = λ r. r
 
 abbrev pub FillBy : TxSet → ℕ → List Event → Type 0
 FillBy set n calls = Fill (reading set.path.0 set.dest.0) n calls
-
-at_two-same : {A : Type 0} (p d : ℕ) (x : A) (f : ℕ → ℕ → A) → at_two p d x f p d ≡ x
-at_two-same p d x f = rw (eq-eqb p p refl, eq-eqb d d refl) refl
 
 fill-missed : (set : TxSet) (n seq : ℕ) → FillBy set n (Missed set.path.0 set.dest.0 seq ∷ [])
 unfolding grow

@@ -17,7 +17,7 @@ use Rattle.tp_unit.specs.declared.shape.Shape.{Shape}
 use Rattle.tp_unit.specs.Shape.{address_size, fits_shape}
 use Rattle.tp_unit.specs.Unit.{Meaning}
 use Rattle.gw_law.specs.Transfer.{NumberedFrom, Paced, Sends, SendsFor, Tells, Transfer, answer_after, has_sent, ticks_of}
-use Rattle.gw_law.proofs.TxLists.{each-map, slice_get-more, zip-map}
+use Rattle.gw_law.proofs.Lists.{all-weaker, slice_get-more, zip-weaker}
 use Rattle.gw_law.proofs.TxPaces.{MayLeave, paced-more}
 
 -- what is told, and besides: what lies in the box, the tick after the last frame's, the number of the next session
@@ -150,13 +150,13 @@ so-cut shape v w going so grows past cut records lens unread lives =
       address = grows.address ∙ so.address;
       past = past;
       numbered = rw records so.numbered;
-      tells = subst T (sym records) (each-map (Tells v.told) (Tells w.told) v.told.records (λ told. tells-on v.told w.told told grows) so.tells);
+      tells = subst T (sym records) (all-weaker (Tells v.told) (Tells w.told) v.told.records (λ told. tells-on v.told w.told told grows) so.tells);
       lens = lens;
       unread = unread;
       ended = so.ended;
       going = going;
       cut = cut;
-      sends = subst Z (sym records) (zip-map (SendsFor v.told) (SendsFor w.told) so.ended (filter has_sent v.told.records) (λ c told. sends-on v.told w.told told.seq told.sent told.begin.0 told.end.0 c grows) so.sends);
+      sends = subst Z (sym records) (zip-weaker (SendsFor v.told) (SendsFor w.told) so.ended (filter has_sent v.told.records) (λ c told. sends-on v.told w.told told.seq told.sent told.begin.0 told.end.0 c grows) so.sends);
       lives = lives;
     }
 

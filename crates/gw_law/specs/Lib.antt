@@ -1,4 +1,13 @@
 pub mod Delivery
+pub mod JointCauses
+pub mod Emission
+pub mod FlowControls
+pub mod Lawful
 pub mod Pool
+pub mod PoolOfRoute
+pub mod ReceptionCauses
+pub mod Run
 pub mod Source
+pub mod Timely
 pub mod Transfer
+pub mod TransmissionCauses

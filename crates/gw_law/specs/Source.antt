@@ -1,6 +1,7 @@
 -- What the records of a source channel say of the frames that came on it (ISO 15765-2, segmentation and reassembly).
-use Rattle.std.specs.Prelude.{◌≡◌, ℕ, ◌+◌, ◌≤◌, ◌↔◌, Bool, true, false, Some, option_map, option_to_list, is_some, not, List, [], ◌∷◌, ◌++◌, length, map, take}
+use Rattle.std.specs.Prelude.{◌≡◌, ℕ, ◌≤◌, ◌↔◌, Bool, true, false, Some, option_map, option_to_list, is_some, not, List, [], ◌++◌, length, map, take}
 use Rattle.std.specs.List.{AllByRecursion, AllZip, flat_map}
+pub use Rattle.hub_core.specs.Joint.{CountsFrom}
 use Rattle.hub_core.specs.declared.record.OpenedAt.{OpenedAt}
 use Rattle.hub_core.specs.declared.record.SessionRecord.{SessionRecord}
 use Rattle.hub_core.specs.declared.record.SessionResult.{SessionResult}
@@ -50,11 +51,6 @@ pub record Tells (chan address : ℕ) (stored : ℕ → List ℕ) (attempt : Cut
   pub wrong : (want got : ℕ) → told.result ≡ WrongSn want got →
       (told.bytes ≡ length (reassembled address attempt)) × ((walk_of address attempt).wrong ≡ Some (record { at = told.end.0; want = want; got = got }))
   pub none_passed : (wrong : Wrong) → (walk_of address attempt).wrong ≡ Some wrong → told.end.0 ≤ wrong.at
-
--- the numbers from one on, each once and in order
-abbrev pub CountsFrom : ℕ → List ℕ → Type 0
-CountsFrom first [] = Unit {0}
-CountsFrom first (number ∷ numbers) = (number ≡ first) × CountsFrom (first + 1) numbers
 
 -- the numbers of the sessions that were opened
 abbrev pub opened_by : SessionRecord → List ℕ

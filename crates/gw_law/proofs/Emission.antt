@@ -1,0 +1,231 @@
+-- What the buses write in each tick, by the works of a run.
+use Rattle.std.proofs.Common.{◌≡◌, inl, inr, ℕ, ◌+◌, ◌<◌, ◌≤◌, Option, None, Some, List, [], ◌∷◌, ◌++◌, length, refl, ap, sym, ◌∙◌, subst, arith, append-nil, append_assoc}
+use Rattle.std.specs.List.{AllByRecursion}
+use Rattle.std.proofs.lemmas.Bool.Decides.{eqb_tells}
+use Rattle.tp_receiver.specs.declared.set.RxSet.{RxSet}
+use Rattle.tp_receiver.specs.Receiving.{RxInput, Came, TimerTurn, FlowControlLeft, RunEnds}
+use Rattle.tp_receiver.specs.Running.{Happened, RxTurn, state_of}
+use Rattle.tp_sender.specs.Sending.{Moment, OtherLeft, Stepped, Written, box_after, box_then, left_by, written_at, written_of}
+use Rattle.tp_sender.specs.declared.event.TxEvent.{TxEvent}
+use Rattle.tp_sender.specs.declared.event.TxEvent.TheVariants.{Turn, Fc, Left, RunEnd}
+use Rattle.tp_sender.specs.declared.set.TxSet.{TxSet}
+use Rattle.tp_unit.specs.declared.shape.Shape.{Shape}
+use Rattle.tp_unit.specs.Unit.{BoxMeaning, Keeps, Offers, Revokes, Meaning}
+use Rattle.gw_law.specs.Emission.{BusLaw, EmissionLaw, NeverFall, WritesControl, left_in}
+use Rattle.gw_law.specs.Run.{AnswersIn, AreTicks, CameIn, ControlLeaves, EndsReceiving, FrameLeaves, IsAnswerIn, IsEnd, IsFull, IsRun, IsStepIn, ReceivesIn, SendsIn, Work, control_after, control_at, control_once, controls_by, moments_of, route_of, tick_after, turns_of}
+use Rattle.gw_law.proofs.DataFrames.{AreSteps, are-data}
+use Rattle.gw_law.proofs.Offers.{IsControl, IsControlAct, control-act, control-fits}
+use Rattle.gw_law.proofs.Lists.{all-join}
+
+-- the ticks strictly rise, from this one on and below that one
+abbrev pub Rise : ℕ → List Written → ℕ → Type 0
+Rise from [] end = from ≤ end
+Rise from (w ∷ later) end = (from ≤ w.tick) × Rise (w.tick + 1) later end
+
+rise-later : (from end last : ℕ) (written : List Written) → end ≤ last → Rise from written end → Rise from written last
+rise-later from end last [] later rise = omega (arith, later, rise)
+rise-later from end last (w ∷ written) later rise = (rise.0, rise-later (w.tick + 1) end last written later rise.1)
+
+rise-next : (from end : ℕ) (written : List Written) (w : Written) → end ≤ w.tick → Rise from written end → Rise from (written ++ w ∷ []) (w.tick + 1)
+rise-next from end [] w later rise = (omega (arith, later, rise), omega arith)
+rise-next from end (v ∷ written) w later rise = (rise.0, rise-next (v.tick + 1) end written w later rise.1)
+
+-- what lies in a box leaves, or nothing
+rise-written : (shape : Shape) (from end tick : ℕ) (written : List Written) (lies : Option Meaning) → end ≤ tick → Rise from written end → Rise from (written ++ written_of shape tick lies) (tick + 1)
+rise-written shape from end tick written None later rise = rw append-nil (rise-later from end (tick + 1) written (omega (arith, later)) rise)
+rise-written shape from end tick written (Some meaning) later rise = rise-next from end written _ later rise
+
+never-fall : (from start end : ℕ) (written : List Written) → start ≤ from → Rise from written end → NeverFall start written
+never-fall from start end [] le rise = tt
+never-fall from start end (w ∷ written) le rise = (omega (arith, le, rise.0), never-fall (w.tick + 1) w.tick end written (omega arith) rise.1)
+
+rise-end : (from end : ℕ) (written : List Written) → Rise from written end → from ≤ end
+rise-end from end [] rise = rise
+rise-end from end (w ∷ written) rise = let above : w.tick + 1 ≤ end = rise-end (w.tick + 1) end written rise.1 in omega (arith, rise.0, above)
+
+all-by : (from end last : ℕ) (written : List Written) → end ≤ last + 1 → Rise from written end → AllByRecursion (λ (w : Written). w.tick ≤ last) written
+all-by from end last [] by rise = tt
+all-by from end last (w ∷ written) by rise = let above : w.tick + 1 ≤ end = rise-end (w.tick + 1) end written rise.1 in (omega (arith, by, above), all-by (w.tick + 1) end last written by rise.1)
+
+-- none left below the first tick, and one at most in each
+none-left : (tick from end : ℕ) (written : List Written) → tick < from → Rise from written end → left_in tick written ≡ []
+none-left tick from end [] below rise = refl
+none-left tick from end (w ∷ written) below rise = elim (eqb_tells w.tick tick) [
+  | inl is ↦ absurd (omega (arith, is.1, below, rise.0))
+  | inr other ↦ rw other.0 (none-left tick (w.tick + 1) end written (omega (arith, below, rise.0)) rise.1)
+]
+
+pub at-most-once : (tick from end : ℕ) (written : List Written) → Rise from written end → length (left_in tick written) ≤ 1
+at-most-once tick from end [] rise = omega arith
+at-most-once tick from end (w ∷ written) rise = elim (eqb_tells w.tick tick) [
+  | inl is ↦ rw (is.0, none-left tick (w.tick + 1) end written (omega (arith, is.1)) rise.1) (omega arith)
+  | inr other ↦ rw other.0 (at-most-once tick (w.tick + 1) end written rise.1)
+]
+
+-- where a bus may write more than one frame in a tick, no tick is full
+pub never-full : (budget tick from end : ℕ) (written : List Written) → 1 < budget → Rise from written end → IsFull written budget tick → ⊥
+never-full budget tick from end written more rise full = let once : length (left_in tick written) ≤ 1 = at-most-once tick from end written rise in omega (arith, more, once, full)
+
+emits : (budget from end : ℕ) (written : List Written) → 1 ≤ budget → Rise from written end → EmissionLaw budget written
+emits budget from end written some rise = record {
+  order = never-fall from 0 end written (omega arith) rise;
+  most = λ tick. let once : length (left_in tick written) ≤ 1 = at-most-once tick from end written rise in omega (arith, some, once);
+  once = λ tick. at-most-once tick from end written rise;
+}
+
+-- a flow control that came for the sender writes nothing
+answer-silent : (shape : Shape) (tick at : ℕ) (event : TxEvent) (lies : Option Meaning) → AnswersIn tick event at → written_at shape event at lies ≡ []
+answer-silent shape tick at Turn lies is = absurd is
+answer-silent shape tick at (Fc fs bs st) lies is = refl
+answer-silent shape tick at Left lies is = absurd is
+answer-silent shape tick at RunEnd lies is = absurd is
+
+answers-silent : (shape : Shape) (tick : ℕ) (answers earlier : List Moment) → AllByRecursion (IsAnswerIn tick) answers → left_by shape (answers ++ earlier) ≡ left_by shape earlier
+answers-silent shape tick [] earlier all = refl
+answers-silent shape tick (Stepped m ∷ answers) earlier all = rw (answer-silent shape tick m.did.tick m.event (box_after (answers ++ earlier)) all.0, append-nil) (answers-silent shape tick answers earlier all.1)
+answers-silent shape tick (OtherLeft at frame ∷ answers) earlier all = absurd all.0
+
+frame-leaves : (shape : Shape) (tick : ℕ) (lies : Option Meaning) (left before : List Moment) → box_after before ≡ lies → FrameLeaves tick lies left → left_by shape (left ++ before) ≡ left_by shape before ++ written_of shape tick lies
+frame-leaves shape tick None left before is row = rw (row, append-nil) refl
+frame-leaves shape tick (Some meaning) [] before is row = absurd row
+frame-leaves shape tick (Some meaning) (Stepped m ∷ more) before is row = rw (row.1, row.0.0, row.0.1, is) refl
+frame-leaves shape tick (Some meaning) (OtherLeft at frame ∷ more) before is row = absurd row.0
+
+-- what the sender's part of a tick writes
+pub sends-written : (shape : Shape) (tick : ℕ) (earlier moments : List Moment) → SendsIn tick earlier moments → (lies : Option Meaning) × (left_by shape (moments ++ earlier) ≡ left_by shape earlier ++ written_of shape tick lies)
+sends-written shape tick earlier moments sends =
+    let before : List Moment = Stepped sends.turn ∷ (sends.answers ++ earlier) in
+    let silent : left_by shape before ≡ left_by shape earlier = rw (sends.turn_is, append-nil) (answers-silent shape tick sends.answers earlier sends.answers_only) in
+    let is : moments ++ earlier ≡ sends.left ++ before = ap (λ m. m ++ earlier) sends.moments_are ∙ append_assoc sends.left (Stepped sends.turn ∷ sends.answers) earlier in
+    (box_after before, ap (left_by shape) is ∙ frame-leaves shape tick (box_after before) sends.left before refl sends.left_is ∙ ap (λ l. l ++ written_of shape tick (box_after before)) silent)
+
+frames-rise : (shape : Shape) (sizes : List ℕ) (works : List Work) → AreTicks sizes works → Rise 0 (left_by shape (moments_of works)) (tick_after works)
+frames-rise shape sizes [] ticks = omega arith
+frames-rise shape sizes (work ∷ earlier) ticks =
+    let sent = sends-written shape work.tick (moments_of earlier) work.moments ticks.0.sends in
+    rw sent.1 (rise-written shape 0 (tick_after earlier) work.tick (left_by shape (moments_of earlier)) sent.0 ticks.0.later (frames-rise shape sizes earlier ticks.1))
+
+-- a frame that came for the receiver writes nothing
+came-silent : (shape : Shape) (tick at : ℕ) (event : RxInput) (lies : Option Meaning) → CameIn tick event at → control_at shape event at lies ≡ []
+came-silent shape tick at (Came size meaning) lies is = refl
+came-silent shape tick at TimerTurn lies is = absurd is
+came-silent shape tick at FlowControlLeft lies is = absurd is
+came-silent shape tick at RunEnds lies is = absurd is
+
+all-came-silent : (shape : Shape) (tick : ℕ) (came earlier : List RxTurn) → AllByRecursion (λ (turn : RxTurn). CameIn tick turn.event turn.move.tick) came → controls_by shape (came ++ earlier) ≡ controls_by shape earlier
+all-came-silent shape tick [] earlier all = refl
+all-came-silent shape tick (turn ∷ came) earlier all = rw (came-silent shape tick turn.move.tick turn.event (control_after (came ++ earlier)) all.0, append-nil) (all-came-silent shape tick came earlier all.1)
+
+control-leaves : (shape : Shape) (tick : ℕ) (lies : Option Meaning) (left before : List RxTurn) → control_after before ≡ lies → ControlLeaves tick lies left → controls_by shape (left ++ before) ≡ controls_by shape before ++ written_of shape tick lies
+control-leaves shape tick None left before is row = rw (row, append-nil) refl
+control-leaves shape tick (Some meaning) [] before is row = absurd row
+control-leaves shape tick (Some meaning) (turn ∷ more) before is row = rw (row.2, row.0, row.1, is) refl
+
+-- what the receiver's part of a tick writes
+pub receives-written : (shape : Shape) (tick : ℕ) (earlier turns : List RxTurn) → ReceivesIn tick earlier turns → (lies : Option Meaning) × (controls_by shape (turns ++ earlier) ≡ controls_by shape earlier ++ written_of shape tick lies)
+receives-written shape tick earlier turns receives =
+    let before : List RxTurn = receives.timer ∷ (receives.came ++ earlier) in
+    let silent : controls_by shape before ≡ controls_by shape earlier = rw (receives.timer_is, append-nil) (all-came-silent shape tick receives.came earlier receives.came_only) in
+    let is : turns ++ earlier ≡ receives.left ++ before = ap (λ t. t ++ earlier) receives.turns_are ∙ append_assoc receives.left (receives.timer ∷ receives.came) earlier in
+    (control_after before, ap (controls_by shape) is ∙ control-leaves shape tick (control_after before) receives.left before refl receives.left_is ∙ ap (λ l. l ++ written_of shape tick (control_after before)) silent)
+
+controls-rise : (shape : Shape) (sizes : List ℕ) (works : List Work) → AreTicks sizes works → Rise 0 (controls_by shape (turns_of works)) (tick_after works)
+controls-rise shape sizes [] ticks = omega arith
+controls-rise shape sizes (work ∷ earlier) ticks =
+    let left = receives-written shape work.tick (turns_of earlier) work.turns ticks.0.receives in
+    rw left.1 (rise-written shape 0 (tick_after earlier) work.tick (controls_by shape (turns_of earlier)) left.0 ticks.0.later (controls-rise shape sizes earlier ticks.1))
+
+-- the end writes nothing
+end-silent : (shape : Shape) (last : ℕ) (moments earlier : List Moment) → AllByRecursion (IsStepIn last RunEnd) moments → left_by shape (moments ++ earlier) ≡ left_by shape earlier
+end-silent shape last [] earlier all = refl
+end-silent shape last (Stepped m ∷ moments) earlier all = rw (all.0.0, append-nil) (end-silent shape last moments earlier all.1)
+end-silent shape last (OtherLeft at frame ∷ moments) earlier all = absurd all.0
+
+receiver-end-silent : (shape : Shape) (last : ℕ) (turns earlier : List RxTurn) → EndsReceiving last turns → controls_by shape (turns ++ earlier) ≡ controls_by shape earlier
+receiver-end-silent shape last [] earlier ends = absurd ends
+receiver-end-silent shape last (turn ∷ more) earlier ends = rw (ends.2, ends.0, append-nil) refl
+
+-- the ticks of what a run wrote strictly rise, up to its last tick
+pub frames-of-run-rise : (shape : Shape) (sizes : List ℕ) (path last : ℕ) (ticks : List Work) (end : Work) → AreTicks sizes ticks → IsEnd sizes path last ticks end → Rise 0 (left_by shape (moments_of (end ∷ ticks))) (last + 1)
+frames-of-run-rise shape sizes path last ticks end are ends =
+    rw (end-silent shape last end.moments (moments_of ticks) ends.sends) (rise-later 0 (tick_after ticks) (last + 1) (left_by shape (moments_of ticks)) ends.in_time (frames-rise shape sizes ticks are))
+
+pub controls-of-run-rise : (shape : Shape) (sizes : List ℕ) (path last : ℕ) (ticks : List Work) (end : Work) → AreTicks sizes ticks → IsEnd sizes path last ticks end → Rise 0 (controls_by shape (turns_of (end ∷ ticks))) (last + 1)
+controls-of-run-rise shape sizes path last ticks end are ends =
+    rw (receiver-end-silent shape last end.turns (turns_of ticks) ends.receives) (rise-later 0 (tick_after ticks) (last + 1) (controls_by shape (turns_of ticks)) ends.in_time (controls-rise shape sizes ticks are))
+
+-- what lies in the receiver's box is one of its two flow controls
+abbrev pub IsControlIn : RxSet → Option Meaning → Type 0
+IsControlIn set None = Unit {0}
+IsControlIn set (Some meaning) = IsControl set meaning
+
+lies-then : (set : RxSet) (act : BoxMeaning) (lies : Option Meaning) → IsControlAct set act → IsControlIn set lies → IsControlIn set (box_then act lies)
+lies-then set Keeps lies is so = so
+lies-then set (Offers meaning) lies is so = is
+lies-then set Revokes lies is so = tt
+
+lies-once : (set : RxSet) (event : RxInput) (lies : Option Meaning) → IsControlIn set lies → IsControlIn set (control_once event lies)
+lies-once set (Came size meaning) lies so = so
+lies-once set TimerTurn lies so = so
+lies-once set FlowControlLeft lies so = tt
+lies-once set RunEnds lies so = so
+
+pub lies-control : (set : RxSet) (turns : List RxTurn) → Happened set turns → IsControlIn set (control_after turns)
+lies-control set [] happened = tt
+lies-control set (turn ∷ earlier) happened =
+    lies-then set turn.move.act (control_once turn.event (control_after earlier)) (control-act set (state_of earlier) turn.event turn.move happened.1) (lies-once set turn.event (control_after earlier) (lies-control set earlier happened.2))
+
+written-control : (set : RxSet) (shape : Shape) (event : RxInput) (tick : ℕ) (lies : Option Meaning) → IsControlIn set lies → AllByRecursion (WritesControl set shape) (control_at shape event tick lies)
+written-control set shape (Came size meaning) tick lies so = tt
+written-control set shape TimerTurn tick lies so = tt
+written-control set shape FlowControlLeft tick None so = tt
+written-control set shape FlowControlLeft tick (Some meaning) so = (record { meaning = meaning; either = so; fits = control-fits set shape meaning so; frame = refl }, tt)
+written-control set shape RunEnds tick lies so = tt
+
+pub are-controls : (set : RxSet) (shape : Shape) (turns : List RxTurn) → Happened set turns → AllByRecursion (WritesControl set shape) (controls_by shape turns)
+are-controls set shape [] happened = tt
+are-controls set shape (turn ∷ earlier) happened =
+    all-join (WritesControl set shape) (controls_by shape earlier) (control_at shape turn.event turn.move.tick (control_after earlier)) (are-controls set shape earlier happened.2)
+    (written-control set shape turn.event turn.move.tick (control_after earlier) (lies-control set earlier happened.2))
+
+-- only the sender's own frames leave on the destination's bus
+steps-answers : (tick : ℕ) (answers earlier : List Moment) → AllByRecursion (IsAnswerIn tick) answers → AreSteps earlier → AreSteps (answers ++ earlier)
+steps-answers tick [] earlier all so = so
+steps-answers tick (Stepped m ∷ answers) earlier all so = steps-answers tick answers earlier all.1 so
+steps-answers tick (OtherLeft at frame ∷ answers) earlier all so = absurd all.0
+
+steps-left : (tick : ℕ) (lies : Option Meaning) (left before : List Moment) → FrameLeaves tick lies left → AreSteps before → AreSteps (left ++ before)
+steps-left tick None left before row so = rw row so
+steps-left tick (Some meaning) [] before row so = absurd row
+steps-left tick (Some meaning) (Stepped m ∷ more) before row so = rw row.1 so
+steps-left tick (Some meaning) (OtherLeft at frame ∷ more) before row so = absurd row.0
+
+works-steps : (sizes : List ℕ) (works : List Work) → AreTicks sizes works → AreSteps (moments_of works)
+works-steps sizes [] ticks = tt
+works-steps sizes (work ∷ earlier) ticks =
+    let sends = ticks.0.sends in
+    let is : moments_of (work ∷ earlier) ≡ sends.left ++ (Stepped sends.turn ∷ (sends.answers ++ moments_of earlier)) =
+    ap (λ m. m ++ moments_of earlier) sends.moments_are ∙ append_assoc sends.left (Stepped sends.turn ∷ sends.answers) (moments_of earlier) in
+    subst AreSteps (sym is)
+    (steps-left work.tick (box_after (Stepped sends.turn ∷ (sends.answers ++ moments_of earlier))) sends.left (Stepped sends.turn ∷ (sends.answers ++ moments_of earlier)) sends.left_is
+    (steps-answers work.tick sends.answers (moments_of earlier) sends.answers_only (works-steps sizes earlier ticks.1)))
+
+end-steps : (last : ℕ) (moments earlier : List Moment) → AllByRecursion (IsStepIn last RunEnd) moments → AreSteps earlier → AreSteps (moments ++ earlier)
+end-steps last [] earlier all so = so
+end-steps last (Stepped m ∷ moments) earlier all so = end-steps last moments earlier all.1 so
+end-steps last (OtherLeft at frame ∷ moments) earlier all so = absurd all.0
+
+-- both buses of a run
+pub bus_law_of : (rx : RxSet) (tx : TxSet) (shape : Shape) (source_budget budget : ℕ) (sizes : List ℕ) (last count free : ℕ) (ticks : List Work) (end : Work) → 1 ≤ source_budget → 1 ≤ budget → IsRun rx tx sizes last count free ticks end →
+    BusLaw (route_of rx tx shape source_budget budget sizes last count free ticks end)
+bus_law_of rx tx shape source_budget budget sizes last count free ticks end some_source some run =
+    let frames : Rise 0 (left_by tx.shape (moments_of (end ∷ ticks))) (last + 1) = frames-of-run-rise tx.shape sizes rx.path.0 last ticks end run.ticks_are run.ends in
+    let controls : Rise 0 (controls_by shape (turns_of (end ∷ ticks))) (last + 1) = controls-of-run-rise shape sizes rx.path.0 last ticks end run.ticks_are run.ends in
+    record {
+      frames = emits budget 0 (last + 1) (left_by tx.shape (moments_of (end ∷ ticks))) some frames;
+      controls = emits source_budget 0 (last + 1) (controls_by shape (turns_of (end ∷ ticks))) some_source controls;
+      frames_end = all-by 0 (last + 1) last (left_by tx.shape (moments_of (end ∷ ticks))) (omega arith) frames;
+      controls_end = all-by 0 (last + 1) last (controls_by shape (turns_of (end ∷ ticks))) (omega arith) controls;
+      are_data = are-data tx (moments_of (end ∷ ticks)) (end-steps last end.moments (moments_of ticks) run.ends.sends (works-steps sizes ticks run.ticks_are)) run.sent;
+      are_controls = are-controls rx shape (turns_of (end ∷ ticks)) run.received;
+    }

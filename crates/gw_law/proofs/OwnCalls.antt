@@ -1,0 +1,288 @@
+-- Whose calls a receiver's and a sender's steps make: those of its path's writer and of its destination, and no others.
+use Rattle.std.proofs.Common.{◌≡◌, ℕ, ◌+◌, Bool, true, false, length, Option, Some, None, List, [], ◌∷◌, ◌++◌, refl, ap, sym, ◌∙◌, append-nil, append_assoc}
+use Rattle.std.specs.Prelude.{map}
+use Rattle.std.specs.List.{AllByRecursion}
+use Rattle.hub_core.specs.View.{Event, View, grow, grows, Took, Refused, Entered, Asked, Put, Published, Joining, Missed, Saw, Read, Closed, Parted}
+use Rattle.hub_core.specs.declared.port.Seen.{Seen}
+use Rattle.hub_core.specs.declared.record.DestResult.{DestResult}
+use Rattle.hub_core.specs.declared.record.DestResult.TheVariants.{Sent, SourceEnded, BsTimeout, FcOverflow, InvalidFs, CsTimeout, AsTimeout, RunEnd as EndOfRun}
+use Rattle.hub_core.specs.declared.record.RxLimit.TheVariants.{Cf as CfLimit}
+use Rattle.hub_core.specs.declared.record.SessionResult.{SessionResult}
+use Rattle.hub_core.specs.declared.record.SessionResult.TheVariants.{Whole, WrongSn, RxTimeout, Restarted, NoRoom, NoReaders, RunEnd as RunEnded}
+use Rattle.hub_core.specs.declared.record.OpenedAt.{OpenedAt}
+use Rattle.hub_core.specs.declared.record.TxWait.TheVariants.{Turn as ForTurn}
+use Rattle.tp_receiver.specs.declared.set.RxSet.{RxSet}
+use Rattle.tp_receiver.specs.Receiving.{Busy, RxState, RxInput, RxMove, Came, TimerTurn, FlowControlLeft, RunEnds, begun, gone_on}
+use Rattle.tp_receiver.specs.Rows.{Begins, Carries, ConsecutiveRow, Ends, FirstRow, Grants, Interrupts, Opens, RxStep, Starts, asks}
+use Rattle.tp_receiver.specs.Rows.{NoneReads, All, NoBuffer, Completes, NoBufferFirst, Opened, NoneReadsOn, TooLittleRoom, Adds, Fills, TooLong, TooShort, WrongNumber, RightNumber, InTime, TooLate as CameTooLate, FromBox, NotAwaited}
+use Rattle.tp_receiver.specs.Running.{Happened as Received, RxTurn, calls_by as received_calls, state_of}
+use Rattle.tp_sender.specs.declared.event.TxEvent.{TxEvent}
+use Rattle.tp_sender.specs.declared.event.TxEvent.TheVariants.{Turn, Fc as CameFc, Left, RunEnd}
+use Rattle.tp_sender.specs.declared.live.Phase.{Phase}
+use Rattle.tp_sender.specs.declared.live.Phase.TheVariants.{Start, Bytes, Box, Fc, Gap}
+use Rattle.tp_sender.specs.declared.set.TxSet.{TxSet}
+use Rattle.tp_sender.specs.Sending.{Happened as WasSent, Moment, OtherLeft, Stepped, calls_by as sent_calls, state_from}
+use Rattle.tp_sender.specs.State.{Sending}
+use Rattle.tp_sender.specs.Table.{Did, Ends as EndsSending, FrameLeft, IdleRow, InAnswer, InBytes, InStart, InTurn, InWait, Lacks, LiveRow, TxMove, TxRow, all_sent, fetched, in_phase, joined_in, revoked, wait_of}
+use Rattle.tp_sender.specs.Table.{AsksToWait, Continues as FcContinues, Due, Enough, FindsOne, FirstLeft, GapLasts, GapOver, IsInvalid, Joins, LastLeft, MayCome, NeverReached, NextLeft, NotDue, NotReached, NothingStands, NothingToSend, Overflows as FcOverflows, Reached, Short, TooLate, WriterGone}
+use Rattle.tp_unit.specs.Unit.{BoxMeaning, Keeps, Meaning, SingleFrame, FirstFrame, ConsecutiveFrame, FlowControl, NoUnit}
+use Rattle.gw_law.proofs.Lists.{all-join}
+
+-- a call of a path's writer, or its use of the pool
+abbrev pub OfWriter : ℕ → Event → Type 0
+OfWriter path (Took number buf size need) = Unit {0}
+OfWriter path (Refused number free need) = Unit {0}
+OfWriter path (Entered p seq buf number size len readers) = p ≡ path
+OfWriter path (Asked p seq cells readers) = p ≡ path
+OfWriter path (Put p seq cell) = p ≡ path
+OfWriter path (Published p seq bytes) = p ≡ path
+OfWriter path (Joining p dest seq buf len) = ⊥
+OfWriter path (Missed p dest seq) = ⊥
+OfWriter path (Saw p dest seq cells bytes writer) = ⊥
+OfWriter path (Read p dest seq cell) = ⊥
+OfWriter path (Closed p seq freed) = p ≡ path
+OfWriter path (Parted p dest seq freed) = ⊥
+
+-- a call of a path's destination
+abbrev pub OfDest : (path dest : ℕ) → Event → Type 0
+OfDest path dest (Took number buf size need) = ⊥
+OfDest path dest (Refused number free need) = ⊥
+OfDest path dest (Entered p seq buf number size len readers) = ⊥
+OfDest path dest (Asked p seq cells readers) = ⊥
+OfDest path dest (Put p seq cell) = ⊥
+OfDest path dest (Published p seq bytes) = ⊥
+OfDest path dest (Joining p d seq buf len) = (p ≡ path) × (d ≡ dest)
+OfDest path dest (Missed p d seq) = (p ≡ path) × (d ≡ dest)
+OfDest path dest (Saw p d seq cells bytes writer) = (p ≡ path) × (d ≡ dest)
+OfDest path dest (Read p d seq cell) = (p ≡ path) × (d ≡ dest)
+OfDest path dest (Closed p seq freed) = ⊥
+OfDest path dest (Parted p d seq freed) = (p ≡ path) × (d ≡ dest)
+
+-- a writer's call leaves the readings, and a destination's the sessions
+readings-kept : (path : ℕ) (call : Event) (v : View) → OfWriter path call → (grow call v).readings ≡ v.readings
+unfolding grow
+readings-kept path (Took number buf size need) v of = refl
+readings-kept path (Refused number free need) v of = refl
+readings-kept path (Entered p seq buf number size len readers) v of = refl
+readings-kept path (Asked p seq cells readers) v of = refl
+readings-kept path (Put p seq cell) v of = refl
+readings-kept path (Published p seq bytes) v of = refl
+readings-kept path (Joining p dest seq buf len) v of = absurd of
+readings-kept path (Missed p dest seq) v of = absurd of
+readings-kept path (Saw p dest seq cells bytes writer) v of = absurd of
+readings-kept path (Read p dest seq cell) v of = absurd of
+readings-kept path (Closed p seq freed) v of = refl
+readings-kept path (Parted p dest seq freed) v of = absurd of
+
+sessions-kept : (path dest : ℕ) (call : Event) (v : View) → OfDest path dest call → (grow call v).sessions ≡ v.sessions
+unfolding grow
+sessions-kept path dest (Took number buf size need) v of = absurd of
+sessions-kept path dest (Refused number free need) v of = absurd of
+sessions-kept path dest (Entered p seq buf number size len readers) v of = absurd of
+sessions-kept path dest (Asked p seq cells readers) v of = absurd of
+sessions-kept path dest (Put p seq cell) v of = absurd of
+sessions-kept path dest (Published p seq bytes) v of = absurd of
+sessions-kept path dest (Joining p d seq buf len) v of = refl
+sessions-kept path dest (Missed p d seq) v of = refl
+sessions-kept path dest (Saw p d seq cells bytes writer) v of = refl
+sessions-kept path dest (Read p d seq cell) v of = refl
+sessions-kept path dest (Closed p seq freed) v of = absurd of
+sessions-kept path dest (Parted p d seq freed) v of = refl
+
+pub readings-stay : (path : ℕ) (calls : List Event) (v : View) → AllByRecursion (OfWriter path) calls → (grows calls v).readings ≡ v.readings
+readings-stay path [] v all = refl
+readings-stay path (call ∷ calls) v all = readings-stay path calls (grow call v) all.1 ∙ readings-kept path call v all.0
+
+pub sessions-stay : (path dest : ℕ) (calls : List Event) (v : View) → AllByRecursion (OfDest path dest) calls → (grows calls v).sessions ≡ v.sessions
+sessions-stay path dest [] v all = refl
+sessions-stay path dest (call ∷ calls) v all = sessions-stay path dest calls (grow call v) all.1 ∙ sessions-kept path dest call v all.0
+
+-- the rows of a receiver
+abbrev pub Writes : RxSet → List Event → Type 0
+Writes set calls = AllByRecursion (OfWriter set.path.0) calls
+
+none : (set : RxSet) (calls : List Event) → calls ≡ [] → Writes set calls
+none set calls is = rw is tt
+
+parts : (set : RxSet) (calls before rest : List Event) → calls ≡ before ++ rest → Writes set before → Writes set rest → Writes set calls
+parts set calls before rest is first second = rw is (all-join (OfWriter set.path.0) before rest first second)
+
+asked : (set : RxSet) (busy : Busy) (room readers : ℕ) (calls rest : List Event) → calls ≡ asks set busy room readers ++ rest → Writes set rest → Writes set calls
+asked set busy room readers calls rest is later = rw is (refl, later)
+
+put : (set : RxSet) (seq count : ℕ) (cells : List ℕ) → Writes set (map (λ cell. Put set.path.0 seq cell) cells ++ Published set.path.0 seq count ∷ [])
+put set seq count [] = (refl, tt)
+put set seq count (cell ∷ cells) = (refl, put set seq count cells)
+
+ends : (set : RxSet) (next seq : ℕ) (busy : Busy) (how : SessionResult) (m : RxMove) → Ends set next seq busy how m → Writes set m.calls
+ends set next seq busy how m row = rw row.calls (refl, tt)
+
+opens : (set : RxSet) (seq len : ℕ) (bytes : List ℕ) (opened : OpenedAt) (opening : List Event) → Opens set seq len bytes opened opening → Writes set opening
+opens set seq len bytes opened opening row = rw row.calls_are (tt, (refl, put set seq _ row.cells))
+
+grants : (set : RxSet) (next seq : ℕ) (busy : Busy) (m : RxMove) → Grants set next seq busy m → Writes set m.calls
+grants set next seq busy m (NoneReads room readers some row) = asked set busy room readers m.calls row.rest row.calls (ends set next seq busy NoReaders (record m { calls = row.rest }) row.row)
+grants set next seq busy m (All room readers some row) = asked set busy room readers m.calls row.rest row.calls (none set row.rest row.row.calls)
+
+begins : (set : RxSet) (next seq size : ℕ) (meaning : Meaning) (m : RxMove) → Begins set next seq size meaning m → Writes set m.calls
+begins set next seq size (SingleFrame bytes) m (NoBuffer row) = rw row.calls (tt, tt)
+begins set next seq size (SingleFrame bytes) m (Completes opened opening row rest) =
+    parts set m.calls opening rest.rest rest.calls (opens set seq (length bytes) bytes opened opening row) (ends set (next + 1) (seq + 1) (begun next (length bytes) size (length bytes) m.tick opened) Whole (record m { calls = rest.rest }) rest.row)
+begins set next seq size (FirstFrame len bytes) m (NoBufferFirst more row) = rw row.calls (tt, tt)
+begins set next seq size (FirstFrame len bytes) m (Opened more opened opening row rest) =
+    parts set m.calls opening rest.rest rest.calls (opens set seq len bytes opened opening row) (grants set (next + 1) (seq + 1) (begun next len size (length bytes) m.tick opened) (record m { calls = rest.rest }) rest.row)
+begins set next seq size (ConsecutiveFrame number bytes) m row = absurd row
+begins set next seq size (FlowControl status block_size separation) m row = absurd row
+begins set next seq size (NoUnit why) m row = absurd row
+
+interrupts : (set : RxSet) (next seq : ℕ) (busy : Option Busy) (m : RxMove) → Interrupts set next seq busy m → Writes set m.calls
+interrupts set next seq None m row = none set m.calls row.calls
+interrupts set next seq (Some busy) m row = ends set next seq busy Restarted m row
+
+starts : (set : RxSet) (state : RxState) (size : ℕ) (meaning : Meaning) (m : RxMove) → Starts set state size meaning m → Writes set m.calls
+starts set state size meaning m row = parts set m.calls row.earlier.calls row.later.calls row.calls (interrupts set state.next state.seq state.busy row.earlier row.interrupts) (begins set state.next state.seq size meaning row.later row.begins)
+
+carries : (set : RxSet) (next seq : ℕ) (busy : Busy) (bytes : List ℕ) (m : RxMove) → Carries set next seq busy bytes m → Writes set m.calls
+carries set next seq busy bytes m (NoneReadsOn room readers some row) = asked set busy room readers m.calls row.rest row.calls (ends set next seq busy NoReaders (record m { calls = row.rest }) row.row)
+carries set next seq busy bytes m (TooLittleRoom room readers need some is little row) = asked set busy room readers m.calls row.rest row.calls (ends set next seq busy (NoRoom room need) (record m { calls = row.rest }) row.row)
+carries set next seq busy bytes m (Adds room readers cells some fits packed row) =
+    asked set busy room readers m.calls row.rest row.calls (parts set row.rest _ row.row.rest row.row.calls (put set busy.opened.seq _ cells) (none set row.row.rest row.row.row.calls))
+carries set next seq busy bytes m (Fills room readers cells some fits packed full row) =
+    asked set busy room readers m.calls row.rest row.calls (parts set row.rest _ row.row.rest row.row.calls (put set busy.opened.seq _ cells) (ends set next seq (gone_on busy (length bytes) m.tick) Whole (record m { calls = row.row.rest }) row.row.row))
+
+consecutive : (set : RxSet) (old : RxState) (size number : ℕ) (bytes : List ℕ) (busy : Option Busy) (m : RxMove) → ConsecutiveRow set old size number bytes busy m → Writes set m.calls
+consecutive set old size number bytes None m row = none set m.calls row.calls
+consecutive set old size number bytes (Some busy) m (TooLong long row) = none set m.calls row.calls
+consecutive set old size number bytes (Some busy) m (TooShort short row) = none set m.calls row.calls
+consecutive set old size number bytes (Some busy) m (WrongNumber looked other row) = ends set old.next old.seq busy (WrongSn busy.number number) m row
+consecutive set old size number bytes (Some busy) m (RightNumber looked right row) = carries set old.next old.seq busy _ m row
+
+first : (set : RxSet) (old : RxState) (size : ℕ) (meaning : Meaning) (functional : Bool) (m : RxMove) → FirstRow set old size meaning functional m → Writes set m.calls
+first set old size meaning true m row = none set m.calls row.calls
+first set old size meaning false m row = starts set old size meaning m row
+
+step : (set : RxSet) (next seq : ℕ) (busy : Option Busy) (event : RxInput) (m : RxMove) → RxStep set (record { next = next; seq = seq; busy = busy }) event m → Writes set m.calls
+step set next seq busy (Came size (SingleFrame bytes)) m row = starts set (record { next = next; seq = seq; busy = busy }) size (SingleFrame bytes) m row
+step set next seq busy (Came size (FirstFrame len bytes)) m row = first set (record { next = next; seq = seq; busy = busy }) size (FirstFrame len bytes) set.functional m row
+step set next seq busy (Came size (ConsecutiveFrame number bytes)) m row = consecutive set (record { next = next; seq = seq; busy = busy }) size number bytes busy m row
+step set next seq busy (Came size (FlowControl status block_size separation)) m row = none set m.calls row.calls
+step set next seq busy (Came size (NoUnit why)) m row = none set m.calls row.calls
+step set next seq None TimerTurn m row = none set m.calls row.calls
+step set next seq None FlowControlLeft m row = none set m.calls row.calls
+step set next seq None RunEnds m row = none set m.calls row.calls
+step set next seq (Some busy) TimerTurn m (InTime early row) = none set m.calls row.calls
+step set next seq (Some busy) TimerTurn m (CameTooLate late row) = ends set next seq busy (RxTimeout CfLimit) m row
+step set next seq (Some busy) FlowControlLeft m (FromBox waits row) = none set m.calls row.calls
+step set next seq (Some busy) FlowControlLeft m (NotAwaited waits row) = none set m.calls row.calls
+step set next seq (Some busy) RunEnds m row = ends set next seq busy (RunEnded busy.wait (record { 0 = busy.since })) m row
+
+-- the turns after earlier ones
+pub received-writes : (set : RxSet) (turns earlier : List RxTurn) → Received set (turns ++ earlier) → Writes set (received_calls turns)
+received-writes set [] earlier happened = tt
+received-writes set (turn ∷ turns) earlier happened =
+    let old : RxState = state_of (turns ++ earlier) in
+    all-join (OfWriter set.path.0) (received_calls turns) turn.move.calls (received-writes set turns earlier happened.2) (step set old.next old.seq old.busy turn.event turn.move happened.1)
+
+pub received-front : (set : RxSet) (turns earlier : List RxTurn) → Received set (turns ++ earlier) → Received set earlier
+received-front set [] earlier happened = happened
+received-front set (turn ∷ turns) earlier happened = received-front set turns earlier happened.2
+
+pub received-calls : (turns earlier : List RxTurn) → received_calls (turns ++ earlier) ≡ received_calls earlier ++ received_calls turns
+received-calls [] earlier = sym (append-nil (received_calls earlier))
+received-calls (turn ∷ turns) earlier = ap (λ c. c ++ turn.move.calls) (received-calls turns earlier) ∙ append_assoc (received_calls earlier) (received_calls turns) turn.move.calls
+
+-- the rows of a sender
+abbrev pub Reads : TxSet → List Event → Type 0
+Reads set calls = AllByRecursion (OfDest set.path.0 set.dest.0) calls
+
+own : (set : TxSet) → (set.path.0 ≡ set.path.0) × (set.dest.0 ≡ set.dest.0)
+own set = (refl, refl)
+
+silent : (set : TxSet) (calls : List Event) → calls ≡ [] → Reads set calls
+silent set calls is = rw is tt
+
+parts-sent : (set : TxSet) (call : Event) (calls more : List Event) → calls ≡ call ∷ more → OfDest set.path.0 set.dest.0 call → Reads set more → Reads set calls
+parts-sent set call calls more is one rest = rw is (one, rest)
+
+leaves : (set : TxSet) (s : Sending) (act : BoxMeaning) (result : DestResult) (calls : List Event) (did : Did) → EndsSending set s act result calls did → Reads set calls
+leaves set s act result calls did row = rw row.calls_are (own set, tt)
+
+cells-read : (set : TxSet) (seq : ℕ) (cells : List ℕ) (more : List Event) → Reads set more → Reads set (map (Read set.path.0 set.dest.0 seq) cells ++ more)
+cells-read set seq [] more rest = rest
+cells-read set seq (cell ∷ cells) more rest = (own set, cells-read set seq cells more rest)
+
+lacks : (set : TxSet) (s : Sending) (look : Seen) (calls : List Event) (did : Did) → Lacks set s look calls did → Reads set calls
+lacks set s look calls did (WriterGone gone row) = leaves set s Keeps SourceEnded calls did row
+lacks set s look calls did (TooLate there late row) = leaves set s Keeps (CsTimeout look.bytes) calls did row
+lacks set s look calls did (MayCome there early row) = silent set calls row.calls_are
+
+in-bytes : (set : TxSet) (s : Sending) (calls : List Event) (did : Did) → InBytes set s calls did → Reads set calls
+in-bytes set s calls did (Enough look cells fetches row) = parts-sent set _ calls _ fetches.calls_are (own set) (cells-read set s.seq cells [] tt)
+in-bytes set s calls did (Short look cells more fetches short row) = parts-sent set _ calls _ fetches.calls_are (own set) (cells-read set s.seq cells more (lacks set (fetched cells s) look more did row))
+
+in-start : (set : TxSet) (s : Sending) (calls : List Event) (did : Did) → InStart set s calls did → Reads set calls
+in-start set s calls did (Reached look more are reached row) = parts-sent set _ calls more are (own set) (in-bytes set (in_phase Bytes did.tick s) more did row)
+in-start set s calls did (NeverReached look more are reached gone row) = parts-sent set _ calls more are (own set) (leaves set s Keeps SourceEnded more did row)
+in-start set s calls did (NotReached look more are reached stands row) = parts-sent set _ calls more are (own set) (silent set more row.calls_are)
+
+in-wait : (set : TxSet) (s : Sending) (limit : ℕ) (result : DestResult) (calls : List Event) (did : Did) → InWait set s limit result calls did → Reads set calls
+in-wait set s limit result calls did (Due late row) = leaves set s (revoked s.phase) result calls did row
+in-wait set s limit result calls did (NotDue early row) = silent set calls row.calls_are
+
+in-turn : (set : TxSet) (s : Sending) (phase : Phase) (calls : List Event) (did : Did) → InTurn set s phase calls did → Reads set calls
+in-turn set s Start calls did row = in-start set s calls did row
+in-turn set s Bytes calls did row = in-bytes set s calls did row
+in-turn set s Box calls did row = in-wait set s set.n_as AsTimeout calls did row
+in-turn set s Fc calls did row = in-wait set s set.n_bs BsTimeout calls did row
+in-turn set s (Gap until) calls did (GapOver over row) = in-bytes set (in_phase Bytes did.tick s) calls did row
+in-turn set s (Gap until) calls did (GapLasts early row) = silent set calls row.calls_are
+
+in-answer : (set : TxSet) (s : Sending) (phase : Phase) (fs : ℕ) (calls : List Event) (did : Did) → InAnswer set s phase fs calls did → Reads set calls
+in-answer set s Start fs calls did row = silent set calls row.calls_are
+in-answer set s Bytes fs calls did row = silent set calls row.calls_are
+in-answer set s Box fs calls did row = silent set calls row.calls_are
+in-answer set s Fc fs calls did (FcContinues zero row) = silent set calls row.calls_are
+in-answer set s Fc fs calls did (AsksToWait one row) = silent set calls row.calls_are
+in-answer set s Fc fs calls did (FcOverflows two row) = leaves set s Keeps FcOverflow calls did row
+in-answer set s Fc fs calls did (IsInvalid more row) = leaves set s Keeps (InvalidFs fs) calls did row
+in-answer set s (Gap until) fs calls did row = silent set calls row.calls_are
+
+frame-left : (set : TxSet) (s : Sending) (calls : List Event) (did : Did) → FrameLeft set s calls did → Reads set calls
+frame-left set s calls did (LastLeft whole row) = leaves set (all_sent s) Keeps Sent calls did row
+frame-left set s calls did (FirstLeft zero more row) = silent set calls row.calls_are
+frame-left set s calls did (NextLeft some more row) = silent set calls row.calls_are
+
+live-row : (set : TxSet) (s : Sending) (event : TxEvent) (calls : List Event) (did : Did) → LiveRow set s event calls did → Reads set calls
+live-row set s Turn calls did row = in-turn set s s.phase calls did row
+live-row set s (CameFc fs bs st) calls did row = in-answer set s s.phase fs calls did row
+live-row set s Left calls did row = frame-left set s calls did row.1
+live-row set s RunEnd calls did row = leaves set s (revoked s.phase) (EndOfRun (wait_of s.phase) (record { 0 = s.since })) calls did row
+
+idle-row : (set : TxSet) (next : ℕ) (event : TxEvent) (m : TxMove) → IdleRow set next event m → Reads set m.calls
+idle-row set next Turn m (NothingToSend row) = rw row.calls_are (own set, tt)
+idle-row set next Turn m (Joins buf len more row start) = parts-sent set _ m.calls more row.calls_are (own set) (in-start set (joined_in m.did.tick next len) more m.did start)
+idle-row set next (CameFc fs bs st) m row = silent set m.calls row.calls_are
+idle-row set next Left m row = absurd row
+idle-row set next RunEnd m (NothingStands row) = rw row.calls_are (own set, tt)
+idle-row set next RunEnd m (FindsOne buf len more row end) = parts-sent set _ m.calls more row.calls_are (own set) (leaves set (joined_in m.did.tick next len) Keeps (EndOfRun ForTurn (record { 0 = m.did.tick })) more m.did end)
+
+row-by : (set : TxSet) (next : ℕ) (live : Option Sending) (m : TxMove) → TxRow set next live m → Reads set m.calls
+row-by set next None m row = idle-row set next m.event m row
+row-by set next (Some s) m row = live-row set s m.event m.calls m.did row.0
+
+-- the moments after earlier ones
+pub sent-reads : (set : TxSet) (moments earlier : List Moment) → WasSent set (moments ++ earlier) → Reads set (sent_calls moments)
+sent-reads set [] earlier happened = tt
+sent-reads set (Stepped m ∷ moments) earlier happened =
+    all-join (OfDest set.path.0 set.dest.0) (sent_calls moments) m.calls (sent-reads set moments earlier happened.3) (row-by set (state_from (moments ++ earlier)).next (state_from (moments ++ earlier)).live m happened.2)
+sent-reads set (OtherLeft tick frame ∷ moments) earlier happened = sent-reads set moments earlier happened.2
+
+pub sent-front : (set : TxSet) (moments earlier : List Moment) → WasSent set (moments ++ earlier) → WasSent set earlier
+sent-front set [] earlier happened = happened
+sent-front set (Stepped m ∷ moments) earlier happened = sent-front set moments earlier happened.3
+sent-front set (OtherLeft tick frame ∷ moments) earlier happened = sent-front set moments earlier happened.2
+
+pub sent-calls : (moments earlier : List Moment) → sent_calls (moments ++ earlier) ≡ sent_calls earlier ++ sent_calls moments
+sent-calls [] earlier = sym (append-nil (sent_calls earlier))
+sent-calls (Stepped m ∷ moments) earlier = ap (λ c. c ++ m.calls) (sent-calls moments earlier) ∙ append_assoc (sent_calls earlier) (sent_calls moments) m.calls
+sent-calls (OtherLeft tick frame ∷ moments) earlier = sent-calls moments earlier

@@ -1,0 +1,198 @@
+-- Each record of the source channel's receptions comes of its cause, in every run.
+use Rattle.std.proofs.Common.{◌≡◌, ℕ, ◌+◌, ◌≤◌, inl, inr, Option, Some, None, List, [], ◌∷◌, ◌++◌, zero, suc, refl, ap, sym, ◌∙◌, subst, arith, append-nil}
+use Rattle.std.specs.Prelude.{slice_get}
+use Rattle.std.specs.List.{AllByRecursion, AllZip}
+use Rattle.std.proofs.lemmas.Bool.{cases_lt}
+use Rattle.hub_core.specs.declared.record.RxLimit.TheVariants.{Box as BoxLimit, Cf as CfLimit}
+use Rattle.hub_core.specs.declared.record.RxWait.{RxWait}
+use Rattle.hub_core.specs.declared.record.RxWait.TheVariants.{Box, Room, Cf}
+use Rattle.hub_core.specs.declared.record.SessionRecord.{SessionRecord}
+use Rattle.hub_core.specs.declared.record.SessionResult.{SessionResult}
+use Rattle.hub_core.specs.declared.record.SessionResult.TheVariants.{Whole, Overflow, WrongSn, RxTimeout, Restarted, NoRoom, WaitOver, NoReaders, Cancelled, RunEnd}
+use Rattle.tp_attempts.specs.Attempts.{attempts_in}
+use Rattle.tp_attempts.specs.Cuts.{Cut}
+use Rattle.tp_attempts.specs.Seen.{Seen}
+use Rattle.tp_attempts.specs.Walk.{Piece, last_place, walk_of}
+use Rattle.tp_attempts.proofs.Walks.{last_place-more}
+use Rattle.tp_receiver.specs.declared.set.RxSet.{RxSet}
+use Rattle.tp_receiver.specs.Receiving.{Busy, RxInput, RxMove, RunEnds, ended}
+use Rattle.tp_receiver.specs.Rows.{EndRow, RxStep, continue_to_send}
+use Rattle.tp_receiver.specs.Running.{Happened, RxTurn, now_of, seen_by, seen_in, state_of, told_by}
+use Rattle.tp_sender.specs.Sending.{Written}
+use Rattle.tp_sender.specs.declared.set.TxSet.{TxSet}
+use Rattle.tp_unit.specs.declared.shape.Shape.{Shape}
+use Rattle.tp_unit.specs.Shape.{IsShape, address_size}
+use Rattle.tp_unit.specs.Unit.{Meaning}
+use Rattle.gw_law.specs.ReceptionCauses.{AreCaused, AreNeverBoxed, HasCause, HasRoom, IsCaused, IsNeverBoxed, IsShortStart, IsSmall, LetGoIn, StillWaits}
+use Rattle.gw_law.specs.Run.{EndsReceiving, IsRun, Route, Work, control_after, control_at, controls_by, route_of, tick_after, turns_of}
+use Rattle.gw_law.specs.Source.{Tells}
+use Rattle.gw_law.proofs.RxCauses.{IsGoing, all-late, SoBy, WaitsSo, so_far}
+use Rattle.gw_law.proofs.RxLooks.{all-look}
+use Rattle.gw_law.proofs.RxRooms.{rooms}
+use Rattle.gw_law.proofs.RxSettled.{AreSettled, Comes, IsLast, IsSettled, starts_of}
+use Rattle.gw_law.proofs.RxTicks.{AreOver, ordered, over_of}
+use Rattle.gw_law.proofs.SourceLaws.{source_law_of}
+use Rattle.gw_law.proofs.Lists.{none-some, zip-push}
+
+last-is : (begin at : ℕ) (pieces : List Piece) → IsLast at pieces → last_place begin pieces ≡ at
+last-is begin at pieces last = ap (last_place begin) last.are ∙ last_place-more begin last.front last.piece ∙ last.at_is
+
+-- the record of the start in a place begins with it
+record BeginsThere (records : List SessionRecord) (place tick : ℕ) : Type 0 where
+  pub next : SessionRecord
+  pub is : slice_get records place ≡ Some next
+  pub begins : next.begin.0 ≡ tick
+
+begins-there : (chan address : ℕ) (stored : ℕ → List ℕ) (attempts : List (Cut Seen)) (records : List SessionRecord) (place tick : ℕ) → AllZip (Tells chan address stored) attempts records → slice_get (starts_of attempts) place ≡ Some tick → BeginsThere records place tick
+begins-there chan address stored [] records place tick tells is = cc
+begins-there chan address stored (attempt ∷ attempts) [] place tick tells is = absurd tells
+begins-there chan address stored (attempt ∷ attempts) (told ∷ records) zero tick tells is = let same : attempt.start.at ≡ tick = cc in record { next = told; is = refl; begins = tells.0.begin ∙ same }
+begins-there chan address stored (attempt ∷ attempts) (told ∷ records) (suc place) tick tells is =
+    let there : BeginsThere records place tick = begins-there chan address stored attempts records place tick tells.1 is in
+    record { next = there.next; is = there.is; begins = there.begins }
+
+-- a record that was told before the run's end
+cause-by : (r : Route) (over : ℕ) (stored : ℕ → List ℕ) (attempt : Cut Seen) (told : SessionRecord) (how : SessionResult) → AllZip (Tells r.rx.chan.0 r.rx.a stored) (attempts_in r.rx.functional r.seen) r.sessions → told.result ≡ how → Comes how → HasRoom how →
+    IsSettled r.rx (address_size r.shape) r.controls over (starts_of (attempts_in r.rx.functional r.seen)) attempt told → HasCause r attempt told how
+cause-by r over stored attempt told Whole tells is comes room_is so = sym (last-is told.begin.0 told.end.0 (walk_of r.rx.a attempt).pieces (so.whole is).0)
+cause-by r over stored attempt told (Overflow change free need) tells is comes room_is so = tt
+cause-by r over stored attempt told (WrongSn want got) tells is comes room_is so = tt
+cause-by r over stored attempt told (RxTimeout BoxLimit) tells is comes room_is so = cc
+cause-by r over stored attempt told (RxTimeout CfLimit) tells is comes room_is so =
+    let late = so.late is in record { at = told.begin.0; from = omega arith; left = late.left; limit = late.limit; silent = late.silent }
+cause-by r over stored attempt told Restarted tells is comes room_is so =
+    let there : BeginsThere r.sessions (told.n + 1) told.end.0 = begins-there r.rx.chan.0 r.rx.a stored (attempts_in r.rx.functional r.seen) r.sessions (told.n + 1) told.end.0 tells (so.restarted is) in
+    record { next = there.next; is = there.is; begins = there.begins }
+cause-by r over stored attempt told (NoRoom room need) tells is comes room_is so = absurd room_is
+cause-by r over stored attempt told WaitOver tells is comes room_is so = absurd comes
+cause-by r over stored attempt told NoReaders tells is comes room_is so = tt
+cause-by r over stored attempt told Cancelled tells is comes room_is so = absurd comes
+cause-by r over stored attempt told (RunEnd wait since) tells is comes room_is so = absurd comes
+
+never-boxed : (how : SessionResult) → Comes how → IsNeverBoxed how
+never-boxed Whole comes = tt
+never-boxed (Overflow change free need) comes = tt
+never-boxed (WrongSn want got) comes = tt
+never-boxed (RxTimeout limit) comes = comes
+never-boxed Restarted comes = tt
+never-boxed (NoRoom room need) comes = tt
+never-boxed WaitOver comes = tt
+never-boxed NoReaders comes = tt
+never-boxed Cancelled comes = tt
+never-boxed (RunEnd wait since) comes = absurd comes
+
+-- what is said of a record
+abbrev IsSaid : Route → Cut Seen → SessionRecord → Type 0
+IsSaid r attempt told = IsCaused r attempt told × IsNeverBoxed told.result
+
+said-all : (r : Route) (over : ℕ) (stored : ℕ → List ℕ) → AllZip (Tells r.rx.chan.0 r.rx.a stored) (attempts_in r.rx.functional r.seen) r.sessions → (attempts : List (Cut Seen)) (records : List SessionRecord) →
+    AllByRecursion (λ (told : SessionRecord). HasRoom told.result) records → AreSettled r.rx (address_size r.shape) r.controls over (starts_of (attempts_in r.rx.functional r.seen)) attempts records → AllZip (IsSaid r) attempts records
+said-all r over stored tells [] [] roomy so = tt
+said-all r over stored tells [] (told ∷ records) roomy so = absurd so
+said-all r over stored tells (attempt ∷ attempts) [] roomy so = absurd so
+said-all r over stored tells (attempt ∷ attempts) (told ∷ records) roomy so = (
+  (
+    record {
+      cause = cause-by r over stored attempt told told.result tells refl so.0.comes roomy.0 so.0;
+      none_passed = λ tick from below late. so.0.none_passed tick from below late.silent;
+    },
+    never-boxed told.result so.0.comes,
+  ),
+  said-all r over stored tells attempts records roomy.1 so.1,
+)
+
+-- in an empty box nothing is waited for
+waits-cf : (set : RxSet) (address : ℕ) (lies : Option Meaning) (controls : List Written) (now begin since : ℕ) (wait : RxWait) → lies ≡ None → WaitsSo set address lies controls now begin since wait → (wait ≡ Cf) × LetGoIn address controls begin
+waits-cf set address lies controls now begin since Cf empty waits = (refl, waits)
+waits-cf set address lies controls now begin since Box empty waits = let clash : None ≡ Some (continue_to_send set) = sym empty ∙ waits.0 in cc
+waits-cf set address lies controls now begin since Room empty waits = absurd waits
+
+-- the record that the run's end makes
+said-last : (r : Route) (lies : Option Meaning) (now over : ℕ) (busy : Busy) (attempt : Cut Seen) → lies ≡ None → over ≡ r.last + 1 → now ≤ r.last → IsGoing r.rx (address_size r.shape) lies r.controls now over busy attempt →
+    IsSaid r attempt (ended r.rx busy (RunEnd busy.wait (record { 0 = busy.since })) r.last)
+said-last r lies now over busy attempt empty over_is later so =
+    let waits = waits-cf r.rx (address_size r.shape) lies r.controls now busy.begin busy.since busy.wait empty so.waits in
+    let told : SessionRecord = ended r.rx busy (RunEnd busy.wait (record { 0 = busy.since })) r.last in
+    let last : last_place busy.begin (walk_of r.rx.a attempt).pieces ≡ busy.since = last-is busy.begin busy.since (walk_of r.rx.a attempt).pieces so.last in
+    let P : RxWait → Type 0 = λ wait. StillWaits r attempt told busy.since wait in (
+      record {
+        cause = (
+          refl,
+          omega (arith, so.since_by, later),
+          subst P (sym waits.0) (record {
+            at = busy.begin;
+            from = omega arith;
+            left = waits.1;
+            since_is = rw last (omega (arith, so.by));
+            in_time = elim (cases_lt r.last (busy.since + r.rx.n_cr)) [
+              | inl early ↦ early
+              | inr late ↦ absurd (so.none_passed r.last (omega (arith, so.by, so.since_by, later)) (omega (arith, over_is)) (all-late r.rx.n_cr busy.since r.last late (walk_of r.rx.a attempt).pieces so.up_to))
+            ];
+          }),
+        );
+        none_passed = λ tick from below late. so.none_passed tick from (omega (arith, below, over_is)) late.silent;
+      },
+      waits.0,
+    )
+
+-- all records, after the run's end
+said-ended : (r : Route) (next seq now over : ℕ) (stored : ℕ → List ℕ) (busy : Option Busy) (lies : Option Meaning) (m : RxMove) (records : List SessionRecord) → AllZip (Tells r.rx.chan.0 r.rx.a stored) (attempts_in r.rx.functional r.seen) r.sessions →
+    AllByRecursion (λ (told : SessionRecord). HasRoom told.result) records → SoBy r.rx (address_size r.shape) busy lies r.controls now over r.seen records → lies ≡ None → ((b : Busy) → busy ≡ Some b → over ≡ r.last + 1) → now ≤ m.tick → m.tick ≡ r.last → EndRow r.rx (record { next = next; seq = seq; busy = busy }) busy m →
+    AllZip (IsSaid r) (attempts_in r.rx.functional r.seen) (records ++ m.records)
+said-ended r next seq now over stored None lies m records tells roomy so empty past later at row = rw (row.records, append-nil) (said-all r over stored tells (attempts_in r.rx.functional r.seen) records roomy so)
+said-ended r next seq now over stored (Some busy) lies m records tells roomy so empty past later at row =
+    let P : List SessionRecord → Type 0 = λ more. AllZip (IsSaid r) (attempts_in r.rx.functional r.seen) (records ++ more) in
+    let told : SessionRecord = ended r.rx busy (RunEnd busy.wait (record { 0 = busy.since })) r.last in
+    let Q : List (Cut Seen) → Type 0 = λ attempts. AllZip (IsSaid r) attempts (records ++ told ∷ []) in
+    subst P (sym (row.records ∙ ap (λ t. ended r.rx busy (RunEnd busy.wait (record { 0 = busy.since })) t ∷ []) at))
+    (subst Q (sym so.cut) (zip-push (IsSaid r) so.earlier records so.attempt told (said-all r over stored tells so.earlier records roomy so.told)
+    (said-last r lies now over busy so.attempt empty (past busy refl) (omega (arith, later, at)) so.going)))
+
+-- the receiver's one turn at the end
+record IsOneEnd (last : ℕ) (turns : List RxTurn) : Type 0 where
+  pub turn : RxTurn
+  pub is : turns ≡ turn ∷ []
+  pub event : turn.event ≡ RunEnds
+  pub tick : turn.move.tick ≡ last
+
+one-end : (last : ℕ) (turns : List RxTurn) → EndsReceiving last turns → IsOneEnd last turns
+one-end last [] ends = absurd ends
+one-end last (turn ∷ more) ends = record { turn = turn; is = ap (λ m. turn ∷ m) ends.2; event = ends.0; tick = ends.1 }
+
+zip-first : {A B : Type 0} (P : A → B → Type 0) (Q : B → Type 0) (xs : List A) (ys : List B) → AllZip (λ x y. P x y × Q y) xs ys → AllZip P xs ys × AllByRecursion Q ys
+zip-first P Q [] [] all = (tt, tt)
+zip-first P Q [] (y ∷ ys) all = absurd all
+zip-first P Q (x ∷ xs) [] all = absurd all
+zip-first P Q (x ∷ xs) (y ∷ ys) all = let rest = zip-first P Q xs ys all.1 in ((all.0.0, rest.0), (all.0.1, rest.1))
+
+-- in every run each record of the source channel comes of its cause, and none waits for a box
+pub reception_causes : (rx : RxSet) (tx : TxSet) (shape : Shape) (source_budget budget : ℕ) (sizes : List ℕ) (last count free : ℕ) (ticks : List Work) (end : Work) → IsShape shape → 1 ≤ rx.n_cr → IsSmall (route_of rx tx shape source_budget budget sizes last count free ticks end) →
+    IsRun rx tx sizes last count free ticks end →
+    AreCaused (route_of rx tx shape source_budget budget sizes last count free ticks end) × AreNeverBoxed (route_of rx tx shape source_budget budget sizes last count free ticks end)
+reception_causes rx tx shape source_budget budget sizes last count free ticks end sound some small run =
+    let r : Route = route_of rx tx shape source_budget budget sizes last count free ticks end in
+    let turns : List RxTurn = turns_of ticks in
+    let one : IsOneEnd last end.turns = one-end last end.turns run.ends.receives in
+    let H : List RxTurn → Type 0 = λ t. Happened rx (t ++ turns) in
+    let happened : Happened rx (one.turn ∷ turns) = subst H one.is run.received in
+    let before : Happened rx turns = happened.2 in
+    let over : AreOver (tick_after ticks) turns = ordered rx sizes ticks run.ticks_are before in
+    let law = source_law_of rx (turns_of (end ∷ ticks)) run.received run.ends.idle.receiver in
+    let controls : controls_by shape (end.turns ++ turns) ≡ controls_by shape turns = ap (λ t. controls_by shape (t ++ turns)) one.is ∙ ap (λ e. controls_by shape turns ++ control_at shape e one.turn.move.tick (control_after turns)) one.event ∙ append-nil (controls_by shape turns) in
+    let seen : seen_by (end.turns ++ turns) ≡ seen_by turns = ap (λ t. seen_by (t ++ turns)) one.is ∙ ap (λ e. seen_by turns ++ seen_in one.turn.move.tick e) one.event ∙ append-nil (seen_by turns) in
+    let told : told_by (end.turns ++ turns) ≡ told_by turns ++ one.turn.move.records = ap (λ t. told_by (t ++ turns)) one.is in
+    let short : AllByRecursion (λ (frame : Seen). IsShortStart frame.size frame.meaning) (seen_by turns) =
+    let P : List Seen → Type 0 = λ s. AllByRecursion (λ (frame : Seen). IsShortStart frame.size frame.meaning) s in subst P seen small.starts in
+    let roomy = (rooms rx turns small.address before (all-look rx tx sizes last count free ticks end small.buffer run) short).1 in
+    let P : List Written → Type 0 = λ c. SoBy rx (address_size shape) (state_of turns).busy (control_after turns) c (now_of turns) (over_of turns) (seen_by turns) (told_by turns) in
+    let Q : List Seen → Type 0 = λ s. SoBy rx (address_size shape) (state_of turns).busy (control_after turns) r.controls (now_of turns) (over_of turns) s (told_by turns) in
+    let R : RxInput → Type 0 = λ e. RxStep rx (state_of turns) e one.turn.move in
+    let S : List SessionRecord → Type 0 = λ records. AllZip (IsSaid r) (attempts_in rx.functional r.seen) records in
+    zip-first (IsCaused r) (λ (told_one : SessionRecord). IsNeverBoxed told_one.result) (attempts_in rx.functional r.seen) r.sessions (subst S (sym told)
+    (said-ended r (state_of turns).next (state_of turns).seq (now_of turns) (over_of turns) _ (state_of turns).busy (control_after turns) one.turn.move (told_by turns) law.tells roomy
+    (subst Q (sym seen) (subst P (sym controls) (so_far rx shape turns sound some before over.ordered))) over.empty
+    (λ b busy. elim run.ends.reached [
+      | inl idle ↦ absurd (none-some idle.receiver busy)
+      | inr reached ↦ over.over ∙ reached
+    ])
+    happened.0 one.tick (subst R one.event happened.1)))

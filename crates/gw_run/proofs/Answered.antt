@@ -1,29 +1,17 @@
 -- Why a command answers as it does.
-use Rattle.std.proofs.Common.{◌≡◌, ℕ, ◌≤◌, Bool, true, false, List, refl, subst, sym, inl, inr, arith}
+use Rattle.std.proofs.Common.{◌≡◌, ℕ, Bool, true, false, List, refl, subst, sym, inl, inr}
 use Rattle.gw_depot.specs.Fault.{Blame}
 use Rattle.gw_depot.specs.Files.{Files}
-use Rattle.gw_run.specs.declared.status.FileRole.{FileRole}
 use Rattle.gw_run.specs.declared.status.FileRole.TheVariants.{Say}
 use Rattle.gw_run.specs.declared.status.Status.{Status}
 use Rattle.gw_run.specs.declared.status.Status.TheVariants.{Ok, Accepted, Usage, ConfigRefused, Unbuilt, ReadFault, WriteFault, Memory, Limit}
 use Rattle.gw_run.specs.declared.status.Summary.{Summary}
 use Rattle.gw_run.specs.Answered.{Answers, IsFaultOf}
-use Rattle.gw_run.specs.Causes.{IsCause, IsFault, LeavesFiles}
+use Rattle.gw_run.specs.Causes.{IsCause, IsFault, IsNamed, LeavesFiles}
 use Rattle.gw_run.specs.Forwarded.{Forwards, IfDone}
-use Rattle.gw_run.specs.Results.{WriteFailed}
 use Rattle.gw_run.specs.Say.{AfterTelling}
 use Rattle.gw_run.specs.Status.{is_done}
 use Rattle.gw_run.proofs.Exact.{is_complete, is_exact}
-
--- a count that rose since a later time rose since an earlier one
-pub write_failed-earlier : (config report : List ℕ) (earlier before now : ℕ) (blame : Blame) (role : FileRole) → earlier ≤ before →
-    WriteFailed config report before now blame role → WriteFailed config report earlier now blame role
-write_failed-earlier config report earlier before now blame role less failed = record {
-  name = failed.name;
-  file = failed.file;
-  rose = omega (arith, failed.rose);
-  blamed = failed.blamed;
-}
 
 -- what holds of a summary holds of that of a command that was done
 summary_of : (P : Summary → Type 0) (status : Status) → is_done status ≡ true → IfDone status P → (summary : Summary) × P summary
@@ -40,13 +28,13 @@ summary_of P (Limit which value) done holds = let clash : false ≡ true = done 
 -- what is answered of a status holds of it
 answers-of : (told : Bool) (before after : Files) (config report : List ℕ) (faults faults' : ℕ) (blame : Blame) (said said' : ℕ) (result : Status) →
     (told ≡ true → IfDone result (Forwards before after config report)) → (told ≡ true → IsCause before config report result) →
-    (told ≡ true → LeavesFiles result before after config report) → IsFaultOf config report faults faults' blame said said' result →
+    (told ≡ true → LeavesFiles result before after config report) → IsFaultOf told before config report faults faults' blame said said' result →
     Answers told before after config report faults faults' blame said said' result
 answers-of told before after config report faults faults' blame said said' result done cause files fault = record {
   done = done;
   cause = cause;
   exact = λ is. is_exact before after config report result (done is) (cause is) (files is);
-  complete = λ is. is_complete before config report faults faults' blame said said' result (cause is) fault;
+  complete = λ is. is_complete told before config report faults faults' blame said said' result (cause is) fault;
   files = files;
   fault = fault;
 }
@@ -54,7 +42,7 @@ answers-of told before after config report faults faults' blame said said' resul
 -- what was told of a status is answered for the status's reasons
 pub answers : (told : Bool) (before after : Files) (config report : List ℕ) (faults faults' : ℕ) (blame : Blame) (said said' : ℕ) (status result : Status) →
     (told ≡ true → IfDone status (Forwards before after config report)) → (told ≡ true → IsCause before config report status) →
-    (told ≡ true → LeavesFiles status before after config report) → IsFault config report faults faults' blame status → AfterTelling status said said' result →
+    (told ≡ true → LeavesFiles status before after config report) → IsFault told before config report faults faults' blame status → AfterTelling status said said' result →
     Answers told before after config report faults faults' blame said said' result
 answers told before after config report faults faults' blame said said' status result done cause files fault (inl same) =
     subst (λ r. Answers told before after config report faults faults' blame said said' r) (sym same)
@@ -65,3 +53,10 @@ answers told before after config report faults faults' blame said said' status r
 answers told before after config report faults faults' blame said said' status result done cause files fault (inr (was, inr same)) =
     subst (λ r. Answers told before after config report faults faults' blame said said' r) (sym same)
     (answers-of told before after config report faults faults' blame said said' Memory (λ is. tt) (λ is. tt) (λ is. inr (summary_of _ status was (done is))) (inl tt))
+
+-- of a status that is answered, its name stands for the answer
+pub named-told : (told : Bool) (before : Files) (config report : List ℕ) (said said' : ℕ) (status result : Status) (name : List ℕ) →
+    IsNamed told before config report status name → AfterTelling status said said' result → IsNamed told before config report result name
+named-told told before config report said said' status result name named (inl same) = subst (λ r. IsNamed told before config report r name) (sym same) named
+named-told told before config report said said' status result name named (inr (was, inl (same, rose))) = subst (λ r. IsNamed told before config report r name) (sym same) tt
+named-told told before config report said said' status result name named (inr (was, inr same)) = subst (λ r. IsNamed told before config report r name) (sym same) tt

@@ -5,12 +5,11 @@ use Rattle.std.proofs.lemmas.Bool.{ne_eqb}
 use Rattle.std.proofs.lemmas.List.Elements.{All-tail}
 use Rattle.can_frame.specs.Frame.{CanFrame}
 use Rattle.candump_line.proofs.PlainLemmas.{plain-unique}
-use Rattle.gw_run.specs.declared.base.BaseBus.{BaseBus}
+use Rattle.gw_run.specs.Setup.{Bus}
 use Rattle.gw_run.specs.declared.log.Stamped.{Stamped}
-use Rattle.gw_run.specs.Base.{interface_of}
 use Rattle.gw_run.specs.Line.{IsBuiltLine, without_return}
 use Rattle.gw_run.specs.Log.{AreBuilt, ended, HasNoFeed, GoesPast, IsBuiltLog, StopsAt}
-use Rattle.gw_run.proofs.Stopping.{all_zip-long}
+use Rattle.gw_law.proofs.Lists.{zip-long}
 
 -- a byte more at the front of the first line
 abbrev begun : ℕ → List (List ℕ) → List (List ℕ)
@@ -61,7 +60,7 @@ cut-some (b ∷ bytes) some =
 -- ---- what each end of a reading says of the lines
 
 -- all lines are built
-all_built : (bus : BaseBus) (content : List ℕ) (frames : List Stamped) → IsBuiltLog bus content frames → AreBuilt bus (cut content) frames
+all_built : (bus : Bus) (content : List ℕ) (frames : List Stamped) → IsBuiltLog bus content frames → AreBuilt bus (cut content) frames
 all_built bus content frames built =
     let same : cut content ≡ built.lines = elim built.cut [
       | inl whole ↦ ap cut (whole ∙ sym (append-nil (ended built.lines))) ∙ cut-ended built.lines [] built.no_feed ∙ append-nil built.lines
@@ -71,7 +70,7 @@ all_built bus content frames built =
     subst (λ lines. AreBuilt bus lines frames) (sym same) built.built
 
 -- after lines that are built stands one that isn't
-record IsStopped (bus : BaseBus) (all : List (List ℕ)) (number : ℕ) : Type 0 where
+record IsStopped (bus : Bus) (all : List (List ℕ)) (number : ℕ) : Type 0 where
   lines : List (List ℕ)
   frames : List Stamped
   line : List ℕ
@@ -81,7 +80,7 @@ record IsStopped (bus : BaseBus) (all : List (List ℕ)) (number : ℕ) : Type 0
   not_built : (stamped : Stamped) → ¬ IsBuiltLine bus (without_return line) stamped
   count : number ≡ length lines + 1
 
-stopped : (bus : BaseBus) (most : ℕ) (content : List ℕ) (number : ℕ) → StopsAt bus most content number → IsStopped bus (cut content) number
+stopped : (bus : Bus) (most : ℕ) (content : List ℕ) (number : ℕ) → StopsAt bus most content number → IsStopped bus (cut content) number
 stopped bus most content number stops =
     let front : cut content ≡ stops.lines ++ cut (stops.line ++ stops.tail) = ap cut (stops.bytes ∙ append_assoc (ended stops.lines) stops.line stops.tail) ∙ cut-ended stops.lines (stops.line ++ stops.tail) stops.no_feed in
     let ends : (more : List (List ℕ)) × (cut (stops.line ++ stops.tail) ≡ stops.line ∷ more) = elim stops.ends [
@@ -100,7 +99,7 @@ stopped bus most content number stops =
     }
 
 -- a line that isn't built stands after all that are
-no_more_built : (bus : BaseBus) (lines lines' : List (List ℕ)) (line : List ℕ) (more rest : List (List ℕ)) (frames' : List Stamped) →
+no_more_built : (bus : Bus) (lines lines' : List (List ℕ)) (line : List ℕ) (more rest : List (List ℕ)) (frames' : List Stamped) →
     lines ++ line ∷ more ≡ lines' ++ rest → AreBuilt bus lines' frames' → ((stamped : Stamped) → ¬ IsBuiltLine bus (without_return line) stamped) →
     length lines' ≤ length lines
 no_more_built bus lines [] line more rest frames' same built not_built = omega arith
@@ -112,13 +111,13 @@ no_more_built bus (x ∷ lines) (l ∷ lines') line more rest (s ∷ frames') sa
     let fewer = no_more_built bus lines lines' line more rest frames' later built.1 not_built in omega (arith, fewer)
 
 -- a line is that of one frame
-frame-once : (bus : BaseBus) (line : List ℕ) (s t : Stamped) → IsBuiltLine bus line s → IsBuiltLine bus line t → s ≡ t
+frame-once : (bus : Bus) (line : List ℕ) (s t : Stamped) → IsBuiltLine bus line s → IsBuiltLine bus line t → s ≡ t
 frame-once bus line s t one other =
-    let same = plain-unique (interface_of bus) line s.at.0 t.at.0 s.frame t.frame one.plain other.plain in
+    let same = plain-unique (bus.interface) line s.at.0 t.at.0 s.frame t.frame one.plain other.plain in
     let stamped : ℕ → CanFrame → Stamped = λ at frame. record { at = record { 0 = at }; frame = frame } in
     ap (λ at. stamped at s.frame) same.0 ∙ ap (λ frame. stamped t.at.0 frame) same.1
 
-frames-once : (bus : BaseBus) (lines : List (List ℕ)) (frames frames' : List Stamped) → AreBuilt bus lines frames → AreBuilt bus lines frames' → frames ≡ frames'
+frames-once : (bus : Bus) (lines : List (List ℕ)) (frames frames' : List Stamped) → AreBuilt bus lines frames → AreBuilt bus lines frames' → frames ≡ frames'
 frames-once bus [] [] [] one other = refl
 frames-once bus [] [] (t ∷ frames') one other = absurd other
 frames-once bus [] (s ∷ frames) frames' one other = absurd one
@@ -131,11 +130,11 @@ frames-once bus (line ∷ lines) (s ∷ frames) (t ∷ frames') one other =
 
 -- ---- a log ends in one way
 
-pub built-once : (bus : BaseBus) (content : List ℕ) (frames frames' : List Stamped) → IsBuiltLog bus content frames → IsBuiltLog bus content frames' → frames ≡ frames'
+pub built-once : (bus : Bus) (content : List ℕ) (frames frames' : List Stamped) → IsBuiltLog bus content frames → IsBuiltLog bus content frames' → frames ≡ frames'
 built-once bus content frames frames' one other =
     frames-once bus (cut content) frames frames' (all_built bus content frames one) (all_built bus content frames' other)
 
-pub stops-once : (bus : BaseBus) (most : ℕ) (content : List ℕ) (m n : ℕ) → StopsAt bus most content m → StopsAt bus most content n → m ≡ n
+pub stops-once : (bus : Bus) (most : ℕ) (content : List ℕ) (m n : ℕ) → StopsAt bus most content m → StopsAt bus most content n → m ≡ n
 stops-once bus most content m n one other =
     let a = stopped bus most content m one in
     let b = stopped bus most content n other in
@@ -143,23 +142,23 @@ stops-once bus most content m n one other =
     let more = no_more_built bus b.lines a.lines b.line b.more (a.line ∷ a.more) a.frames (sym b.whole ∙ a.whole) a.built b.not_built in
     omega (arith, fewer, more, a.count, b.count)
 
-pub stops-or_built : (bus : BaseBus) (most : ℕ) (content : List ℕ) (number : ℕ) (frames : List Stamped) → StopsAt bus most content number → ¬ IsBuiltLog bus content frames
+pub stops-or_built : (bus : Bus) (most : ℕ) (content : List ℕ) (number : ℕ) (frames : List Stamped) → StopsAt bus most content number → ¬ IsBuiltLog bus content frames
 stops-or_built bus most content number frames stops built =
     let a = stopped bus most content number stops in
     let fewer = no_more_built bus a.lines (cut content) a.line a.more [] frames (sym a.whole ∙ sym (append-nil (cut content))) (all_built bus content frames built) a.not_built in
     let long : length (cut content) ≡ length a.lines + length (a.line ∷ a.more) = ap length a.whole ∙ length-append a.lines (a.line ∷ a.more) in
     omega (arith, fewer, long)
 
-pub stops-or_passes : (bus : BaseBus) (most : ℕ) (content : List ℕ) (number : ℕ) → StopsAt bus most content number → ¬ GoesPast bus content most
+pub stops-or_passes : (bus : Bus) (most : ℕ) (content : List ℕ) (number : ℕ) → StopsAt bus most content number → ¬ GoesPast bus content most
 stops-or_passes bus most content number stops past =
     let a = stopped bus most content number stops in
     let whole : cut content ≡ past.lines ++ cut past.rest = ap cut past.bytes ∙ cut-ended past.lines past.rest past.no_feed in
     let fewer = no_more_built bus a.lines past.lines a.line a.more (cut past.rest) past.frames (sym a.whole ∙ whole) past.built a.not_built in
     omega (arith, fewer, a.count, stops.within, past.count)
 
-pub passes-or_built : (bus : BaseBus) (most : ℕ) (content : List ℕ) (frames : List Stamped) → length frames ≤ most → GoesPast bus content most → ¬ IsBuiltLog bus content frames
+pub passes-or_built : (bus : Bus) (most : ℕ) (content : List ℕ) (frames : List Stamped) → length frames ≤ most → GoesPast bus content most → ¬ IsBuiltLog bus content frames
 passes-or_built bus most content frames few past built =
     let whole : cut content ≡ past.lines ++ cut past.rest = ap cut past.bytes ∙ cut-ended past.lines past.rest past.no_feed in
     let long : length (cut content) ≡ length past.lines + length (cut past.rest) = ap length whole ∙ length-append past.lines (cut past.rest) in
-    let all : length (cut content) ≡ length frames = all_zip-long _ (cut content) frames (all_built bus content frames built) in
+    let all : length (cut content) ≡ length frames = zip-long _ (cut content) frames (all_built bus content frames built) in
     omega (arith, few, long, all, past.count, cut-some past.rest past.further)

@@ -1,9 +1,10 @@
 -- A whole text that is appended, compared or read, piece by piece.
-use Rattle.std.proofs.Common.{◌≡◌, ℕ, ◌+◌, ◌≤◌, Bool, true, List, ◌++◌, length, take, drop, Option, Some, None, Ok, IsSome, refl, sym, ◌∙◌, ap, append_assoc, length-append, length-drop, length-take, ◌-◌, ◌<◌, ◌≢◌, arith}
+use Rattle.std.proofs.Common.{◌≡◌, ℕ, ◌+◌, ◌≤◌, Bool, true, List, ◌++◌, length, take, drop, Option, Some, None, Ok, IsSome, refl, sym, ◌∙◌, ap, append_assoc, length-append, length-drop, length-take, ◌-◌, ◌<◌, arith}
 use Rattle.std.proofs.Math.Seq.{take-add, take-length}
 use Rattle.gw_depot.specs.Fault.{Blame}
 use Rattle.gw_depot.specs.Files.{Files, OthersStay, AppendsFile, ReadsFile}
 use Rattle.gw_run.specs.Whole.{IsTooLong}
+use Rattle.gw_law.proofs.Lists.{same-some}
 
 -- so many bytes of the text were appended, and nothing failed
 pub record Appended (told : Bool) (old new : Files) (name text : List ℕ) (done : ℕ) : Type 0 where
@@ -40,66 +41,15 @@ appended_more told old mid new name text done count so_far piece is_rest fits ad
   others = λ is other ne. (adds is).others other ne ∙ so_far.others is other ne;
 }
 
--- the file begins as the text does, as far as it was read
-pub record Matches (told : Bool) (files : Files) (name text : List ℕ) (done : ℕ) : Type 0 where
-  pub within : done ≤ length text
-  pub content : told ≡ true → (content : List ℕ) → files name ≡ Some content → (take done content ≡ take done text) × (done ≤ length content)
-
-pub some_same : {X : Type 0} (o : Option X) (x y : X) → o ≡ Some x → o ≡ Some y → x ≡ y
-some_same o x y is is' = cc
-
 -- as many bytes as were counted lie past the place that was read from
 pub read_within : (files : Files) (name got content : List ℕ) (at count : ℕ) →
     ReadsFile files name at count got → length got ≡ count → files name ≡ Some content → at ≤ length content →
     (got ≡ take count (drop at content)) × (at + count ≤ length content)
 read_within files name got content at count reads long there inside =
-    let same : reads.content ≡ content = some_same (files name) reads.content content reads.there there in
+    let same : reads.content ≡ content = same-some reads.there there in
     let bytes : got ≡ take count (drop at content) = reads.bytes ∙ ap (λ c. take count (drop at c)) same in
     let most : count ≤ length (drop at content) = rw (← long, bytes) (rw length-take (omega arith)) in
     (bytes, let rest : length (drop at content) ≡ length content - at = length-drop at content in omega arith)
-
-pub matches_more : (told : Bool) (files : Files) (name text : List ℕ) (done count : ℕ) (got : List ℕ) →
-    Matches told files name text done → (told ≡ true → ReadsFile files name done count got) → length got ≡ count →
-    got ≡ take count (drop done text) → done + count ≤ length text → Matches told files name text (done + count)
-matches_more told files name text done count got so_far reads long same fits = record {
-  within = fits;
-  content = λ is content there.
-      let before = so_far.content is content there in
-      let more = read_within files name got content done count (reads is) long there before.1 in
-      (take-add done count content ∙ rw (before.0, ← more.0, same) (sym (take-add done count text)), more.1);
-}
-
--- a file that ends where the text does is the text, and one that ends elsewhere, or differs, isn't
-pub matches_whole : (told : Bool) (files : Files) (name text : List ℕ) (done : ℕ) (got : List ℕ) →
-    Matches told files name text done → told ≡ true → ReadsFile files name done 0 got → done ≡ length text → files name ≡ Some text
-matches_whole told files name text done got so_far is reads ends =
-    let before = so_far.content is reads.content reads.there in
-    let past : length reads.content ≤ done = reads.end.0 refl in
-    let all : reads.content ≡ text =
-    sym (take-whole reads.content done (omega (arith, before.1))) ∙ before.0 ∙ take-whole text done ends in
-    reads.there ∙ ap Some all
-
-pub matches_short : (told : Bool) (files : Files) (name text : List ℕ) (done : ℕ) (got : List ℕ) →
-    Matches told files name text done → told ≡ true → ReadsFile files name done 0 got → done ≢ length text → ¬ (files name ≡ Some text)
-matches_short told files name text done got so_far is reads ends there =
-    let same : reads.content ≡ text = some_same (files name) reads.content text reads.there there in
-    let past : length reads.content ≤ done = reads.end.0 refl in
-    ends (let long : length reads.content ≡ length text = ap length same in omega (arith, so_far.within))
-
-pub matches_long : (told : Bool) (files : Files) (name text : List ℕ) (done count : ℕ) (got : List ℕ) →
-    Matches told files name text done → told ≡ true → ReadsFile files name done count got → length got ≡ count →
-    length text - done < count → ¬ (files name ≡ Some text)
-matches_long told files name text done count got so_far is reads long over there =
-    let before = so_far.content is text there in
-    let more = read_within files name got text done count reads long there before.1 in
-    omega (arith, more.1)
-
-pub matches_other : (told : Bool) (files : Files) (name text : List ℕ) (done count : ℕ) (got : List ℕ) →
-    Matches told files name text done → told ≡ true → ReadsFile files name done count got → length got ≡ count →
-    got ≢ take count (drop done text) → ¬ (files name ≡ Some text)
-matches_other told files name text done count got so_far is reads long differs there =
-    let before = so_far.content is text there in
-    differs (read_within files name got text done count reads long there before.1).0
 
 -- the bytes are the beginning of the file
 pub record Fronts (told : Bool) (files : Files) (name bytes : List ℕ) : Type 0 where

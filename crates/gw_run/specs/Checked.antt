@@ -1,42 +1,31 @@
 -- What the check of a configuration answers, and why.
-use Rattle.std.specs.Prelude.{◌≡◌, ◌⊎◌, ℕ, Bool, true, List, Some}
+use Rattle.std.specs.Prelude.{◌≡◌, ◌⊎◌, ℕ, Bool, true, List, None, Some}
 use Rattle.gw_config.specs.Config.{Configuration}
-use Rattle.gw_config.specs.Document.{HasFault, Spells}
 use Rattle.gw_depot.specs.declared.outside.CallKind.TheVariants.{Read}
 use Rattle.gw_depot.specs.Fault.{Blame, Rose}
 use Rattle.gw_depot.specs.Files.{Files}
-use Rattle.route_check.specs.Conflicts.{IsAccepted, IsFirstConflict}
 use Rattle.gw_run.specs.declared.status.ConfigCause.{ConfigCause}
-use Rattle.gw_run.specs.declared.status.ConfigCause.TheVariants.{Fault, Conflict}
 use Rattle.gw_run.specs.declared.status.FileRole.TheVariants.{Config, Say}
 use Rattle.gw_run.specs.declared.status.Status.{Status}
 use Rattle.gw_run.specs.declared.status.Status.TheVariants.{Ok, Accepted, Usage, ConfigRefused, Unbuilt, ReadFault, WriteFault, Memory, Limit}
 use Rattle.gw_run.specs.declared.status.Which.TheVariants.{ConfigBytes, Lines, Ticks}
 use Rattle.gw_run.specs.Answered.{IsCutShort}
-use Rattle.gw_run.specs.Whole.{HoldsShort, IsTooLong}
+use Rattle.gw_run.specs.Config.{HoldsText, IsRefusedFor, ReadsConfig}
+use Rattle.gw_run.specs.Whole.{IsTooLong}
 
--- the text spells a configuration without a conflict
-abbrev pub SpellsAccepted : List ℕ → Type 0
-SpellsAccepted text = (config : Configuration) × Spells text config × IsAccepted config
-
--- the text is refused as a configuration: by its first fault, or else by its first conflict
-abbrev pub IsRefusedFor : ConfigCause → List ℕ → Type 0
-IsRefusedFor (Fault fault) text = HasFault text fault
-IsRefusedFor (Conflict conflict) text = (config : Configuration) × Spells text config × IsFirstConflict config conflict
-
--- the file holds a text of at most 65,536 bytes, and the fact holds of it
-abbrev pub HoldsText : Files → List ℕ → (List ℕ → Type 0) → Type 0
-HoldsText files config P = (text : List ℕ) × HoldsShort files config 65_536 text × P text
+-- the file spells a configuration that is accepted
+abbrev pub HoldsAccepted : Files → (config : List ℕ) → Type 0
+HoldsAccepted before config = (c : Configuration) × ReadsConfig before config None c
 
 -- why a check over files that are told was answered so; faults and want of memory have no cause in the files
 abbrev pub IsCheckCause : Files → (config : List ℕ) → Status → Type 0
 IsCheckCause before config (Ok summary) = ⊥
-IsCheckCause before config Accepted = HoldsText before config SpellsAccepted
+IsCheckCause before config Accepted = HoldsAccepted before config
 IsCheckCause before config Usage = ⊥
-IsCheckCause before config (ConfigRefused cause) = HoldsText before config (IsRefusedFor cause)
+IsCheckCause before config (ConfigRefused cause) = HoldsText before config (IsRefusedFor config None cause)
 IsCheckCause before config (Unbuilt form) = ⊥
 IsCheckCause before config (ReadFault role) = Unit {0}
-IsCheckCause before config (WriteFault role) = HoldsText before config SpellsAccepted
+IsCheckCause before config (WriteFault role) = HoldsAccepted before config
 IsCheckCause before config Memory = Unit {0}
 IsCheckCause before config (Limit ConfigBytes value) = (value ≡ 65_537) × IsTooLong before config 65_536
 IsCheckCause before config (Limit Lines value) = ⊥
@@ -56,8 +45,8 @@ IsCheckFault config faults faults' blame said said' (Limit which value) = Unit {
 
 -- each answer comes wherever it has its cause, but where a read fails or memory is wanting; what is accepted may not be said
 pub record IsCheckExact (before : Files) (config : List ℕ) (result : Status) : Type 0 where
-  pub accepted : HoldsText before config SpellsAccepted → (result ≡ Accepted) ⊎ (result ≡ WriteFault Say) ⊎ IsCutShort result
-  pub refused : (cause : ConfigCause) → HoldsText before config (IsRefusedFor cause) → (result ≡ ConfigRefused cause) ⊎ IsCutShort result
+  pub accepted : HoldsAccepted before config → (result ≡ Accepted) ⊎ (result ≡ WriteFault Say) ⊎ IsCutShort result
+  pub refused : (cause : ConfigCause) → HoldsText before config (IsRefusedFor config None cause) → (result ≡ ConfigRefused cause) ⊎ IsCutShort result
   pub limit : IsTooLong before config 65_536 → (result ≡ Limit ConfigBytes 65_537) ⊎ IsCutShort result
 
 -- what the check of a configuration answers and why; it changes no file

@@ -1,90 +1,127 @@
 -- What a run that was done to its end has done.
-use Rattle.std.specs.Prelude.{◌≡◌, ◌⊎◌, ℕ, ◌+◌, ◌-◌, ◌*◌, ◌≤◌, max, List, ◌++◌, length, Some}
+use Rattle.std.specs.Prelude.{◌≡◌, ℕ, ◌+◌, ◌-◌, ◌≤◌, max, Bool, true, false, List, ◌++◌, length, filter, map, Option, Some}
 use Rattle.gw_depot.specs.Files.{Files}
-use Rattle.gw_run.specs.declared.base.BaseBus.{BaseBus}
-use Rattle.gw_run.specs.declared.base.BaseBus.TheVariants.{Can0, Can1}
-use Rattle.gw_run.specs.declared.base.TheConstants.{LINGER}
+use Rattle.gw_config.specs.Config.{Configuration}
+use Rattle.gw_law.specs.Lawful.{Lawful}
+use Rattle.hub_core.specs.declared.record.DestRecord.{DestRecord}
+use Rattle.hub_core.specs.declared.record.DestResult.{DestResult}
+use Rattle.hub_core.specs.declared.record.DestResult.TheVariants.{Sent, SourceEnded, BsTimeout, FcOverflow, InvalidFs, CsTimeout, AsTimeout, Cancelled as SendCancelled, RunEnd as SendRunEnd}
+use Rattle.hub_core.specs.declared.record.SessionRecord.{SessionRecord}
+use Rattle.hub_core.specs.declared.record.SessionResult.{SessionResult}
+use Rattle.hub_core.specs.declared.record.SessionResult.TheVariants.{Whole, Overflow, WrongSn, RxTimeout, Restarted, NoRoom, WaitOver, NoReaders, Cancelled, RunEnd}
+use Rattle.session_report.specs.Lines.{report_text}
+use Rattle.session_report.specs.declared.report.Report.{Report}
 use Rattle.gw_run.specs.declared.log.Stamped.{Stamped}
+use Rattle.gw_run.specs.declared.machines.Machines.{Machines}
 use Rattle.gw_run.specs.declared.status.Summary.{Summary}
 use Rattle.gw_run.specs.declared.status.Status.{Status}
 use Rattle.gw_run.specs.declared.status.Status.TheVariants.{Ok, Accepted, Usage, ConfigRefused, Unbuilt, ReadFault, WriteFault, Memory, Limit}
-use Rattle.gw_run.specs.Base.{base_text, log_of, output_of}
+use Rattle.gw_run.specs.Config.{ReadsConfig}
+use Rattle.gw_run.specs.Frames.{greatest_tick}
 use Rattle.gw_run.specs.Log.{IsBuiltLog}
 use Rattle.gw_run.specs.Output.{output_text}
-use Rattle.gw_run.specs.Report.{report_text}
+use Rattle.gw_run.specs.Played.{Told, route_told}
 use Rattle.gw_run.specs.Results.{HasBegun, HasResults}
-use Rattle.gw_run.specs.Singles.{stamps_of, transfers_of, last_tick_of, TicksRise}
-use Rattle.gw_run.specs.Start.{IsStart}
-
--- the name is one of the base configuration's outputs
-abbrev pub IsOutput : List ℕ → Type 0
-IsOutput name = (name ≡ output_of Can0) ⊎ (name ≡ output_of Can1)
-
--- the name is one of the base configuration's logs
-abbrev pub IsLog : List ℕ → Type 0
-IsLog name = (name ≡ log_of Can0) ⊎ (name ≡ log_of Can1)
-
--- the configuration would be written over, or a log or an output by the report
-abbrev pub Collides : (config report : List ℕ) → Type 0
-Collides config report = IsOutput config ⊎ IsLog report ⊎ IsOutput report
+use Rattle.gw_run.specs.Setup.{AreMachinesOf, Bus, IsBuiltConfig, Setup}
+use Rattle.gw_run.specs.Start.{IsStart, stamps_of}
 
 -- the bus's log is there, and is a line for each of the frames, which are at most so many
-pub record HoldsLog (files : Files) (bus : BaseBus) (most : ℕ) (frames : List Stamped) : Type 0 where
+pub record HoldsLog (files : Files) (bus : Bus) (most : ℕ) (frames : List Stamped) : Type 0 where
   pub content : List ℕ
-  pub there : files (log_of bus) ≡ Some content
+  pub there : files bus.log ≡ Some content
   pub built : IsBuiltLog bus content frames
   pub few : length frames ≤ most
 
 -- both logs are built line by line, and have at most a million lines together
-pub record HoldsLogs (files : Files) (source destination : List Stamped) : Type 0 where
-  pub source_log : HoldsLog files Can0 1_000_000 source
-  pub destination_log : HoldsLog files Can1 (1_000_000 - length source) destination
+pub record HoldsLogs (files : Files) (setup : Setup) (source destination : List Stamped) : Type 0 where
+  pub source_log : HoldsLog files setup.source 1_000_000 source
+  pub destination_log : HoldsLog files setup.destination (1_000_000 - length source) destination
 
--- the configuration is the base one, and no name collides with it
-pub record IsConfigured (files : Files) (config report : List ℕ) : Type 0 where
-  pub base : files config ≡ Some base_text
-  pub apart : ¬ Collides config report
+-- the configuration's file spells one that is accepted and built, and this is what it leaves free
+pub record IsConfigured (files : Files) (config report : List ℕ) (setup : Setup) : Type 0 where
+  pub c : Configuration
+  pub reads : ReadsConfig files config (Some report) c
+  pub built : IsBuiltConfig c setup
 
--- the ticks of a run: the last frame's, those that it goes on, and one
-abbrev pub ticks_of : (start : ℕ) → (source destination : List Stamped) → ℕ
-ticks_of start source destination = max (last_tick_of start source) (last_tick_of start destination) + LINGER + 1
+-- the last tick of a run: the last input frame's, and those that it goes on
+abbrev pub last_of : Setup → (start : ℕ) → (source destination : List Stamped) → ℕ
+last_of setup start source destination = max (greatest_tick start setup.period source) (greatest_tick start setup.period destination) + setup.linger
 
--- the run begins at the least stamp of both logs, no tick of the source has two messages, and there are at most ten million ticks
-pub record HasLawfulTicks (source destination : List Stamped) (start : ℕ) : Type 0 where
+-- the run begins at the least stamp of both logs, and has at most ten million ticks
+pub record HasLawfulTicks (setup : Setup) (source destination : List Stamped) (start : ℕ) : Type 0 where
   pub begins : IsStart (stamps_of source ++ stamps_of destination) start
-  pub rise : TicksRise (transfers_of start source)
-  pub in_time : ticks_of start source destination ≤ 10_000_000
+  pub in_time : last_of setup start source destination + 1 ≤ 10_000_000
 
 -- all that the command names is built, and within the limits
-pub record IsBuilt (files : Files) (config report : List ℕ) (source destination : List Stamped) (start : ℕ) : Type 0 where
-  pub configured : IsConfigured files config report
-  pub logs : HoldsLogs files source destination
-  pub messages : HasLawfulTicks source destination start
+pub record IsBuilt (files : Files) (config report : List ℕ) (setup : Setup) (source destination : List Stamped) (start : ℕ) : Type 0 where
+  pub configured : IsConfigured files config report setup
+  pub logs : HoldsLogs files setup source destination
+  pub ticks : HasLawfulTicks setup source destination start
 
--- so many sessions, all whole, each with one destination, all sent, and a take and a free for each
-pub record Counts (messages : ℕ) (summary : Summary) : Type 0 where
-  pub sessions : summary.sessions ≡ messages
-  pub whole : summary.whole ≡ messages
-  pub dests : summary.dests ≡ messages
-  pub sent : summary.sent ≡ messages
-  pub moves : summary.moves ≡ 2 * messages
+-- what a run over the frames of both logs has sent and tells: the laws hold of it
+pub record Tells (setup : Setup) (source destination : List Stamped) (start : ℕ) (told : Told) : Type 0 where
+  pub machines : Machines
+  pub are : AreMachinesOf setup machines
+  pub lawful : Lawful (route_told machines start setup.period (last_of setup start source destination) source destination told)
+  pub start_is : told.report.clock.start.0 ≡ start
+  pub period_is : told.report.clock.period ≡ setup.period
+  pub buffers : told.report.pool.buffers ≡ 1
 
--- each single frame of the source is forwarded in its tick: the outputs and the report say so, and no other file changed
+-- a session that was received whole
+abbrev pub is_whole : SessionResult → Bool
+is_whole Whole = true
+is_whole (Overflow change free need) = false
+is_whole (WrongSn want got) = false
+is_whole (RxTimeout limit) = false
+is_whole Restarted = false
+is_whole (NoRoom room need) = false
+is_whole WaitOver = false
+is_whole NoReaders = false
+is_whole Cancelled = false
+is_whole (RunEnd wait since) = false
+
+-- a destination that was sent whole
+abbrev pub is_sent : DestResult → Bool
+is_sent Sent = true
+is_sent SourceEnded = false
+is_sent BsTimeout = false
+is_sent FcOverflow = false
+is_sent (InvalidFs status) = false
+is_sent (CsTimeout seen) = false
+is_sent AsTimeout = false
+is_sent SendCancelled = false
+is_sent (SendRunEnd wait since) = false
+
+-- the numbers of the report's records
+pub record Counts (report : Report) (summary : Summary) : Type 0 where
+  pub sessions : summary.sessions ≡ length report.sessions
+  pub whole : summary.whole ≡ length (filter (λ (told : SessionRecord). is_whole told.result) report.sessions)
+  pub dests : summary.dests ≡ length report.dests
+  pub sent : summary.sent ≡ length (filter (λ (told : DestRecord). is_sent told.result) report.dests)
+  pub moves : summary.moves ≡ length report.moves
+
+-- a run over the two logs was done: its outputs and its report say what it sent and tells, and no other file changed
 pub record Forwards (before after : Files) (config report : List ℕ) (summary : Summary) : Type 0 where
+  pub setup : Setup
   pub source : List Stamped
   pub destination : List Stamped
   pub start : ℕ
-  pub built : IsBuilt before config report source destination start
-  pub left : HasResults before after (output_text start (transfers_of start source)) report (report_text start (transfers_of start source))
-  pub counted : Counts (length (transfers_of start source)) summary
+  pub built : IsBuilt before config report setup source destination start
+  pub told : Told
+  pub tells : Tells setup source destination start told
+  pub left : HasResults before after setup (output_text start setup.period setup.source.interface told.controls) (output_text start setup.period setup.destination.interface told.frames) report (report_text told.report)
+  pub counted : Counts told.report summary
 
 -- such a run has begun: the outputs and the report are beginnings of those that it leaves
 pub record BeginsToForward (before after : Files) (config report : List ℕ) : Type 0 where
+  pub setup : Setup
   pub source : List Stamped
   pub destination : List Stamped
   pub start : ℕ
-  pub built : IsBuilt before config report source destination start
-  pub left : HasBegun before after (output_text start (transfers_of start source)) report (report_text start (transfers_of start source))
+  pub built : IsBuilt before config report setup source destination start
+  pub told : Told
+  pub tells : Tells setup source destination start told
+  pub left : HasBegun before after setup (output_text start setup.period setup.source.interface told.controls) (output_text start setup.period setup.destination.interface told.frames) report (report_text told.report)
 
 -- the fact holds of the summary, where the run was done to its end; a check has none
 abbrev pub IfDone : Status → (Summary → Type 0) → Type 0

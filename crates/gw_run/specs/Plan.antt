@@ -1,18 +1,25 @@
 -- What a run is going to leave behind, by the frames of both logs.
-use Rattle.std.specs.Prelude.{◌≡◌, ℕ, ◌≤◌, List, length}
+use Rattle.std.specs.Prelude.{◌≡◌, ℕ, List}
 use Rattle.std.specs.String.{string_bytes}
+use Rattle.session_report.specs.Lines.{report_text}
 use Rattle.gw_run.specs.declared.log.Stamped.{Stamped}
-use Rattle.gw_run.specs.declared.top.Plan.{Plan}
-use Rattle.gw_run.specs.Forwarded.{HasLawfulTicks}
+use Rattle.gw_run.specs.declared.plan.Plan.{Plan}
+use Rattle.gw_run.specs.Forwarded.{Counts, HasLawfulTicks, Tells}
 use Rattle.gw_run.specs.Output.{output_text}
-use Rattle.gw_run.specs.Report.{report_text}
-use Rattle.gw_run.specs.Singles.{transfers_of}
+use Rattle.gw_run.specs.Played.{Told}
+use Rattle.gw_run.specs.Setup.{Setup}
 
--- the output and the report are those of the source's messages
-pub record IsPlan (source destination : List Stamped) (plan : Plan) : Type 0 where
+-- the outputs, the report and the summary are those of what was sent and is told
+pub record Prints (start : ℕ) (setup : Setup) (told : Told) (plan : Plan) : Type 0 where
+  pub source_output : plan.source_output ≡ output_text start setup.period setup.source.interface told.controls
+  pub output : plan.output ≡ output_text start setup.period setup.destination.interface told.frames
+  pub report : string_bytes plan.report ≡ report_text told.report
+  pub counted : Counts told.report plan.summary
+
+-- and so of what a run over the frames has sent and tells
+pub record IsPlan (setup : Setup) (source destination : List Stamped) (plan : Plan) : Type 0 where
   pub start : ℕ
-  pub messages : HasLawfulTicks source destination start
-  pub output : plan.output ≡ output_text start (transfers_of start source)
-  pub report : string_bytes plan.report ≡ report_text start (transfers_of start source)
-  pub count : plan.messages ≡ length (transfers_of start source)
-  pub few : plan.messages ≤ 1_000_000
+  pub ticks : HasLawfulTicks setup source destination start
+  pub told : Told
+  pub tells : Tells setup source destination start told
+  pub prints : Prints start setup told plan

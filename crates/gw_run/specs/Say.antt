@@ -11,9 +11,9 @@ pub record SaysAll {E : Type 0} (old new bytes : List ℕ) (result : Result (Uni
   pub all : OnOk result (new ≡ old ++ bytes)
   pub some : (count : ℕ) × (new ≡ old ++ take count bytes)
 
--- a status and the line feed after it
-abbrev pub line_of : Status → List ℕ
-line_of status = status_text status ++ 10 ∷ []
+-- what is said of a status, with the name of the bus that it speaks of, and the line feed after it
+abbrev pub line_of : (name : List ℕ) → Status → List ℕ
+line_of name status = status_text name status ++ 10 ∷ []
 
 -- the status stands; or it was Ok, and a put failed or memory was wanting
 abbrev pub AfterTelling : Status → ℕ → ℕ → Status → Type 0
@@ -22,12 +22,12 @@ AfterTelling status before now result =
 
 -- the status's line was said, and after Ok it always was; or nothing, for want of memory; or a beginning of it, where a
 -- put failed
-pub record TellsLine (status : Status) (old new : List ℕ) (before now : ℕ) (result : Status) : Type 0 where
-  pub done : is_done result ≡ true → new ≡ old ++ line_of status
-  pub said : (new ≡ old ++ line_of status) ⊎ ((new ≡ old) ⊎ (Rose before now × ((count : ℕ) × (new ≡ old ++ take count (line_of status)))))
+pub record TellsLine (name : List ℕ) (status : Status) (old new : List ℕ) (before now : ℕ) (result : Status) : Type 0 where
+  pub done : is_done result ≡ true → new ≡ old ++ line_of name status
+  pub said : (new ≡ old ++ line_of name status) ⊎ ((new ≡ old) ⊎ (Rose before now × ((count : ℕ) × (new ≡ old ++ take count (line_of name status)))))
 
 -- what was told of the answer, or of the Ok that couldn't be said
-pub record SaysAnswer (old new : List ℕ) (before now : ℕ) (result : Status) : Type 0 where
+pub record SaysAnswer (name old new : List ℕ) (before now : ℕ) (result : Status) : Type 0 where
   pub status : Status
   pub stands : AfterTelling status before now result
-  pub line : TellsLine status old new before now result
+  pub line : TellsLine name status old new before now result

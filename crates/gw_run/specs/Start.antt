@@ -1,5 +1,10 @@
--- When a run begins.
-use Rattle.std.specs.Prelude.{◌≡◌, ◌⊎◌, ℕ, ◌≤◌, List, [], All, Contains}
+-- When a run begins (this project's own).
+use Rattle.std.specs.Prelude.{◌≡◌, ◌≤◌, ◌⊎◌, ℕ, List, [], map, All, Contains}
+use Rattle.gw_run.specs.declared.log.Stamped.{Stamped}
+
+-- the stamps of a log's frames
+abbrev pub stamps_of : List Stamped → List ℕ
+stamps_of frames = map (λ s. s.at.0) frames
 
 -- the number is one of the list's, and none of them is below it
 pub record IsLeast (numbers : List ℕ) (least : ℕ) : Type 0 where

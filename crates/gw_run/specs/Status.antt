@@ -42,10 +42,10 @@ abbrev pub summary_text : Summary → List ℕ
 summary_text summary =
     decimal summary.sessions ++ codes " " ++ decimal summary.whole ++ codes " " ++ decimal summary.dests ++ codes " " ++ decimal summary.sent ++ codes " " ++ decimal summary.moves
 
--- the configuration, or a line of the log of can0 or can1
-abbrev pub form_text : Form → List ℕ
-form_text Configuration = codes "configuration"
-form_text (Line bus line) = codes "log can" ++ decimal bus.0 ++ codes " line " ++ decimal line
+-- the configuration, or a line of the log of the bus with that name
+abbrev pub form_text : (name : List ℕ) → Form → List ℕ
+form_text name Configuration = codes "configuration"
+form_text name (Line bus line) = codes "log " ++ name ++ codes " line " ++ decimal line
 
 -- a file's role, with the number of its bus
 abbrev pub role_text : FileRole → List ℕ
@@ -61,15 +61,15 @@ which_text ConfigBytes = codes "config-bytes"
 which_text Lines = codes "lines"
 which_text Ticks = codes "ticks"
 
--- what is said of a status, without its line feed
-abbrev pub status_text : Status → List ℕ
-status_text (Ok summary) = codes "done " ++ summary_text summary
-status_text Accepted = codes "accepted"
-status_text Usage = codes "usage: gateway run CONFIG REPORT; gateway check CONFIG; gateway make SEED SIZE"
-status_text (ConfigRefused (Fault fault)) = codes "config " ++ fault_text fault
-status_text (ConfigRefused (Conflict conflict)) = codes "config: " ++ conflict_text conflict
-status_text (ReadFault role) = codes "read " ++ role_text role
-status_text (WriteFault role) = codes "write " ++ role_text role
-status_text Memory = codes "memory"
-status_text (Limit which value) = codes "limit " ++ which_text which ++ codes " " ++ decimal value
-status_text (Unbuilt form) = codes "unbuilt " ++ form_text form
+-- what is said of a status, without its line feed; the name is that of the bus that it speaks of
+abbrev pub status_text : (name : List ℕ) → Status → List ℕ
+status_text name (Ok summary) = codes "done " ++ summary_text summary
+status_text name Accepted = codes "accepted"
+status_text name Usage = codes "usage: gateway run CONFIG REPORT; gateway check CONFIG; gateway make SEED SIZE"
+status_text name (ConfigRefused (Fault fault)) = codes "config " ++ fault_text fault
+status_text name (ConfigRefused (Conflict conflict)) = codes "config: " ++ conflict_text conflict
+status_text name (ReadFault role) = codes "read " ++ role_text role
+status_text name (WriteFault role) = codes "write " ++ role_text role
+status_text name Memory = codes "memory"
+status_text name (Limit which value) = codes "limit " ++ which_text which ++ codes " " ++ decimal value
+status_text name (Unbuilt form) = codes "unbuilt " ++ form_text name form

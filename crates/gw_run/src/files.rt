@@ -18,35 +18,6 @@ pub(crate) fn are_same(some: &[u8], other: &[u8]) -> bool
     some == other
 }
 
-/// Whether the file holds exactly these bytes. A file that isn't there is a fault.
-pub(crate) fn holds_exactly<D: Depot>(
-    depot: &mut D,
-    name: &str,
-    expected: &[u8],
-) -> Result<bool, Failed>
-    requires { IsName name.now }
-    ensures told { D.told depot.new ≡ D.told depot.old }
-    ensures files { D.files depot.new ≡ D.files depot.old }
-    ensures exact { D.told depot.old ≡ true → IfOk result (λ same. MatchBool same (D.files depot.old name.now ≡ Some expected.now) (¬ (D.files depot.old name.now ≡ Some expected.now))) }
-    ensures cause { HasCause Read name.now (D.faults depot.old) (D.faults depot.new) (D.blame depot.old) (D.blame depot.new) result }
-{
-    let mut piece = [0u8; PIECE];
-    let mut done = 0;
-    loop {
-        let count = depot.read(name, done as u64, &mut piece)?;
-        if count == 0 {
-            return Ok(done == expected.len());
-        }
-        if count > expected.len() - done {
-            return Ok(false);
-        }
-        if !are_same(&piece[..count], &expected[done..done + count]) {
-            return Ok(false);
-        }
-        done += count;
-    }
-}
-
 /// Why a file wasn't read whole.
 #[derive(Clone, Copy, Debug, PartialEq, Eq)]
 pub(crate) enum ReadStop {
@@ -69,6 +40,7 @@ pub(crate) fn read_whole<D: Depot>(
     ensures files { D.files depot.new ≡ D.files depot.old }
     ensures whole { D.told depot.old ≡ true → IfOk result (HoldsShort (D.files depot.old) name.now most) }
     ensures stopped { D.told depot.old ≡ true → IfErr result (StopsReading (D.files depot.old) name.now most) }
+    ensures later { D.faults depot.old ≤ D.faults depot.new }
     ensures fault { IfErr result (FaultsOn name.now (D.faults depot.old) (D.faults depot.new) (D.blame depot.new)) }
 {
     let mut piece = [0u8; PIECE];

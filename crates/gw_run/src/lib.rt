@@ -1,26 +1,32 @@
 //! The top call of the gateway: from the words of a command to logs, a report and a status.
 #![tactic(auto)]
 
-mod base;
+mod boxes;
 mod check;
+mod config;
+mod feed;
 mod files;
+mod forward;
 mod gate;
+mod gateway;
 mod log;
+mod machines;
+mod notes;
 mod output;
-mod report;
+mod plan;
+mod play;
+mod played;
 mod results;
 mod say;
-mod singles;
+mod setup;
 mod start;
 mod status;
 #[cfg(test)]
 mod tests;
 mod top;
-mod transfer;
 mod words;
 
 pub use gate::{Gate, OpenGate};
 pub use log::Stamped;
 pub use status::{ConfigCause, FileRole, Form, Status, Summary, Which};
 pub use top::run;
-pub use transfer::Transfer;

@@ -3,20 +3,19 @@ ghost use Rattle.std.specs.Prelude.{◌≡◌, ◌<◌, ◌≤◌, ◌+◌, ◌*
 ghost use Rattle.std.specs.Bool.{OnTrue, OnFalse};
 ghost use Rattle.arrayvec.specs.ArrayVec.{array_vec_len};
 ghost use Rattle.gw_depot.specs.declared.outside.CallKind.TheVariants.{Read};
-ghost use Rattle.gw_run.specs.Base.{interface_of, log_of};
 ghost use Rattle.gw_run.specs.Dated.{AreDated};
-ghost use Rattle.gw_run.specs.Line.{IsBuiltLine, without_return, starts_segmented};
+ghost use Rattle.gw_run.specs.Setup.{IsBuiltFrame};
+ghost use Rattle.gw_run.specs.Line.{IsBuiltLine, without_return};
 ghost use Rattle.gw_depot.specs.Fault.{Rose};
 ghost use Rattle.gw_run.specs.Log.{AddsLine, LogStops, ReadsLog, Refuses};
 
-use crate::base::{BaseBus, is_source_frame};
+use crate::setup::Bus;
 use arrayvec::ArrayVec;
 use can_frame::Frame;
 use candump_line::plain_line;
 use gw_base::{ListOf, Memory, Micros};
 use gw_depot::{Depot, Failed};
 use std::alloc::Global;
-use tp_unit::{Unit, read_unit};
 
 /// The byte that ends a line.
 const LINE_FEED: u8 = b'\n';
@@ -89,36 +88,26 @@ fn without_return(piece: &[u8]) -> &[u8]
     }
 }
 
-/// Whether the frame is a first frame of the source channel.
-fn starts_segmented(bus: BaseBus, frame: &Frame) -> bool
-    ensures { result ≡ starts_segmented bus frame.now }
-{
-    match bus {
-        BaseBus::Can1 => false,
-        BaseBus::Can0 => is_source_frame(frame) && matches!(read_unit(0, frame), Unit::Ff { .. }),
-    }
-}
-
 /// The frame and its stamp, where the line is one that is built.
-fn built_line(bus: BaseBus, piece: &[u8]) -> Option<Stamped>
-    ensures { MatchOption result ((stamped : Stamped) → ¬ IsBuiltLine bus (without_return piece.now) stamped) (λ stamped. IsBuiltLine bus (without_return piece.now) stamped) }
+fn built_line(bus: &Bus<'_>, piece: &[u8]) -> Option<Stamped>
+    ensures { MatchOption result ((stamped : Stamped) → ¬ IsBuiltLine bus.now (without_return piece.now) stamped) (λ stamped. IsBuiltLine bus.now (without_return piece.now) stamped) }
 {
     let (at, frame) = plain_line(without_return(piece), bus.interface())?;
     if at.0 >= END_OF_STAMPS {
         return None;
     }
-    if starts_segmented(bus, &frame) {
+    if bus.side().is_unbuilt(&frame) {
         return None;
     }
     Some(Stamped { at, frame })
 }
 
 /// Reads one more line, without its line end, as a frame.
-fn push_line(bus: BaseBus, piece: &[u8], frames: &mut ListOf<Stamped>) -> Result<(), LineStop>
+fn push_line(bus: &Bus<'_>, piece: &[u8], frames: &mut ListOf<Stamped>) -> Result<(), LineStop>
     requires { length frames.old < 2 ^ 32 - 1 }
-    ensures ok { OnOk result (AddsLine bus piece.now frames.old frames.new) }
+    ensures ok { OnOk result (AddsLine bus.now piece.now frames.old frames.new) }
     ensures err { OnErr result (frames.new ≡ frames.old) }
-    ensures refused { IfErr result (Refuses bus piece.now (length frames.old)) }
+    ensures refused { IfErr result (Refuses bus.now piece.now (length frames.old)) }
 {
     let line = frames.items().len() as u32 + 1;
     let Some(stamped) = built_line(bus, piece) else {
@@ -131,7 +120,6 @@ fn push_line(bus: BaseBus, piece: &[u8], frames: &mut ListOf<Stamped>) -> Result
 /// A log as far as it was read: the frames of the whole lines, and what stands after the last line feed.
 #[derive(Debug, Drop)]
 struct LogSoFar {
-    bus: BaseBus,
     most: u32,
     taken: u64,
     piece: ArrayVec<u8, MOST_KEPT>,
@@ -144,6 +132,7 @@ struct LogSoFar {
 }
 
 impl LogSoFar {
+    ghost use Rattle.candump_line.specs.Line.{IsInterface};
     ghost use Rattle.gw_run.specs.Log.{ReadSoFar, IsBuiltLog, Stops};
 
     /// Whether no further line may begin.
@@ -155,27 +144,28 @@ impl LogSoFar {
     }
 
     /// Ends the line, at its line feed.
-    fn end_line(&mut self) -> Result<(), LineStop>
+    fn end_line(&mut self, bus: &Bus<'_>) -> Result<(), LineStop>
         requires { length self.old.frames < self.old.most }
-        ensures same { (self.new.bus ≡ self.old.bus) × (self.new.most ≡ self.old.most) }
+        ensures same { self.new.most ≡ self.old.most }
         ensures count { OnOk result (self.new.taken ≡ self.old.taken + 1) }
-        ensures read { OnOk result ((content : List ℕ) → ReadSoFar self.old.bus content self.old.piece.items self.old.frames → ReadSoFar self.old.bus (content ++ 10 ∷ []) self.new.piece.items self.new.frames) }
-        ensures stops { IfErr result (λ stop. (content later : List ℕ) → ReadSoFar self.old.bus content self.old.piece.items self.old.frames → Stops self.old.bus self.old.most (content ++ 10 ∷ later) stop) }
+        ensures read { OnOk result ((content : List ℕ) → ReadSoFar bus.now content self.old.piece.items self.old.frames → ReadSoFar bus.now (content ++ 10 ∷ []) self.new.piece.items self.new.frames) }
+        ensures stops { IfErr result (λ stop. (content later : List ℕ) → ReadSoFar bus.now content self.old.piece.items self.old.frames → Stops bus.now self.old.most (content ++ 10 ∷ later) stop) }
     {
-        push_line(self.bus, self.piece.as_slice(), &mut self.frames)?;
+        push_line(bus, self.piece.as_slice(), &mut self.frames)?;
         self.piece.clear();
         self.taken += 1;
         Ok(())
     }
 
     /// Keeps a byte of a line that hasn't ended.
-    fn keep_byte(&mut self, byte: u8) -> Result<(), LineStop>
+    fn keep_byte(&mut self, bus: &Bus<'_>, byte: u8) -> Result<(), LineStop>
+        requires interface { IsInterface bus.now.interface }
         requires few { length self.old.frames < self.old.most }
         requires kept { byte ≢ 10 }
-        ensures same { (self.new.bus ≡ self.old.bus) × (self.new.most ≡ self.old.most) }
+        ensures same { self.new.most ≡ self.old.most }
         ensures count { OnOk result (self.new.taken ≡ self.old.taken + 1) }
-        ensures read { OnOk result ((content : List ℕ) → ReadSoFar self.old.bus content self.old.piece.items self.old.frames → ReadSoFar self.old.bus (content ++ byte ∷ []) self.new.piece.items self.new.frames) }
-        ensures stops { IfErr result (λ stop. (content later : List ℕ) → ReadSoFar self.old.bus content self.old.piece.items self.old.frames → Stops self.old.bus self.old.most (content ++ byte ∷ later) stop) }
+        ensures read { OnOk result ((content : List ℕ) → ReadSoFar bus.now content self.old.piece.items self.old.frames → ReadSoFar bus.now (content ++ byte ∷ []) self.new.piece.items self.new.frames) }
+        ensures stops { IfErr result (λ stop. (content later : List ℕ) → ReadSoFar bus.now content self.old.piece.items self.old.frames → Stops bus.now self.old.most (content ++ byte ∷ later) stop) }
     {
         if self.piece.is_full() {
             let line = self.frames.items().len() as u32 + 1;
@@ -187,43 +177,44 @@ impl LogSoFar {
     }
 
     /// Takes the next byte of the log.
-    fn take_byte(&mut self, byte: u8) -> Result<(), LineStop>
-        ensures same { (self.new.bus ≡ self.old.bus) × (self.new.most ≡ self.old.most) }
+    fn take_byte(&mut self, bus: &Bus<'_>, byte: u8) -> Result<(), LineStop>
+        requires { IsInterface bus.now.interface }
+        ensures same { self.new.most ≡ self.old.most }
         ensures count { OnOk result (self.new.taken ≡ self.old.taken + 1) }
-        ensures read { OnOk result ((content : List ℕ) → ReadSoFar self.old.bus content self.old.piece.items self.old.frames → ReadSoFar self.old.bus (content ++ byte ∷ []) self.new.piece.items self.new.frames) }
-        ensures stops { IfErr result (λ stop. (content later : List ℕ) → ReadSoFar self.old.bus content self.old.piece.items self.old.frames → Stops self.old.bus self.old.most (content ++ byte ∷ later) stop) }
+        ensures read { OnOk result ((content : List ℕ) → ReadSoFar bus.now content self.old.piece.items self.old.frames → ReadSoFar bus.now (content ++ byte ∷ []) self.new.piece.items self.new.frames) }
+        ensures stops { IfErr result (λ stop. (content later : List ℕ) → ReadSoFar bus.now content self.old.piece.items self.old.frames → Stops bus.now self.old.most (content ++ byte ∷ later) stop) }
     {
         if self.is_past_limit() {
             return Err(LineStop::Limit);
         }
         if byte == LINE_FEED {
-            self.end_line()
+            self.end_line(bus)
         } else {
-            self.keep_byte(byte)
+            self.keep_byte(bus, byte)
         }
     }
 
     /// Takes the next bytes of the log.
-    fn take_all(&mut self, bytes: &[u8]) -> Result<(), LineStop>
-        ensures same { (self.new.bus ≡ self.old.bus) × (self.new.most ≡ self.old.most) }
+    fn take_all(&mut self, bus: &Bus<'_>, bytes: &[u8]) -> Result<(), LineStop>
+        requires { IsInterface bus.now.interface }
+        ensures same { self.new.most ≡ self.old.most }
         ensures count { OnOk result (self.new.taken ≡ self.old.taken + length bytes.now) }
-        ensures read { OnOk result ((content : List ℕ) → ReadSoFar self.old.bus content self.old.piece.items self.old.frames → ReadSoFar self.old.bus (content ++ bytes.now) self.new.piece.items self.new.frames) }
-        ensures stops { IfErr result (λ stop. (content later : List ℕ) → ReadSoFar self.old.bus content self.old.piece.items self.old.frames → Stops self.old.bus self.old.most (content ++ bytes.now ++ later) stop) }
+        ensures read { OnOk result ((content : List ℕ) → ReadSoFar bus.now content self.old.piece.items self.old.frames → ReadSoFar bus.now (content ++ bytes.now) self.new.piece.items self.new.frames) }
+        ensures stops { IfErr result (λ stop. (content later : List ℕ) → ReadSoFar bus.now content self.old.piece.items self.old.frames → Stops bus.now self.old.most (content ++ bytes.now ++ later) stop) }
     {
         for byte in bytes {
-            self.take_byte(*byte)?;
+            self.take_byte(bus, *byte)?;
         }
         Ok(())
     }
 
     /// Ends the log: a last line needs no line feed.
-    fn finish(self) -> Result<ListOf<Stamped>, LineStop>
-        ensures read { IfOk result (λ frames. (content : List ℕ) → ReadSoFar self.bus content self.piece.items self.frames → IsBuiltLog self.bus content frames) }
+    fn finish(self, bus: &Bus<'_>) -> Result<ListOf<Stamped>, LineStop>
+        ensures read { IfOk result (λ frames. (content : List ℕ) → ReadSoFar bus.now content self.piece.items self.frames → IsBuiltLog bus.now content frames) }
         ensures few { IfOk result (λ frames. length frames ≤ self.most) }
-        ensures stops { IfErr result (λ stop. (content : List ℕ) → ReadSoFar self.bus content self.piece.items self.frames → Stops self.bus self.most content stop) }
+        ensures stops { IfErr result (λ stop. (content : List ℕ) → ReadSoFar bus.now content self.piece.items self.frames → Stops bus.now self.most content stop) }
     {
         let LogSoFar {
-            bus,
             most: _,
             taken: _,
             piece,
@@ -242,21 +233,21 @@ impl LogSoFar {
 pub(crate) fn read_log<D: Depot>(
     alloc: Global,
     depot: &mut D,
-    bus: BaseBus,
+    bus: &Bus<'_>,
     most: u32,
 ) -> Result<ListOf<Stamped>, LogStop>
     requires { most < 2 ^ 32 - 1 }
     ensures told { D.told depot.new ≡ D.told depot.old }
     ensures files { D.files depot.new ≡ D.files depot.old }
-    ensures read { IfOk result (ReadsLog (D.told depot.old) (D.files depot.old) bus) }
+    ensures read { IfOk result (ReadsLog (D.told depot.old) (D.files depot.old) bus.now) }
     ensures few { IfOk result (λ frames. length frames ≤ most) }
     ensures dated { IfOk result AreDated }
-    ensures stops { IfErr result (LogStops (D.told depot.old) (D.files depot.old) bus most) }
+    ensures built { IfOk result (All (λ s. IsBuiltFrame bus.now.side s.frame)) }
+    ensures stops { IfErr result (LogStops (D.told depot.old) (D.files depot.old) bus.now most) }
     ensures later { D.faults depot.old ≤ D.faults depot.new }
-    ensures fault { result ≡ Err LogStop.Fault → Rose (D.faults depot.old) (D.faults depot.new) × (D.blame depot.new ≡ Some (Read, log_of bus)) }
+    ensures fault { result ≡ Err LogStop.Fault → Rose (D.faults depot.old) (D.faults depot.new) × (D.blame depot.new ≡ Some (Read, bus.now.log)) }
 {
     let mut log = LogSoFar {
-        bus,
         most,
         taken: 0,
         piece: ArrayVec::new(),
@@ -268,8 +259,8 @@ pub(crate) fn read_log<D: Depot>(
             return Err(LogStop::Fault);
         };
         if count == 0 {
-            return Ok(log.finish()?);
+            return Ok(log.finish(bus)?);
         }
-        log.take_all(&piece[..count])?;
+        log.take_all(bus, &piece[..count])?;
     }
 }

@@ -1,40 +1,66 @@
 //! What a run leaves behind: the outputs and the report.
 ghost use Rattle.std.specs.Prelude.{◌≡◌, ◌≢◌, ◌≤◌, true, List, ℕ, OnOk, OnErr, IfErr};
 ghost use Rattle.gw_depot.specs.Files.{IsName};
-ghost use Rattle.gw_run.specs.Base.{output_of};
-ghost use Rattle.gw_run.specs.declared.base.BaseBus.TheVariants.{Can0, Can1};
-ghost use Rattle.gw_run.specs.Results.{HasBegun, HasResults, WriteFailed};
+ghost use Rattle.gw_run.specs.Results.{HasBegun, HasOutputs, HasResults, OutputsBegun, WriteFailed};
 
-use crate::base::{BaseBus, CAN0, CAN1};
 use crate::files::append_all;
+use crate::setup::{DESTINATION, SOURCE, Setup};
 use crate::status::FileRole;
 use gw_depot::Depot;
 
-/// Creates the outputs, writes the destination's output, and then the report.
+/// Creates both outputs, and writes them.
+fn write_outputs<D: Depot>(
+    depot: &mut D,
+    setup: &Setup<'_>,
+    controls: &[u8],
+    frames: &[u8],
+) -> Result<(), FileRole>
+    ensures told { D.told depot.new ≡ D.told depot.old }
+    ensures made { D.told depot.old ≡ true → OnOk result (HasOutputs (D.files depot.old) (D.files depot.new) setup.now controls.now frames.now) }
+    ensures begun { D.told depot.old ≡ true → OnErr result (OutputsBegun (D.files depot.old) (D.files depot.new) setup.now controls.now frames.now) }
+    ensures file { IfErr result (λ role. role ≢ FileRole.Say) }
+    ensures later { D.faults depot.old ≤ D.faults depot.new }
+    ensures cause { IfErr result (λ role. (report : List ℕ) → WriteFailed setup.now report (D.faults depot.old) (D.faults depot.new) (D.blame depot.new) role) }
+{
+    let source = setup.source().out();
+    let destination = setup.destination().out();
+    let Ok(()) = depot.create(source) else {
+        return Err(FileRole::Out(SOURCE));
+    };
+    let Ok(()) = depot.create(destination) else {
+        return Err(FileRole::Out(DESTINATION));
+    };
+    let Ok(()) = append_all(depot, source, controls) else {
+        return Err(FileRole::Out(SOURCE));
+    };
+    let Ok(()) = append_all(depot, destination, frames) else {
+        return Err(FileRole::Out(DESTINATION));
+    };
+    Ok(())
+}
+
+/// Creates both outputs and writes them, and then the report.
 pub(crate) fn write_results<D: Depot>(
     depot: &mut D,
-    output: &[u8],
+    setup: &Setup<'_>,
+    controls: &[u8],
+    frames: &[u8],
     report: &str,
     text: &[u8],
 ) -> Result<(), FileRole>
     requires name { IsName report.now }
-    requires apart { (report.now ≢ output_of BaseBus.Can0) × (report.now ≢ output_of BaseBus.Can1) }
+    requires source { report.now ≢ setup.now.source.out }
+    requires destination { report.now ≢ setup.now.destination.out }
     ensures told { D.told depot.new ≡ D.told depot.old }
-    ensures results { D.told depot.old ≡ true → OnOk result (HasResults (D.files depot.old) (D.files depot.new) output.now report.now text.now) }
+    ensures results { D.told depot.old ≡ true → OnOk result (HasResults (D.files depot.old) (D.files depot.new) setup.now controls.now frames.now report.now text.now) }
     ensures file { IfErr result (λ role. role ≢ FileRole.Say) }
-    ensures begun { D.told depot.old ≡ true → OnErr result (HasBegun (D.files depot.old) (D.files depot.new) output.now report.now text.now) }
+    ensures begun { D.told depot.old ≡ true → OnErr result (HasBegun (D.files depot.old) (D.files depot.new) setup.now controls.now frames.now report.now text.now) }
     ensures later { D.faults depot.old ≤ D.faults depot.new }
-    ensures cause { IfErr result (λ role. (config : List ℕ) → WriteFailed config report.now (D.faults depot.old) (D.faults depot.new) (D.blame depot.new) role) }
+    ensures cause { IfErr result (WriteFailed setup.now report.now (D.faults depot.old) (D.faults depot.new) (D.blame depot.new)) }
 {
-    let Ok(()) = depot.create(BaseBus::Can0.output()) else {
-        return Err(FileRole::Out(CAN0));
-    };
-    let Ok(()) = depot.create(BaseBus::Can1.output()) else {
-        return Err(FileRole::Out(CAN1));
-    };
-    let Ok(()) = append_all(depot, BaseBus::Can1.output(), output) else {
-        return Err(FileRole::Out(CAN1));
-    };
+    if let Err(role) = write_outputs(depot, setup, controls, frames) {
+        return Err(role);
+    }
     let Ok(()) = depot.create(report) else {
         return Err(FileRole::Report);
     };

@@ -4,7 +4,7 @@ ghost use Rattle.gw_depot.specs.Fault.{HasCount};
 ghost use Rattle.gw_run.specs.Status.{is_done};
 ghost use Rattle.gw_run.specs.Say.{SaysAll, AfterTelling, TellsLine};
 
-use crate::status::{FileRole, Status};
+use crate::status::{FileRole, Said, Status};
 use gw_depot::{Failed, Sink};
 use std::alloc::Global;
 
@@ -28,14 +28,15 @@ fn unless_done(status: Status, unsaid: Status) -> Status
     if status.is_done() { unsaid } else { status }
 }
 
-/// Says the status's text and a line feed. An `Ok` that can't be said becomes a fault, or `Memory` where the text
+/// Says the status's text, with the name of the bus that it speaks of, and a line feed. An `Ok` that can't be said becomes a fault, or `Memory` where the text
 /// finds no memory; every other status stays.
-pub(crate) fn tell<K: Sink>(alloc: Global, status: Status, say: &mut K) -> Status
+pub(crate) fn tell<K: Sink>(alloc: Global, status: Status, name: &str, say: &mut K) -> Status
     ensures told { K.told say.new ≡ K.told say.old }
     ensures answer { AfterTelling status (K.faults say.old) (K.faults say.new) result }
-    ensures said { K.told say.old ≡ true → TellsLine status (K.said say.old) (K.said say.new) (K.faults say.old) (K.faults say.new) result }
+    ensures said { K.told say.old ≡ true → TellsLine name.now status (K.said say.old) (K.said say.new) (K.faults say.old) (K.faults say.new) result }
 {
-    let Ok(line) = format!(in alloc; "{status}\n") else {
+    let said = Said { status, name };
+    let Ok(line) = format!(in alloc; "{said}\n") else {
         return unless_done(status, Status::Memory);
     };
     match say_all(say, line.as_bytes()) {

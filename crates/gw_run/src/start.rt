@@ -1,11 +1,12 @@
-//! When a run begins: the least stamp of all logs.
+//! When a run begins, and the last tick of a log: the least and the greatest stamp.
 ghost use Rattle.std.specs.Prelude.{◌≡◌, ◌++◌, ◌<◌, ◌*◌, ◌^◌, [], IfSome, MatchOption};
 ghost use Rattle.gw_run.specs.Dated.{AreDated};
-ghost use Rattle.gw_run.specs.Singles.{stamps_of};
-ghost use Rattle.gw_run.specs.Start.{IsLeast, IsStart};
+ghost use Rattle.gw_run.specs.Frames.{greatest_tick};
+ghost use Rattle.gw_run.specs.Start.{IsLeast, IsStart, stamps_of};
 
 use crate::log::Stamped;
-use gw_base::Micros;
+use gw_base::{Micros, Tick};
+use tick_clock::Clock;
 
 /// The least stamp of a log's frames, in microseconds.
 fn least_stamp(frames: &[Stamped]) -> Option<u64>
@@ -36,4 +37,17 @@ pub(crate) fn start_of(source: &[Stamped], destination: &[Stamped]) -> Micros
         (None, Some(least)) => Micros(least),
         (Some(one), Some(other)) => Micros(one.min(other)),
     }
+}
+
+/// The greatest tick of a log's frames, 0 without one.
+pub(crate) fn greatest_tick(clock: &Clock, frames: &[Stamped]) -> Tick
+    requires { AreDated frames.now }
+    ensures tick { result.0 ≡ greatest_tick clock.now.start.0 clock.now.period frames.now }
+    ensures dated { result.0 < 2 ^ 32 * 10 ^ 6 }
+{
+    let mut top = 0u64;
+    for stamped in frames {
+        top = top.max(clock.tick_of(stamped.at).0);
+    }
+    Tick(top)
 }

@@ -28,8 +28,8 @@ pub struct Summary {
 /// What isn't built yet.
 #[derive(Clone, Copy, Debug, PartialEq, Eq)]
 pub enum Form {
-    /// The configuration isn't the base one; or its own name is one of its outputs, or the report's name is one of
-    /// its logs or outputs.
+    /// The configuration is accepted, but differs from the base one in more than names, files, identifiers of 11 bits, the
+    /// period, the linger and the six timers.
     Configuration,
     /// A line of a bus's log, counted from 1.
     Line { bus: BusNo, line: u32 },
@@ -138,24 +138,6 @@ impl fmt::Display for Summary {
     }
 }
 
-impl fmt::Display for Form {
-    ghost use Rattle.std.specs.Prelude.{Some};
-    ghost use Rattle.gw_run.specs.Status.{form_text};
-
-    ghost output = { λ form. Some (form_text form) };
-
-    fn fmt<W: fmt::Write>(&self, f: &mut fmt::Formatter<W>) -> fmt::Result {
-        match self {
-            Form::Configuration => write!(f, "configuration"),
-            // The buses of the base configuration are can0 and can1.
-            Form::Line {
-                bus: BusNo(bus),
-                line,
-            } => write!(f, "log can{bus} line {line}"),
-        }
-    }
-}
-
 impl fmt::Display for FileRole {
     ghost use Rattle.std.specs.Prelude.{Some};
     ghost use Rattle.gw_run.specs.Status.{role_text};
@@ -188,15 +170,23 @@ impl fmt::Display for Which {
     }
 }
 
+/// A status that is said, with the name of the bus that it speaks of.
+#[derive(Clone, Copy)]
+pub(crate) struct Said<'a> {
+    pub(crate) status: Status,
+    pub(crate) name: &'a str,
+}
+
 /// The text that is said of the status, without its line feed.
-impl fmt::Display for Status {
+impl fmt::Display for Said<'_> {
     ghost use Rattle.std.specs.Prelude.{Some};
     ghost use Rattle.gw_run.specs.Status.{status_text};
 
-    ghost output = { λ status. Some (status_text status) };
+    ghost output = { λ said. Some (status_text said.name.now said.status) };
 
     fn fmt<W: fmt::Write>(&self, f: &mut fmt::Formatter<W>) -> fmt::Result {
-        match self {
+        let name = self.name;
+        match self.status {
             Status::Ok(summary) => write!(f, "done {summary}"),
             Status::Accepted => write!(f, "accepted"),
             Status::Usage => write!(f, "{USAGE}"),
@@ -204,7 +194,10 @@ impl fmt::Display for Status {
             Status::ConfigRefused(ConfigCause::Conflict(conflict)) => {
                 write!(f, "config: {conflict}")
             }
-            Status::Unbuilt(form) => write!(f, "unbuilt {form}"),
+            Status::Unbuilt(Form::Configuration) => write!(f, "unbuilt configuration"),
+            Status::Unbuilt(Form::Line { bus: _, line }) => {
+                write!(f, "unbuilt log {name} line {line}")
+            }
             Status::ReadFault(role) => write!(f, "read {role}"),
             Status::WriteFault(role) => write!(f, "write {role}"),
             Status::Memory => write!(f, "memory"),
@@ -226,8 +219,9 @@ mod tests {
         moves: 5,
     };
 
-    const ROWS: [(Status, &str, u8); 13] = [
+    const ROWS: [(Status, &str, u8); 14] = [
         (Status::Ok(DONE), "done 1 2 3 4 5", 0),
+        (Status::Accepted, "accepted", 0),
         (
             Status::Usage,
             "usage: gateway run CONFIG REPORT; gateway check CONFIG; gateway make SEED SIZE",
@@ -278,9 +272,13 @@ mod tests {
     #[test]
     fn each_status_has_its_text_and_its_code(rt: HostRuntime) -> Result<(), Fail> {
         for (status, said, code) in ROWS {
-            let text = status.to_string(rt.alloc())?;
+            let named = Said {
+                status,
+                name: "can1",
+            };
+            let text = named.to_string(rt.alloc())?;
             assert_eq!(rt; text.as_str(), said);
-            assert_eq!(rt; status.code(), code, "{said}");
+            assert_eq!(rt; status.code(), code, "{text}");
         }
         Ok(())
     }

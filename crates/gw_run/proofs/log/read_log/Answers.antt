@@ -1,7 +1,7 @@
 -- Each read adds the next bytes of the file, and the last one ends the log.
 use Rattle.std.proofs.Common.{◌∙◌, length-take, arith}
 use Rattle.std.proofs.lemmas.Result.{err_from_is_err_and}
-use Rattle.gw_run.proofs.Logs.{log-dated, read_to_end, read_more}
+use Rattle.gw_run.proofs.Logs.{log-built, log-dated, read_to_end, read_more}
 use Rattle.gw_run.proofs.Stopping.{stops_at_end, stops_in_read}
 use Rattle.gw_run.proofs.log.read_log.Goals as goal
 
@@ -10,35 +10,37 @@ loop-count-preserved g c = (
   c.in-Ok.ensures.told ∙ c.loop-count.invariant.0,
   c.in-Ok.ensures.files ∙ c.loop-count.invariant.1,
   omega (arith, c.loop-count.invariant.2, c.read.ensures.cause.later),
-  c.take_all.ensures.same.0 ∙ c.loop-count.invariant.3,
-  c.take_all.ensures.same.1 ∙ c.loop-count.invariant.4,
-  read_more _ _ _ _ _ _ _ _ _ _ _ c.loop-count.invariant.5
+  c.take_all.ensures.same ∙ c.loop-count.invariant.3,
+  read_more _ _ _ _ _ _ _ _ _ _ _ c.loop-count.invariant.4
       (λ is. rw (c.loop-count.invariant.1, c.log.ensures.log) at (c.in-Ok.ensures.read (c.loop-count.invariant.0 ∙ is)))
       (rw length-take (omega (arith, c.in-Ok.ensures.bound)))
       c.in_ok-take_all.ensures.count
-      (λ content so_far. rw c.loop-count.invariant.3 at c.in_ok-take_all.ensures.read content so_far),
+      c.in_ok-take_all.ensures.read,
 )
 
 pub returns-then-count-eq0-clause-read : goal.returns-then-count-eq0-clause-read
 returns-then-count-eq0-clause-read g c =
-    read_to_end _ _ _ _ _ _ _ _ c.loop-count.invariant.5
+    read_to_end _ _ _ _ _ _ _ _ c.loop-count.invariant.4
     (λ is. rw (c.loop-count.invariant.1, c.log.ensures.log, c.if-count-eq0.true) at (c.in-Ok.ensures.read (c.loop-count.invariant.0 ∙ is)))
-    (λ content so_far. rw c.loop-count.invariant.3 at c.in_ok-finish.ensures.read content so_far)
+    c.in_ok-finish.ensures.read
 
 pub returns-then-count-eq0-clause-dated : goal.returns-then-count-eq0-clause-dated
 returns-then-count-eq0-clause-dated g c = log-dated _ _ _ _ (returns-then-count-eq0-clause-read g c)
 
+pub returns-then-count-eq0-clause-built : goal.returns-then-count-eq0-clause-built
+returns-then-count-eq0-clause-built g c = log-built _ _ _ _ (returns-then-count-eq0-clause-read g c)
+
 pub returns-in_err-finish-clause-stops : goal.returns-in_err-finish-clause-stops
 returns-in_err-finish-clause-stops g c =
     let p = err_from_is_err_and c.from_residual.result c.from_residual.ensures.1 in
-    rw (p.1, p.2) (stops_at_end _ _ _ _ _ _ _ _ _ _ _ c.loop-count.invariant.3 c.loop-count.invariant.4 c.loop-count.invariant.5
+    rw (p.1, p.2) (stops_at_end _ _ _ _ _ _ _ _ _ _ c.loop-count.invariant.3 c.loop-count.invariant.4
     (λ is. rw (c.loop-count.invariant.1, c.log.ensures.log, c.if-count-eq0.true) at (c.in-Ok.ensures.read (c.loop-count.invariant.0 ∙ is)))
     c.in_err-finish.ensures.stops)
 
 pub returns-in_err-take_all-clause-stops : goal.returns-in_err-take_all-clause-stops
 returns-in_err-take_all-clause-stops g c =
     let p = err_from_is_err_and c.from_residual-in_err-take_all.result c.from_residual-in_err-take_all.ensures.1 in
-    rw (p.1, p.2) (stops_in_read _ _ _ _ _ _ _ _ _ _ _ _ c.loop-count.invariant.3 c.loop-count.invariant.4 c.loop-count.invariant.5
+    rw (p.1, p.2) (stops_in_read _ _ _ _ _ _ _ _ _ _ _ c.loop-count.invariant.3 c.loop-count.invariant.4
     (λ is. rw (c.loop-count.invariant.1, c.log.ensures.log) at (c.in-Ok.ensures.read (c.loop-count.invariant.0 ∙ is)))
     (rw length-take (omega (arith, c.in-Ok.ensures.bound)))
     c.in_err-take_all.ensures.stops)

@@ -7,7 +7,7 @@ invariant-loop-count g l =
     (g.D.Depot.told l.depot ≡ g.D.Depot.told l.initial.depot)
     × (g.D.Depot.files l.depot ≡ g.D.Depot.files l.initial.depot)
     × (g.D.Depot.faults l.initial.depot ≤ g.D.Depot.faults l.depot)
-    × (l.log.bus ≡ l.bus) × (l.log.most ≡ l.most)
+    × (l.log.most ≡ l.most)
     × ReadFrom (g.D.Depot.told l.initial.depot) (g.D.Depot.files l.initial.depot) l.bus l.log.taken l.log.piece.items l.log.frames
 
 abbrev pub decreases-loop-count : goal.decreases-loop-count

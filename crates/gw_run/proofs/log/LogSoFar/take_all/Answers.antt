@@ -8,6 +8,6 @@ pub returns-in_err-take_byte-clause-stops : goal.returns-in_err-take_byte-clause
 returns-in_err-take_byte-clause-stops c =
     let p = err_from_is_err_and c.from_residual.result c.from_residual.ensures.1 in
     rw (p.1, p.2) (λ content later so_far.
-    stops_at_byte _ _ _ _ content c.args.bytes.now later c.loop-byte.byte-index _ c.loop-byte.invariant.0 c.loop-byte.invariant.1 c.loop-byte-test.true
+    stops_at_byte _ _ _ content c.args.bytes.now later c.loop-byte.byte-index _ c.loop-byte.invariant.0 c.loop-byte-test.true
     (c.in_err-take_byte.ensures.stops (content ++ take c.loop-byte.byte-index c.args.bytes.now) (drop (c.loop-byte.byte-index + 1) c.args.bytes.now ++ later)
-    (rw c.loop-byte.invariant.0 (c.loop-byte.invariant.3 content so_far))))
+    (c.loop-byte.invariant.2 content so_far)))

@@ -1,0 +1,68 @@
+-- Where all stands, both machines can be told.
+use Rattle.std.proofs.Common.{◌≡◌, ℕ, ◌<◌, ◌≤◌, ◌==◌, ◌&&◌, Bool, true, false, List, length, refl, sym, subst, ap, ◌∙◌, arith}
+use Rattle.std.proofs.lemmas.Bool.Decides.{nat_tests}
+use Rattle.can_frame.specs.Frame.{CanFrame, IsLawful}
+use Rattle.can_frame.specs.Length.{length_fits}
+use Rattle.gw_base.specs.declared.numbers.PathNo.{PathNo}
+use Rattle.hub_core.specs.View.{View}
+use Rattle.tp_attempts.specs.Seen.{Seen}
+use Rattle.tp_receiver.specs.Known.{CanTake, Knows}
+use Rattle.tp_receiver.specs.Receiving.{RxInput, Came}
+use Rattle.tp_receiver.specs.Running.{RxTurn}
+use Rattle.tp_receiver.specs.declared.set.RxSet.{RxSet}
+use Rattle.tp_sender.specs.Sending.{Answer, Moment}
+use Rattle.tp_sender.specs.State.{HasFrame, IsPlain, Knows as KnowsPort, state_of}
+use Rattle.tp_sender.specs.declared.event.TxEvent.{TxEvent}
+use Rattle.tp_sender.specs.declared.event.TxEvent.TheVariants.{Left}
+use Rattle.tp_sender.specs.declared.set.TxSet.{TxSet}
+use Rattle.tp_unit.specs.Reading.{unit_of}
+use Rattle.gw_run.specs.Standing.{InSource, Stands}
+use Rattle.gw_run.specs.Telling.{CanTell, CanTellSender, means_in}
+use Rattle.gw_run.specs.declared.gateway.Gateway.{Gateway}
+use Rattle.gw_run.proofs.Same.{waits-later}
+
+pub can-tell : (g : Gateway) (t tick : ℕ) (turns : List RxTurn) (moments : List Moment) (view : View) (event : RxInput) → Stands g t turns moments view → t ≤ tick →
+    CanTake g.receiver.set (means_in g.hub) g.receiver.next_n event → CanTell g.receiver g.hub event tick
+can-tell g t tick turns moments view event s by can =
+    let set = s.receives.set in
+    let path : g.receiver.set.path.0 ≡ 0 = ap (λ (r : RxSet). r.path.0) set ∙ g.machines.are.path in
+    let readers : g.receiver.set.readers ≡ 1 = ap (λ (r : RxSet). r.readers) set ∙ g.machines.are.readers in
+    let P : View → Type 0 = λ v. Knows v g.receiver in
+    record {
+      acts = record { writes = ap (λ n. n == 0) path; most = omega (arith, readers) };
+      knows = subst P (sym s.pool.view_is) s.receives.knows;
+      waits = waits-later g.receiver.state t tick by s.receives.waits;
+      can = can;
+    }
+
+lawful-most : (fd : Bool) (len : ℕ) → length_fits fd len ≡ true → len ≤ 64
+lawful-most false len fits = grind (arith, nat_tests)
+lawful-most true len fits = grind (arith, nat_tests)
+
+-- a frame of the source channel
+pub can-receive : (g : Gateway) (seen : List Seen) (answers : List Answer) (tick : ℕ) (frame : CanFrame) → IsLawful frame → length seen < 1000000 → InSource g seen answers tick →
+    CanTell g.receiver g.hub (Came (length frame.bytes) (unit_of 0 frame)) tick
+can-receive g seen answers tick frame lawful few at =
+    let s = at.stands in
+    let count = ap length at.seen_is in
+    let address : g.receiver.set.a ≡ 0 = ap (λ (r : RxSet). r.a) s.receives.set ∙ g.machines.are.address in
+    can-tell g tick tick _ _ _ (Came (length frame.bytes) (unit_of 0 frame)) s (omega arith) (
+      record { takes = omega (arith, count, s.pool.takes); spare = omega (arith, count, s.pool.spare); number = omega (arith, count, s.receives.number) },
+      record { frame = frame; size_is = refl; most = lawful-most frame.fd (length frame.bytes) lawful.len; reads = ap (λ a. unit_of a frame) address },
+    )
+
+pub can-tell-sender : (g : Gateway) (t tick : ℕ) (turns : List RxTurn) (moments : List Moment) (view : View) (event : TxEvent) → Stands g t turns moments view → t ≤ tick → tick ≤ 10000000 →
+    (event ≡ Left → HasFrame (state_of g.sender).live) → IsPlain event → CanTellSender g.sender g.hub event tick
+can-tell-sender g t tick turns moments view event s by low left plain =
+    let set = s.sends.set in
+    let path : g.sender.set.path.0 ≡ 0 = ap (λ (r : TxSet). r.path.0) set ∙ ap (λ (p : PathNo). p.0) g.machines.are.same_path ∙ g.machines.are.path in
+    let dest : g.sender.set.dest.0 ≡ 0 = ap (λ (r : TxSet). r.dest.0) set ∙ g.machines.are.dest in
+    let P : View → Type 0 = λ v. KnowsPort v g.sender in
+    record {
+      knows = subst P (sym s.pool.view_is) s.sends.knows;
+      acts = ap (λ n. (n == 0) && (g.sender.set.dest.0 == 0)) path ∙ ap (λ n. (0 == 0) && (n == 0)) dest;
+      since = omega (arith, s.sends.since);
+      tick_is = low;
+      left = left;
+      plain = plain;
+    }

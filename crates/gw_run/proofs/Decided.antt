@@ -1,0 +1,149 @@
+-- How a run is decided: by its configuration, or by what is carried out of it.
+use Rattle.std.proofs.Common.{◌≡◌, ◌≢◌, ◌⊎◌, ℕ, ◌+◌, ◌-◌, ◌^◌, ◌≤◌, min, Bool, true, List, Some, length, refl, sym, ◌∙◌, subst, ap, inl, inr, arith}
+use Rattle.gw_base.specs.declared.numbers.BusNo.{BusNo}
+use Rattle.gw_config.specs.Config.{Configuration}
+use Rattle.gw_depot.specs.Fault.{Blame, Rose}
+use Rattle.gw_depot.specs.Files.{Files}
+use Rattle.gw_run.specs.declared.config.ConfigStop.{ConfigStop}
+use Rattle.gw_run.specs.declared.config.ConfigStop.TheVariants.{Fault as ReadFails, Memory as NoMemory, TooLong, Refused}
+use Rattle.gw_run.specs.declared.log.LineStop.TheVariants.{Unbuilt as UnbuiltLine, Limit as LineLimit, Memory as LineMemory}
+use Rattle.gw_run.specs.declared.log.LogStop.{LogStop}
+use Rattle.gw_run.specs.declared.log.LogStop.TheVariants.{Fault, Line as AtLine}
+use Rattle.gw_run.specs.declared.log.Stamped.{Stamped}
+use Rattle.gw_run.specs.declared.status.FileRole.{FileRole}
+use Rattle.gw_run.specs.declared.status.FileRole.TheVariants.{Config, Log, Out, Report, Say}
+use Rattle.gw_run.specs.declared.status.Form.TheVariants.{Configuration as WholeConfiguration, Line}
+use Rattle.gw_run.specs.declared.status.Status.{Status}
+use Rattle.gw_run.specs.declared.status.Status.TheVariants.{Ok, Accepted, Usage, ConfigRefused, Unbuilt, ReadFault, WriteFault, Memory, Limit}
+use Rattle.gw_run.specs.declared.status.Which.TheVariants.{ConfigBytes, Lines, Ticks}
+use Rattle.gw_run.specs.declared.setup.TheConstants.{DESTINATION}
+use Rattle.gw_run.specs.Causes.{ConfigFailed, IsCause, IsFault, IsNamed, IsSetup, LeavesFiles, log_status}
+use Rattle.gw_run.specs.Config.{FaultsOnConfig, ReadsConfig, StopsConfig, files_repeat, stop_status}
+use Rattle.gw_run.specs.Decided.{IsDecided, IsNameIn}
+use Rattle.gw_run.specs.Forwarded.{Forwards, IfDone, IsConfigured}
+use Rattle.gw_run.specs.Log.{LogStops, ReadsLog}
+use Rattle.gw_run.specs.Results.{ReadFailed, WriteFailed}
+use Rattle.gw_run.specs.Setup.{IsBuiltConfig, Setup}
+
+-- ---- the destination's log
+
+pub second-cause : (told : Bool) (before : Files) (config report : List ℕ) (setup : Setup) (source : List Stamped) (stop : LogStop) (result : Status) → result ≡ log_status DESTINATION stop →
+    told ≡ true → IsConfigured before config report setup → ReadsLog told before setup.source source → length source ≤ 1_000_000 → LogStops told before setup.destination (1_000_000 - length source) stop →
+    IsCause before config report result
+second-cause told before config report setup source Fault result same is configured reads few stops = subst (λ r. IsCause before config report r) (sym same) tt
+second-cause told before config report setup source (AtLine LineMemory) result same is configured reads few stops = subst (λ r. IsCause before config report r) (sym same) tt
+second-cause told before config report setup source (AtLine (UnbuiltLine number)) result same is configured reads few stops =
+    let stopped = stops is in
+    subst (λ r. IsCause before config report r) (sym same) (
+      setup,
+      configured,
+      record {
+        source = source;
+        source_log = record { content = reads.content; there = reads.there is; built = reads.built; few = few };
+        stops = record { content = stopped.content; there = stopped.there; stops = stopped.stops };
+      },
+    )
+second-cause told before config report setup source (AtLine LineLimit) result same is configured reads few stops =
+    let stopped = stops is in
+    subst (λ r. IsCause before config report r) (sym same) (
+      refl,
+      (
+        setup,
+        configured,
+        inr (record {
+          source = source;
+          source_log = record { content = reads.content; there = reads.there is; built = reads.built; few = few };
+          passes = record { content = stopped.content; there = stopped.there; goes_past = stopped.stops };
+        }),
+      ),
+    )
+
+-- ---- a count that rose since a later time rose since an earlier one
+
+rose-earlier : (earlier before now : ℕ) → earlier ≤ before → Rose before now → Rose earlier now
+rose-earlier earlier before now less rose = omega (arith, less, rose)
+
+read-earlier : (setup : Setup) (earlier before now : ℕ) (blame : Blame) (role : FileRole) → earlier ≤ before → ReadFailed setup before now blame role → ReadFailed setup earlier now blame role
+read-earlier setup earlier before now blame Config less failed = failed
+read-earlier setup earlier before now blame (Log bus) less failed = (rose-earlier earlier before now less failed.0, failed.1)
+read-earlier setup earlier before now blame (Out bus) less failed = failed
+read-earlier setup earlier before now blame Report less failed = failed
+read-earlier setup earlier before now blame Say less failed = failed
+
+write-earlier : (setup : Setup) (report : List ℕ) (earlier before now : ℕ) (blame : Blame) (role : FileRole) → earlier ≤ before → WriteFailed setup report before now blame role → WriteFailed setup report earlier now blame role
+write-earlier setup report earlier before now blame Config less failed = failed
+write-earlier setup report earlier before now blame (Log bus) less failed = failed
+write-earlier setup report earlier before now blame (Out bus) less failed = (rose-earlier earlier before now less failed.0, failed.1)
+write-earlier setup report earlier before now blame Report less failed = (rose-earlier earlier before now less failed.0, failed.1)
+write-earlier setup report earlier before now blame Say less failed = failed
+
+pub fault-earlier : (told : Bool) (files : Files) (config report : List ℕ) (earlier before now : ℕ) (blame : Blame) (status : Status) → earlier ≤ before →
+    IsFault told files config report before now blame status → IsFault told files config report earlier now blame status
+fault-earlier told files config report earlier before now blame (Ok summary) less fault = fault
+fault-earlier told files config report earlier before now blame Accepted less fault = fault
+fault-earlier told files config report earlier before now blame Usage less fault = fault
+fault-earlier told files config report earlier before now blame (ConfigRefused cause) less fault = fault
+fault-earlier told files config report earlier before now blame (Unbuilt form) less fault = fault
+fault-earlier told files config report earlier before now blame (ReadFault role) less (inl (is, rose, blamed)) = inl (is, rose-earlier earlier before now less rose, blamed)
+fault-earlier told files config report earlier before now blame (ReadFault role) less (inr (setup, is, failed)) = inr (setup, is, read-earlier setup earlier before now blame role less failed)
+fault-earlier told files config report earlier before now blame (WriteFault role) less (setup, is, failed) = (setup, is, write-earlier setup report earlier before now blame role less failed)
+fault-earlier told files config report earlier before now blame Memory less fault = fault
+fault-earlier told files config report earlier before now blame (Limit which value) less fault = fault
+
+-- ---- a configuration that isn't used
+
+pub stopped : (told : Bool) (before after : Files) (config report : List ℕ) (faults faults' : ℕ) (blame : Blame) (stop : ConfigStop) (status : Status) (name : List ℕ) → status ≡ stop_status stop → after ≡ before →
+    (told ≡ true → StopsConfig before config (Some report) stop) → FaultsOnConfig config faults faults' blame stop → IsDecided told before after config report faults faults' blame status name
+stopped told before after config report faults faults' blame ReadFails status name is same stops fails =
+    subst (λ s. IsDecided told before after config report faults faults' blame s name) (sym is)
+    (record { done = λ t. tt; shaped = λ e. cc; cause = λ t. tt; files = λ t. same; fault = inl (refl, fails.0, fails.1); named = tt })
+stopped told before after config report faults faults' blame NoMemory status name is same stops fails =
+    subst (λ s. IsDecided told before after config report faults faults' blame s name) (sym is)
+    (record { done = λ t. tt; shaped = λ e. cc; cause = λ t. tt; files = λ t. inl same; fault = tt; named = tt })
+stopped told before after config report faults faults' blame TooLong status name is same stops fails =
+    subst (λ s. IsDecided told before after config report faults faults' blame s name) (sym is)
+    (record { done = λ t. tt; shaped = λ e. cc; cause = λ t. (refl, stops t); files = λ t. same; fault = tt; named = tt })
+stopped told before after config report faults faults' blame (Refused cause) status name is same stops fails =
+    subst (λ s. IsDecided told before after config report faults faults' blame s name) (sym is)
+    (record { done = λ t. tt; shaped = λ e. cc; cause = stops; files = λ t. same; fault = tt; named = tt })
+
+-- ---- a configuration that isn't built
+
+pub not_built : (told : Bool) (before after : Files) (config report : List ℕ) (faults faults' : ℕ) (blame : Blame) (c : Configuration) (name : List ℕ) → after ≡ before →
+    (told ≡ true → ReadsConfig before config (Some report) c) → ((setup : Setup) → ¬ IsBuiltConfig c setup) →
+    IsDecided told before after config report faults faults' blame (Unbuilt WholeConfiguration) name
+not_built told before after config report faults faults' blame c name same reads not =
+    record { done = λ t. tt; shaped = λ e. cc; cause = λ t. (c, reads t, not); files = λ t. same; fault = tt; named = tt }
+
+-- ---- what is carried out
+
+named-in : (told : Bool) (before : Files) (config report : List ℕ) (setup : Setup) (status : Status) (name : List ℕ) → IsSetup told before config report setup → IsNameIn setup status name →
+    IsNamed told before config report status name
+named-in told before config report setup (Ok summary) name is named = tt
+named-in told before config report setup Accepted name is named = tt
+named-in told before config report setup Usage name is named = tt
+named-in told before config report setup (ConfigRefused cause) name is named = tt
+named-in told before config report setup (Unbuilt WholeConfiguration) name is named = tt
+named-in told before config report setup (Unbuilt (Line bus number)) name is named = (setup, is, named)
+named-in told before config report setup (ReadFault role) name is named = tt
+named-in told before config report setup (WriteFault role) name is named = tt
+named-in told before config report setup Memory name is named = tt
+named-in told before config report setup (Limit which value) name is named = tt
+
+pub configured : (told : Bool) (before : Files) (config report : List ℕ) (c : Configuration) (setup : Setup) → (told ≡ true → ReadsConfig before config (Some report) c) → IsBuiltConfig c setup → IsSetup told before config report setup
+configured told before config report c setup reads built t = record { c = c; reads = reads t; built = built }
+
+pub carried : (told : Bool) (before after : Files) (config report : List ℕ) (faults mid faults' : ℕ) (blame : Blame) (setup : Setup) (status : Status) (name : List ℕ) → IsSetup told before config report setup → faults ≤ mid →
+    (told ≡ true → IsConfigured before config report setup → IfDone status (Forwards before after config report)) → status ≢ Usage →
+    (told ≡ true → IsConfigured before config report setup → IsCause before config report status) →
+    (told ≡ true → IsConfigured before config report setup → LeavesFiles status before after config report) →
+    (IsSetup told before config report setup → IsFault told before config report mid faults' blame status) → IsNameIn setup status name →
+    IsDecided told before after config report faults faults' blame status name
+carried told before after config report faults mid faults' blame setup status name is later done shaped cause files fault named = record {
+  done = λ t. done t (is t);
+  shaped = shaped;
+  cause = λ t. cause t (is t);
+  files = λ t. files t (is t);
+  fault = fault-earlier told before config report faults mid faults' blame status later (fault is);
+  named = named-in told before config report setup status name is named;
+}

@@ -1,0 +1,182 @@
+-- The run's end: both machines are told, and the whole run is one.
+use Rattle.std.proofs.Common.{◌≡◌, ◌⊎◌, ℕ, zero, suc, ◌+◌, ◌-◌, ◌*◌, ◌<◌, ◌≤◌, Option, Some, None, List, [], ◌∷◌, ◌++◌, length, refl, sym, subst, ap, ◌∙◌, append-nil, length-append, arith}
+use Rattle.std.specs.Prelude.{option_to_list}
+use Rattle.hub_core.specs.Floors.{AreFresh, floors_of}
+use Rattle.hub_core.specs.Joint.{AreInOrder, Joint}
+use Rattle.gw_base.specs.declared.numbers.PathNo.{PathNo}
+use Rattle.hub_core.proofs.Whole.{is-joint}
+use Rattle.hub_core.specs.View.{Event, Missed, Session, View, grows}
+use Rattle.hub_core.specs.declared.record.DestRecord.{DestRecord}
+use Rattle.hub_core.specs.declared.record.Move.{Move}
+use Rattle.hub_core.specs.declared.record.SessionRecord.{SessionRecord}
+use Rattle.gw_law.specs.Run.{IsIdle, Route, Work, moments_of, turns_of, view_of}
+use Rattle.tick_clock.specs.declared.clock.Clock.{Clock}
+use Rattle.tp_attempts.specs.Seen.{Seen}
+use Rattle.tp_receiver.specs.Receiving.{Busy, RxMove, RxState, RunEnds}
+use Rattle.tp_receiver.specs.Rows.{EndRow}
+use Rattle.tp_receiver.specs.Running.{RxTurn, seen_by}
+use Rattle.tp_receiver.specs.declared.set.RxSet.{RxSet}
+use Rattle.tp_sender.specs.Sending.{Answer, Moment, Stepped, Written, calls_by as sent_calls}
+use Rattle.tp_sender.specs.State.{Sending, TxState, set_of, state_of}
+use Rattle.tp_sender.specs.Table.{NothingStands, FindsOne, TxMove, TxRow}
+use Rattle.tp_sender.specs.declared.event.TxEvent.{TxEvent}
+use Rattle.tp_sender.specs.declared.event.TxEvent.TheVariants.{RunEnd}
+use Rattle.tp_sender.specs.declared.set.TxSet.{TxSet}
+use Rattle.tp_unit.specs.Unit.{Meaning}
+use Rattle.gw_run.specs.Played.{Told}
+use Rattle.gw_run.specs.Standing.{AtBarrier, Finishes, IsQuiet, RxStands, Stands, TxStands, lying, route_with, view_in}
+use Rattle.gw_run.specs.Telling.{EndsTelling, IsOver, Tells, TellsReceiver, TellsSender}
+use Rattle.gw_run.specs.declared.gateway.Gateway.{Gateway}
+use Rattle.gw_run.specs.declared.machines.Machines.{Machines}
+use Rattle.gw_run.specs.declared.machines.TheConstants.{BUDGET, BUFFER_CELLS}
+use Rattle.gw_run.proofs.Barriers.{frames-same}
+use Rattle.gw_run.proofs.Beginning.{idle-or, stands-later}
+use Rattle.gw_run.proofs.RxTurns.{turn-stands}
+use Rattle.gw_run.proofs.Ticks.{stands-joint, told-same}
+use Rattle.gw_run.proofs.TxMoments.{moment-stands}
+use Rattle.gw_law.proofs.TxCausesEnd.{end-answers}
+use Rattle.gw_law.proofs.Lists.{there-at}
+use Rattle.hub_core.proofs.Growing.{grows-append}
+use Rattle.std.proofs.lemmas.Option.{slice_get_within}
+
+-- how many sessions are sent, and what is left for the sender at the run's end: the one that it sends, and those that it hasn't joined
+abbrev pub sent_now : Option Sending → ℕ
+sent_now None = 0
+sent_now (Some s) = 1
+
+abbrev pub remaining : Gateway → ℕ
+remaining g = 2 * (length ((view_in g.hub).sessions g.sender.set.path.0) - g.sender.next) + sent_now (state_of g.sender).live
+
+-- the sender is told once more
+pub ends-more : (g h : Gateway) (last : ℕ) (turns : List RxTurn) (moments : List Moment) (view : View) → EndsTelling g last turns moments view → TellsSender g h RunEnd last (lying g.frame) g.frames → EndsTelling h last turns moments view
+ends-more g h last turns moments view ends told =
+    let move = told.move in
+    let stands = moment-stands g h last last turns (ends.more ++ moments) (grows (sent_calls ends.more) view) RunEnd ends.stands (omega arith) tt (frames-same g h RunEnd last (lying g.frame) told) in
+    let V : View → Type 0 = λ v. Stands h last turns (Stepped move ∷ (ends.more ++ moments)) v in
+    record {
+      more = Stepped move ∷ ends.more;
+      only = ((told.stepped.event_is, told.stepped.tick_is), ends.only);
+      stands = subst V (sym (grows-append (sent_calls ends.more) move.calls view)) stands;
+    }
+
+-- the sender makes no record at the run's end only where no session stands
+none-told : (set : TxSet) (next : ℕ) (live : Option Sending) (m : TxMove) (entered : ℕ → ℕ) → TxRow set next live (record m { event = RunEnd }) → m.did.ended ≡ None → ((number : ℕ) (more : List Event) → m.calls ≡ Missed set.path.0 set.dest.0 number ∷ more → entered set.path.0 ≤ number) →
+    (m.did.live ≡ None) × (entered set.path.0 ≤ m.next)
+none-told set next (Some s) m entered row none missed = let some = row.0.ended in cc
+none-told set next None m entered (NothingStands row) none missed = (row.live, omega (arith, missed next [] row.calls_are, row.next_is))
+none-told set next None m entered (FindsOne buf len more joins ends) none missed = let some = ends.ended in cc
+
+missed-fresh : (view : View) (path dest number : ℕ) (calls more : List Event) → AreFresh (floors_of view) view calls → calls ≡ Missed path dest number ∷ more → length (view.sessions path) ≤ number
+missed-fresh view path dest number calls more fresh is = let P : List Event → Type 0 = λ c. AreFresh (floors_of view) view c in (subst P is fresh).0
+
+ended-none : (before after : List DestRecord) (ended : Option DestRecord) → after ≡ before ++ option_to_list ended → length after ≤ length before → ended ≡ None
+ended-none before after None is few = refl
+ended-none before after (Some told) is few = absurd (omega (arith, ap length is ∙ length-append before (told ∷ []), few))
+
+pub is-over : (g h : Gateway) (last : ℕ) → TellsSender g h RunEnd last (lying g.frame) g.frames → length h.dests ≤ length g.dests → IsOver h
+is-over g h last told few =
+    let move = told.move in
+    let st = told.stepped in
+    let next = ap (λ (s : TxState). s.next) st.state in
+    let row : TxRow (set_of g.sender) (state_of g.sender).next (state_of g.sender).live (record move { event = RunEnd }) = (let P : TxEvent → Type 0 = λ e. TxRow (set_of g.sender) (state_of g.sender).next (state_of g.sender).live (record move { event = e }) in subst P st.event_is st.row) in
+    let out = none-told (set_of g.sender) (state_of g.sender).next (state_of g.sender).live move (λ path. length ((view_in g.hub).sessions path)) row (ended-none g.dests h.dests move.did.ended told.dests few)
+    (λ number more is. missed-fresh (view_in g.hub) (set_of g.sender).path.0 (set_of g.sender).dest.0 number move.calls more st.fresh is) in
+    let joined : length ((view_in h.hub).sessions h.sender.set.path.0) ≡ length ((view_in g.hub).sessions g.sender.set.path.0) =
+    ap (λ (s : ℕ → List Session). length (s h.sender.set.path.0)) st.sessions ∙ ap (λ (x : TxSet). length ((view_in g.hub).sessions x.path.0)) st.set in
+    record { live = ap (λ (s : TxState). s.live) st.state ∙ out.0; joined = omega (arith, joined, next, out.1) }
+
+-- where the sender makes a record, less is left for it
+readings-most : (sizes : List ℕ) (count free : ℕ) (v : View) (path dest number : ℕ) → Joint sizes count free v → length (v.readings path dest) ≡ number → number ≤ length (v.sessions path)
+readings-most sizes count free v path dest zero joint is = omega arith
+readings-most sizes count free v path dest (suc seq) joint is =
+    let item = there-at (v.readings path dest) seq (omega (arith, is)) in
+    let session = joint.streams.joined path dest seq item.0 item.1 in
+    omega (arith, slice_get_within (v.sessions path) seq session.0 session.1)
+
+some-told : (set : TxSet) (next : ℕ) (live : Option Sending) (m : TxMove) → TxRow set next live (record m { event = RunEnd }) → (m.did.ended ≡ None → ⊥) →
+    (m.did.live ≡ None) × (next ≤ m.next) × (2 * next + 1 ≤ 2 * m.next + sent_now live)
+some-told set next (Some s) m row some = (row.0.live, omega (arith, row.1), omega (arith, row.1))
+some-told set next None m (NothingStands row) some = absurd (some row.ended)
+some-told set next None m (FindsOne buf len more joins ends) some = (ends.live, omega (arith, joins.next_is), omega (arith, joins.next_is))
+
+pub less-remains : (g h : Gateway) (last : ℕ) (lies : Option Meaning) (frames : List Written) → TellsSender g h RunEnd last lies frames → length g.dests < length h.dests → remaining h < remaining g
+less-remains g h last lies frames told more =
+    let move = told.move in
+    let st = told.stepped in
+    let row : TxRow (set_of g.sender) (state_of g.sender).next (state_of g.sender).live (record move { event = RunEnd }) = (let P : TxEvent → Type 0 = λ e. TxRow (set_of g.sender) (state_of g.sender).next (state_of g.sender).live (record move { event = e }) in subst P st.event_is st.row) in
+    let out = some-told (set_of g.sender) (state_of g.sender).next (state_of g.sender).live move row (λ none. omega (arith, ap length told.dests, ap (λ (e : Option DestRecord). length (g.dests ++ option_to_list e)) none, ap length (append-nil g.dests), more)) in
+    let next : h.sender.next ≡ move.next = ap (λ (s : TxState). s.next) st.state in
+    let live : sent_now (state_of h.sender).live ≡ 0 = ap (λ (s : TxState). sent_now s.live) st.state ∙ ap sent_now out.0 in
+    let same : length ((view_in h.hub).sessions h.sender.set.path.0) ≡ length ((view_in g.hub).sessions g.sender.set.path.0) =
+    ap (λ (s : ℕ → List Session). length (s h.sender.set.path.0)) st.sessions ∙ ap (λ (x : TxSet). length ((view_in g.hub).sessions x.path.0)) st.set in
+    let joint = is-joint h.hub in
+    let most : h.sender.next ≤ length ((view_in h.hub).sessions h.sender.set.path.0) = readings-most _ joint.0 joint.1 (view_in h.hub) h.sender.set.path.0 h.sender.set.dest.0 h.sender.next joint.2 st.knows.next in
+    omega (arith, next, live, same, most, out.1, out.2)
+
+end-idle : (set : RxSet) (old : RxState) (busy : Option Busy) (m : RxMove) → old.busy ≡ busy → EndRow set old busy m → m.new.busy ≡ None
+end-idle set old None m is row = ap (λ (s : RxState). s.busy) row.new ∙ is
+end-idle set old (Some busy) m is row = ap (λ (s : RxState). s.busy) row.new
+
+same-route : (m : Machines) (last count free : ℕ) (seen : List Seen) (answers : List Answer) (controls frames : List Written) (sessions : List SessionRecord) (dests : List DestRecord) (moves : List Move) (told : Told) (seen_told : List Seen) (answers_told : List Answer) →
+    seen ≡ seen_told → answers ≡ answers_told → told.controls ≡ controls → told.frames ≡ frames → told.report.sessions ≡ sessions → told.report.dests ≡ dests → told.report.moves ≡ moves → told.report.pool.changes ≡ count → told.report.pool.free ≡ free →
+    (let r : Route = record { rx = m.rx; tx = m.tx; shape = m.shape; source_budget = BUDGET; budget = BUDGET; sizes = BUFFER_CELLS ∷ []; last = last; seen = seen; answers = answers; controls = controls; frames = frames; sessions = sessions; dests = dests; moves = moves; count = count; free = free } in r) ≡ route_with m last seen_told answers_told told
+same-route m last count free seen answers controls frames sessions dests moves told seen_told answers_told a b c d e f g h i = rw (a, b, ← c, ← d, ← e, ← f, ← g, ← h, ← i) refl
+
+-- the receiver was told of the run's end
+pub end-stands : (g k : Gateway) (last : ℕ) (seen : List Seen) (answers : List Answer) (next : ℕ) → next ≤ last + 1 → (at : AtBarrier g seen answers next) → (first : TellsReceiver g k RunEnds last (lying g.control) g.controls) →
+    Stands k last (record { event = RunEnds; move = first.move } ∷ turns_of at.works) (moments_of at.works) (grows first.move.calls (view_of at.works))
+end-stands g k last seen answers next in_time at first =
+    turn-stands g k last last (turns_of at.works) (moments_of at.works) (view_of at.works) RunEnds (stands-later g (next - 1) last (turns_of at.works) (moments_of at.works) (view_of at.works) (omega arith) at.stands) (omega arith) (told-same g k RunEnds last (lying g.control) first)
+
+pub finishes : (g k h : Gateway) (clock : Clock) (last : ℕ) (seen : List Seen) (answers : List Answer) (next : ℕ) (told : Told) → next ≤ last + 1 → IsQuiet g ⊎ (next ≡ last + 1) → AtBarrier g seen answers next →
+    TellsReceiver g k RunEnds last (lying g.control) g.controls → ((turns : List RxTurn) (moments : List Moment) (view : View) → Stands k last turns moments view → EndsTelling h last turns moments view) → IsOver h → h.machines ≡ k.machines → Tells h clock told →
+    Finishes g.machines clock last seen answers told
+finishes g k h clock last seen answers next told in_time quiet at first ends over machines tells =
+    let works = at.works in
+    let turn : RxTurn = record { event = RunEnds; move = first.move } in
+    let stands = end-stands g k last seen answers next in_time at first in
+    let out = ends (turn ∷ turns_of works) (moments_of works) (grows first.move.calls (view_of works)) stands in
+    let all = out.stands in
+    let end : Work = record { tick = last; turns = turn ∷ []; moments = out.more } in
+    let m_is : h.machines ≡ g.machines = machines ∙ ap (λ (x : Gateway). x.machines) first.rest in
+    let R : Machines → Type 0 = λ m. RxStands m.rx m.shape last (turns_of (end ∷ works)) (view_of (end ∷ works)) h.receiver (lying h.control) h.controls h.sessions in
+    let T : Machines → Type 0 = λ m. TxStands m.tx last (moments_of (end ∷ works)) (view_of (end ∷ works)) h.sender (lying h.frame) h.frames h.dests in
+    let rx : R g.machines = subst R m_is all.receives in
+    let tx : T g.machines = subst T m_is all.sends in
+    let J : View → Type 0 = λ v. Joint (BUFFER_CELLS ∷ []) told.report.pool.changes told.report.pool.free v in
+    let S : ℕ → Type 0 = λ size. Joint (size ∷ []) told.report.pool.changes told.report.pool.free (view_in h.hub) in
+    let O : View → Type 0 = λ v. AreInOrder v.changes in
+    let path : h.sender.set.path.0 ≡ g.machines.rx.path.0 = ap (λ (x : TxSet). x.path.0) tx.set ∙ ap (λ (p : PathNo). p.0) g.machines.are.same_path in
+    let count : length ((view_in h.hub).sessions h.sender.set.path.0) ≡ length ((view_of (end ∷ works)).sessions g.machines.rx.path.0) =
+    ap (λ (p : ℕ). length ((view_in h.hub).sessions p)) path ∙ ap (λ (v : View). length (v.sessions g.machines.rx.path.0)) all.pool.view_is in
+    let number = ap (λ (s : TxState). s.next) tx.state in
+    let reached : IsQuiet g ⊎ (next ≡ last + 1) → IsIdle works ⊎ (next ≡ last + 1) = λ q. idle-or g (next - 1) works next (last + 1) at.stands q in
+    let N : ℕ → Type 0 = λ n. IsIdle works ⊎ (n ≡ last + 1) in
+    record {
+      ticks = works;
+      end = end;
+      run = record {
+        shape = g.machines.are.frames.shape_is;
+        path = g.machines.are.same_path;
+        readers = g.machines.are.readers;
+        ticks_are = at.ticks;
+        ends = record {
+          tick_is = refl;
+          in_time = omega (arith, at.next_is, in_time);
+          reached = subst N (sym at.next_is) (reached quiet);
+          receives = (refl, first.stepped.tick_is, refl);
+          between = stands-joint k last _ _ _ stands;
+          sends = out.only;
+          idle = record { receiver = end-idle _ _ _ first.move refl first.stepped.row; sender = sym (ap (λ (s : TxState). s.live) tx.state) ∙ over.live };
+          joined = omega (arith, over.joined, count, number);
+        };
+        received = rx.happened;
+        sent = tx.happened;
+        joint = subst J all.pool.view_is (subst S all.pool.size tells.joint);
+        in_order = subst O all.pool.view_is tells.in_order;
+      };
+      route = same-route g.machines last _ _ _ _ _ _ _ _ _ told seen answers (append-nil (seen_by (turns_of works)) ∙ at.seen_is) (end-answers last out.more (moments_of works) out.only ∙ at.answers_is)
+          (tells.controls ∙ rx.controls_are) (tells.frames ∙ tx.frames_are) (tells.sessions ∙ rx.sessions_are) (tells.dests ∙ tx.dests_are) (tells.moves ∙ all.pool.moves_are) refl refl;
+      clock_is = tells.clock_is;
+      buffers = tells.buffers;
+    }

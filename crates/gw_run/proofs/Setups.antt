@@ -1,0 +1,120 @@
+-- What a configuration leaves free is one thing, and why one isn't built.
+use Rattle.std.proofs.Common.{◌≡◌, ◌≢◌, ℕ, ◌<◌, ◌≤◌, ◌&&◌, nat_le, Bool, true, false, if◌then◌else◌, Option, Some, None, option_map, List, [], ◌∷◌, ◌++◌, get_or, length, ap, refl, sym, ◌∙◌, arith}
+use Rattle.std.specs.Option.{option_or}
+use Rattle.std.proofs.lemmas.Bool.Decides.{nat_tests}
+use Rattle.std.proofs.lemmas.Slice.Eq.{bytes_eq-Decides}
+use Rattle.gw_config.specs.Config.{BusEntry, ChannelEntry, Configuration, PathEntry}
+use Rattle.gw_config.specs.Lawful.{IsLawfulChannel}
+use Rattle.gw_config.specs.Repeated.{bus_repeats, is_used, repeated_among, repeated_in}
+use Rattle.gw_run.specs.declared.setup.Side.TheVariants.{Source, Destination}
+use Rattle.gw_run.specs.Setup.{HasLawfulNumbers, IsBaseBus, IsBaseChannel, IsBasePath, IsBuiltConfig, Setup, setup_of}
+
+-- a list of two items, and of one
+pub two-items : {A : Type 0} (l : List A) (x y : A) → 2 ≤ length l → length l < 3 → x ≡ get_or l 0 x → y ≡ get_or l 1 y → l ≡ x ∷ y ∷ []
+two-items [] x y some few first second = absurd (omega (arith, some))
+two-items (a ∷ []) x y some few first second = absurd (omega (arith, some))
+two-items (a ∷ b ∷ []) x y some few first second = rw (first, second) refl
+two-items (a ∷ b ∷ c ∷ l) x y some few first second = absurd (omega (arith, few))
+
+pub one-item : {A : Type 0} (l : List A) (x : A) → 1 ≤ length l → length l < 2 → x ≡ get_or l 0 x → l ≡ x ∷ []
+one-item [] x some few first = absurd (omega (arith, some))
+one-item (a ∷ []) x some few first = rw first refl
+one-item (a ∷ b ∷ l) x some few first = absurd (omega (arith, few))
+
+first-same : {A : Type 0} (l : List A) (a b c d : A) → l ≡ a ∷ b ∷ [] → l ≡ c ∷ d ∷ [] → a ≡ c
+first-same l a b c d one other = let same : a ∷ b ∷ [] ≡ c ∷ d ∷ [] = sym one ∙ other in cc
+
+second-same : {A : Type 0} (l : List A) (a b c d : A) → l ≡ a ∷ b ∷ [] → l ≡ c ∷ d ∷ [] → b ≡ d
+second-same l a b c d one other = let same : a ∷ b ∷ [] ≡ c ∷ d ∷ [] = sym one ∙ other in cc
+
+only-same : {A : Type 0} (l : List A) (a b : A) → l ≡ a ∷ [] → l ≡ b ∷ [] → a ≡ b
+only-same l a b one other = let same : a ∷ [] ≡ b ∷ [] = sym one ∙ other in cc
+
+pub setup-once : (c : Configuration) (some other : Setup) → IsBuiltConfig c some → IsBuiltConfig c other → some ≡ other
+setup-once c some other one two =
+    one.setup_is
+    ∙ ap (λ b. setup_of b one.destination one.receiver one.sender c.period c.linger) (first-same c.bus one.source one.destination two.source two.destination one.buses two.buses)
+    ∙ ap (λ b. setup_of two.source b one.receiver one.sender c.period c.linger) (second-same c.bus one.source one.destination two.source two.destination one.buses two.buses)
+    ∙ ap (λ k. setup_of two.source two.destination k one.sender c.period c.linger) (first-same c.channel one.receiver one.sender two.receiver two.sender one.channels two.channels)
+    ∙ ap (λ k. setup_of two.source two.destination two.receiver k c.period c.linger) (second-same c.channel one.receiver one.sender two.receiver two.sender one.channels two.channels)
+    ∙ sym two.setup_is
+
+-- ---- why a configuration isn't built
+
+pub other_source : (c : Configuration) (source destination : BusEntry) → c.bus ≡ source ∷ destination ∷ [] → ¬ IsBaseBus source → (setup : Setup) → ¬ IsBuiltConfig c setup
+other_source c source destination is not setup built =
+    not (rw (first-same c.bus source destination built.source built.destination is built.buses) built.source_is)
+
+pub other_destination : (c : Configuration) (source destination : BusEntry) → c.bus ≡ source ∷ destination ∷ [] → ¬ IsBaseBus destination → (setup : Setup) → ¬ IsBuiltConfig c setup
+other_destination c source destination is not setup built =
+    not (rw (second-same c.bus source destination built.source built.destination is built.buses) built.destination_is)
+
+pub other_receiver : (c : Configuration) (source destination : BusEntry) (receiver sender : ChannelEntry) → c.bus ≡ source ∷ destination ∷ [] → c.channel ≡ receiver ∷ sender ∷ [] →
+    ¬ IsBaseChannel source.name receiver → (setup : Setup) → ¬ IsBuiltConfig c setup
+other_receiver c source destination receiver sender buses channels not setup built =
+    not (rw (first-same c.bus source destination built.source built.destination buses built.buses, first-same c.channel receiver sender built.receiver built.sender channels built.channels) built.receiver_is)
+
+pub other_sender : (c : Configuration) (source destination : BusEntry) (receiver sender : ChannelEntry) → c.bus ≡ source ∷ destination ∷ [] → c.channel ≡ receiver ∷ sender ∷ [] →
+    ¬ IsBaseChannel destination.name sender → (setup : Setup) → ¬ IsBuiltConfig c setup
+other_sender c source destination receiver sender buses channels not setup built =
+    not (rw (second-same c.bus source destination built.source built.destination buses built.buses, second-same c.channel receiver sender built.receiver built.sender channels built.channels) built.sender_is)
+
+pub other_path : (c : Configuration) (receiver sender : ChannelEntry) (path : PathEntry) → c.channel ≡ receiver ∷ sender ∷ [] → c.path ≡ path ∷ [] →
+    ¬ IsBasePath receiver.name sender.name path → (setup : Setup) → ¬ IsBuiltConfig c setup
+other_path c receiver sender path channels paths not setup built =
+    not (rw (first-same c.channel receiver sender built.receiver built.sender channels built.channels, second-same c.channel receiver sender built.receiver built.sender channels built.channels, only-same c.path path built.path paths built.paths) built.path_is)
+
+-- ---- what a lawful configuration leaves free is lawful
+
+in-range : (low high n : ℕ) → (nat_le low n && nat_le n high) ≡ true → (low ≤ n) × (n ≤ high)
+in-range low high n is = grind (arith, nat_tests)
+
+pub lawful_numbers : (setup : Setup) → setup.source.side ≡ Source setup.receiver.rx → setup.destination.side ≡ Destination setup.sender.rx → (nat_le 1 setup.period && nat_le setup.period 1_000_000) ≡ true → (nat_le 0 setup.linger && nat_le setup.linger 1_000_000) ≡ true →
+    IsLawfulChannel setup.receiver → IsLawfulChannel setup.sender → setup.source.out ≢ setup.destination.out → HasLawfulNumbers setup
+lawful_numbers setup source_side destination_side period_is linger_is received sent apart =
+    let ticks = in-range 1 1_000_000 setup.period period_is in
+    let on = in-range 0 1_000_000 setup.linger linger_is in
+    record {
+      source_side = source_side;
+      destination_side = destination_side;
+      apart = apart;
+      some = omega (arith, ticks.0);
+      period = ticks.1;
+      linger = on.1;
+      receiver_tx = received.tx;
+      sender_tx = sent.tx;
+      n_ar = (in-range 1 1_000_000 setup.receiver.n_ar received.n_ar).0;
+      n_cr = (in-range 1 1_000_000 setup.receiver.n_cr received.n_cr).0;
+      n_as = (in-range 1 1_000_000 setup.sender.n_as sent.n_as).0;
+      n_bs = (in-range 1 1_000_000 setup.sender.n_bs sent.n_bs).0;
+      n_cs = (in-range 1 1_000_000 setup.sender.n_cs sent.n_cs).0;
+    }
+
+none-of : {A : Type 0} (one other : Option A) → option_or one other ≡ None → (one ≡ None) × (other ≡ None)
+none-of None other is = (refl, is)
+none-of (Some x) other is = let clash : Some x ≡ None = is in cc
+
+no-key : {A B : Type 0} (f : A → B) (o : Option A) → option_map f o ≡ None → o ≡ None
+no-key f None is = refl
+no-key f (Some x) is = let clash : Some (f x) ≡ None = is in cc
+
+-- what comes second comes, where what comes first doesn't
+second-comes : {A : Type 0} (first second : Bool) (x y : A) (rest : Option A) → second ≡ true → (if first then Some x else if second then Some y else rest) ≡ None → ⊥
+second-comes true second x y rest is none = let clash : Some x ≡ None = none in cc
+second-comes false true x y rest is none = let clash : Some y ≡ None = none in cc
+second-comes false false x y rest is none = let clash : false ≡ true = is in cc
+
+-- an output that an earlier bus has repeats
+out-used : (source destination : BusEntry) → source.out ≡ destination.out → bus_repeats (source ∷ destination ∷ []) (source ∷ []) destination ≡ None → ⊥
+out-used source destination same none =
+    let used : is_used (λ (other : BusEntry). other.out) (source ∷ []) destination.out ≡ true = rw ((bytes_eq-Decides source.out destination.out).1 same) refl in
+    second-comes (is_used (λ (other : BusEntry). other.name) (source ∷ []) destination.name) (is_used (λ (other : BusEntry). other.out) (source ∷ []) destination.out) _ _ _ used none
+
+-- two buses of a lawful configuration have two outputs
+pub outs_apart : (c : Configuration) (source destination : BusEntry) → repeated_in c ≡ None → c.bus ≡ source ∷ destination ∷ [] → source.out ≢ destination.out
+outs_apart c source destination none buses same =
+    let all : repeated_among (source ∷ destination ∷ []) c.channel c.path c.interface ≡ None = rw buses at none in
+    let bus = (none-of _ _ all).0 in
+    let second = (none-of _ _ (none-of _ _ bus).1).0 in
+    let key : bus_repeats (source ∷ destination ∷ []) ([] ++ source ∷ []) destination ≡ None = no-key _ _ second in
+    out-used source destination same key

@@ -1,0 +1,17 @@
+use Rattle.std.proofs.Common.{◌≡◌, List}
+use Rattle.hub_core.specs.View.{View}
+use Rattle.tp_receiver.specs.Running.{RxTurn}
+use Rattle.tp_sender.specs.Sending.{Moment}
+use Rattle.gw_run.specs.Standing.{Stands}
+use Rattle.gw_run.specs.Telling.{EndsTelling}
+use Rattle.gw_run.proofs.Endings.{remaining}
+use Rattle.gw_run.proofs.gateway.Gateway.end_sender.Given as goal
+
+abbrev pub invariant-loop : goal.invariant-loop
+invariant-loop l = record {
+  machines : l.self.machines ≡ l.initial.self.machines;
+  ends : (turns : List RxTurn) (moments : List Moment) (view : View) → Stands l.initial.self l.last.0 turns moments view → EndsTelling l.self l.last.0 turns moments view;
+}
+
+abbrev pub decreases-loop : goal.decreases-loop
+decreases-loop l = remaining l.self

@@ -1,0 +1,34 @@
+use Rattle.std.proofs.Common.{◌≡◌, refl, arith}
+use Rattle.tp_sender.specs.Over.{did_by}
+use Rattle.tp_sender.specs.State.{state_of}
+use Rattle.gw_run.proofs.gateway.Gateway.tell_sender.Goals as goal
+
+pub returns : goal.returns
+returns c =
+    let over = c.step-boxed.ensures.step in
+    let means = c.step-boxed.ensures.means in
+    let sizes = means.pool.sizes in
+    record {
+      move = record { event = c.args.event; calls = over.0; did = did_by c.args.tick.0 c.step-boxed.result (state_of c.step-boxed.new.self).live; next = (state_of c.step-boxed.new.self).next };
+      stepped = record {
+        event_is = refl;
+        tick_is = refl;
+        row = over.2;
+        fresh = over.3;
+        grown = over.1;
+        set = c.step-boxed.ensures.set;
+        state = refl;
+        knows = c.step-boxed.ensures.knows;
+        since = c.step-boxed.ensures.since;
+        boxed = c.step-boxed.ensures.boxed;
+        sessions = c.step-boxed.ensures.others.sessions;
+        size = cc sizes;
+        takes = (let same : c.step-boxed.new.port.takes ≡ c.args.self.now.hub.takes = means.takes in omega arith);
+        spare = means.spare;
+      };
+      lies_is = c.put.ensures;
+      frames_are = refl;
+      dests = c.in_ok-note.ensures;
+      moves = c.in_ok-note-2.ensures;
+      rest = refl;
+    }

@@ -1,0 +1,15 @@
+use Rattle.std.proofs.Common.{refl}
+use Rattle.gw_run.proofs.gateway.Gateway.told.Goals as goal
+
+pub returns : goal.returns
+returns c = record {
+  controls = refl;
+  frames = refl;
+  sessions = refl;
+  dests = refl;
+  moves = refl;
+  clock_is = refl;
+  buffers = refl;
+  joint = c.word-word.ensures.joint;
+  in_order = c.word-word.ensures.in_order;
+}

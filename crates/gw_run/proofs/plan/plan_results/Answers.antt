@@ -1,0 +1,40 @@
+-- What the machines tell keeps the laws, and is what is printed.
+use Rattle.std.proofs.Common.{◌≡◌, ◌+◌, max, ℕ, refl, subst, arith}
+use Rattle.std.specs.Prelude.{All}
+use Rattle.std.proofs.lemmas.List.Elements.{All-weaker}
+use Rattle.gw_run.specs.declared.setup.Side.TheVariants.{Source, Destination}
+use Rattle.gw_run.specs.Answers.{IsPlainAnswer}
+use Rattle.gw_run.specs.Forwarded.{last_of}
+use Rattle.gw_run.specs.Setup.{IsBuiltFrame}
+use Rattle.gw_run.proofs.Telling.{controls-within, frames-within, lawful_of, plain-answer, tells_of}
+use Rattle.gw_run.proofs.plan.plan_results.Goals as goal
+
+pub play-requires-clause-answers : goal.play-requires-clause-answers
+play-requires-clause-answers c =
+    let id = c.machines-machines.result.destination_id in
+    All-weaker (λ s. IsBuiltFrame (Destination id) s.frame) (λ s. IsPlainAnswer id s.frame) (λ s built. plain-answer id s.frame built) c.args.destination.now
+    (subst (λ side. All (λ s. IsBuiltFrame side s.frame) c.args.destination.now) c.machines-machines.ensures.destination c.requires.answers)
+
+pub print_all-requires-clause-controls : goal.print_all-requires-clause-controls
+print_all-requires-clause-controls c =
+    controls-within c.machines-machines.result c.start_of.result.0 c.period.result (c.max.result + c.from.result) c.args.source.now c.args.destination.now c.in-Ok.played c.if-last-gt-MOST_TICKS.false
+    (lawful_of c.machines-machines.result _ (c.max.result + c.from.result) c.args.source.now c.args.destination.now c.in-Ok.played c.machines-machines.result.are (subst (λ side. All (λ s. IsBuiltFrame side s.frame) c.args.source.now) c.machines-machines.ensures.source c.requires.units) c.in-Ok.ensures)
+
+pub print_all-requires-clause-frames : goal.print_all-requires-clause-frames
+print_all-requires-clause-frames c =
+    frames-within c.machines-machines.result c.start_of.result.0 c.period.result (c.max.result + c.from.result) c.args.source.now c.args.destination.now c.in-Ok.played c.if-last-gt-MOST_TICKS.false
+    (lawful_of c.machines-machines.result _ (c.max.result + c.from.result) c.args.source.now c.args.destination.now c.in-Ok.played c.machines-machines.result.are (subst (λ side. All (λ s. IsBuiltFrame side s.frame) c.args.source.now) c.machines-machines.ensures.source c.requires.units) c.in-Ok.ensures)
+
+pub returns-clause-planned : goal.returns-clause-planned
+returns-clause-planned c =
+    let last_is : c.max.result + c.from.result ≡ last_of c.args.setup.now c.start_of.result.0 c.args.source.now c.args.destination.now =
+    rw (c.max.ensures, c.greatest_tick.ensures.tick, c.greatest_tick-2.ensures.tick, c.period.ensures.period, c.from.ensures, c.linger.ensures.linger) refl in
+    record {
+      start = c.start_of.result.0;
+      ticks = record { begins = c.start_of.ensures.start; in_time = rw (← last_is) c.if-last-gt-MOST_TICKS.false };
+      told = c.in-Ok.played;
+      tells = tells_of c.args.setup.now c.machines-machines.result _ (c.max.result + c.from.result) c.args.source.now c.args.destination.now c.in-Ok.played c.machines-machines.ensures.are c.period.ensures.period last_is
+          (lawful_of c.machines-machines.result _ (c.max.result + c.from.result) c.args.source.now c.args.destination.now c.in-Ok.played c.machines-machines.result.are (subst (λ side. All (λ s. IsBuiltFrame side s.frame) c.args.source.now) c.machines-machines.ensures.source c.requires.units) c.in-Ok.ensures)
+          c.in-Ok.ensures;
+      prints = c.in-Ok-print_all.ensures;
+    }

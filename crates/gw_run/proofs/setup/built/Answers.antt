@@ -1,0 +1,35 @@
+-- The two outputs differ, and what is left free is that of the configuration's entries.
+use Rattle.std.proofs.Common.{◌≡◌, [], ◌∷◌, None, ◌∙◌, ap, sym, subst}
+use Rattle.gw_config.specs.Repeated.{repeated_in}
+use Rattle.gw_run.specs.Setup.{IsBaseChannel, IsBasePath}
+use Rattle.gw_run.proofs.Setups.{one-item, outs_apart, two-items}
+use Rattle.gw_run.proofs.setup.built.Goals as goal
+
+pub setup_of-requires : goal.setup_of-requires
+setup_of-requires c =
+    let listed : c.items.result.now ≡ c.source-item.result ∷ c.destination-item.result ∷ [] = two-items _ _ _ c.in-len2.len_at_least c.in-len2.len_below c.source-item.is c.destination-item.is in
+    let buses : c.args.config.now.bus ≡ c.source-item.result ∷ c.destination-item.result ∷ [] = ap (λ v. v.bus) (sym c.config.view_is) ∙ sym c.items.ensures ∙ listed in
+    outs_apart c.args.config.now c.source-item.result c.destination-item.result (subst (λ v. repeated_in v ≡ None) c.config.view_is c.config.invariant.repeated) buses
+
+pub returns : goal.returns
+returns c =
+    let buses : c.items.result.now ≡ c.source-item.result ∷ c.destination-item.result ∷ [] = two-items _ _ _ c.in-len2.len_at_least c.in-len2.len_below c.source-item.is c.destination-item.is in
+    let channels : c.items-2.result.now ≡ c.receiver-item.result ∷ c.sender-item.result ∷ [] = two-items _ _ _ c.in-len2-items.len_at_least c.in-len2-items.len_below c.receiver-item.is c.sender-item.is in
+    let paths : c.items-3.result.now ≡ c.path-item.result ∷ [] = one-item _ _ c.in-len1.len_at_least c.in-len1.len_below c.path-item.is in
+    record {
+      top = c.if-not-has_base_top.ensures;
+      source = c.source-item.result;
+      destination = c.destination-item.result;
+      receiver = c.receiver-item.result;
+      sender = c.sender-item.result;
+      path = c.path-item.result;
+      buses = ap (λ v. v.bus) (sym c.config.view_is) ∙ sym c.items.ensures ∙ buses;
+      channels = ap (λ v. v.channel) (sym c.config.view_is) ∙ sym c.items-2.ensures ∙ channels;
+      paths = ap (λ v. v.path) (sym c.config.view_is) ∙ sym c.items-3.ensures ∙ paths;
+      source_is = c.if-not-is_base_bus.ensures;
+      destination_is = c.if-not-is_base_bus-2.ensures;
+      receiver_is = subst (λ name. IsBaseChannel name c.receiver-item.result) (c.items-4.ensures ∙ ap (λ b. b.name) c.source.view_is) c.if-not-is_base_channel.ensures;
+      sender_is = subst (λ name. IsBaseChannel name c.sender-item.result) (c.items-5.ensures ∙ ap (λ b. b.name) c.destination.view_is) c.if-not-is_base_channel-2.ensures;
+      path_is = rw (← ap (λ b. b.name) c.receiver.view_is, ← ap (λ b. b.name) c.sender.view_is, ← c.items-6.ensures, ← c.items-7.ensures) c.if-not-is_base_path.ensures;
+      setup_is = c.setup_of.ensures;
+    }

@@ -1,0 +1,33 @@
+-- How the receiver and the sender of a run are configured (this project's own).
+use Rattle.std.specs.Prelude.{◌≡◌, ◌≤◌, false, None}
+use Rattle.tp_receiver.specs.declared.set.RxSet.{RxSet}
+use Rattle.tp_sender.specs.declared.set.TxSet.{TxSet}
+use Rattle.tp_unit.specs.Shape.{IsShape}
+use Rattle.tp_unit.specs.declared.shape.Shape.{Shape}
+
+-- a classic channel without an address byte
+pub record IsClassic (shape : Shape) : Type 0 where
+  pub shape_is : IsShape shape
+  pub address : shape.address ≡ None
+  pub fd : shape.fd ≡ false
+  pub dl : shape.dl ≡ 8
+
+-- the receiver and the one destination of path 0, both on classic channels without an address byte, with limits of at least a tick
+pub record AreMachines (rx : RxSet) (shape : Shape) (tx : TxSet) : Type 0 where
+  pub chan : rx.chan.0 ≡ 0
+  pub path : rx.path.0 ≡ 0
+  pub same_path : tx.path ≡ rx.path
+  pub dest : tx.dest.0 ≡ 0
+  pub readers : rx.readers ≡ 1
+  pub address : rx.a ≡ 0
+  pub functional : rx.functional ≡ false
+  pub separation : rx.st ≡ 0
+  pub threshold : tx.threshold ≡ 1
+  pub store : tx.store ≡ false
+  pub controls : IsClassic shape
+  pub frames : IsClassic tx.shape
+  pub n_ar : 1 ≤ rx.n_ar
+  pub n_cr : 1 ≤ rx.n_cr
+  pub n_as : 1 ≤ tx.n_as
+  pub n_bs : 1 ≤ tx.n_bs
+  pub n_cs : 1 ≤ tx.n_cs

@@ -1,0 +1,166 @@
+-- The gateway at its work: what its fields are after what the receiver and the sender did, and where in a tick its work stands.
+use Rattle.std.specs.Prelude.{◌≡◌, ◌⊎◌, ℕ, ◌+◌, ◌-◌, ◌*◌, ◌≤◌, true, None, Some, Option, option_map, List, [], ◌∷◌, ◌++◌, length, map}
+use Rattle.std.specs.List.{AllByRecursion}
+use Rattle.gw_law.specs.Run.{AreLooks, AreTicks, CameIn, IsAnswerIn, IsIdle, IsJoint, IsRun, ReceivesIn, Route, Work, control_after, controls_by, moments_of, route_of, tick_after, turns_of, view_of}
+use Rattle.hub_core.specs.Plain.{hub_view}
+use Rattle.hub_core.specs.View.{View, grows}
+use Rattle.hub_core.specs.declared.plain.PlainHub.{PlainHub}
+use Rattle.hub_core.specs.declared.record.DestRecord.{DestRecord}
+use Rattle.hub_core.specs.declared.record.Move.{Move}
+use Rattle.hub_core.specs.declared.record.SessionRecord.{SessionRecord}
+use Rattle.tick_clock.specs.declared.clock.Clock.{Clock}
+use Rattle.tp_attempts.specs.Seen.{Seen}
+use Rattle.tp_receiver.specs.Known.{Knows, WaitsBy}
+use Rattle.tp_receiver.specs.Receiving.{move_of, state_in}
+use Rattle.tp_receiver.specs.Running.{RxTurn, Happened as Received, calls_by as received_calls, now_of as received_at, seen_by, state_of, told_by as received_by}
+use Rattle.tp_receiver.specs.declared.receiver.Receiver.{Receiver}
+use Rattle.tp_receiver.specs.declared.set.RxSet.{RxSet}
+use Rattle.tp_sender.specs.Sending.{Answer, Moment, Written, Happened as WasSent, answered_by, box_after, calls_by as sent_calls, clear_from, left_by, now_of as sent_at, state_from, told_by as sent_by}
+use Rattle.tp_sender.specs.State.{HasFrame, Knows as KnowsPort, set_of, since_of, state_of as sender_state}
+use Rattle.tp_sender.specs.declared.sender.Sender.{Sender}
+use Rattle.tp_sender.specs.declared.set.TxSet.{TxSet}
+use Rattle.tp_unit.specs.Shape.{fits_shape}
+use Rattle.tp_unit.specs.Unit.{Meaning, meaning_of}
+use Rattle.tp_unit.specs.declared.shape.Shape.{Shape}
+use Rattle.tp_unit.specs.declared.unit.Unit.{Unit as ProtocolUnit}
+use Rattle.gw_run.specs.Played.{Told}
+use Rattle.gw_run.specs.declared.gateway.Gateway.{Gateway}
+use Rattle.gw_run.specs.declared.machines.Machines.{Machines}
+use Rattle.gw_run.specs.declared.machines.TheConstants.{BUDGET, BUFFER_CELLS}
+
+-- what lies in a box
+abbrev pub lying : Option ProtocolUnit → Option Meaning
+lying unit = option_map meaning_of unit
+
+-- something lies in the box
+abbrev pub Lies : Option Meaning → Type 0
+Lies None = ⊥
+Lies (Some meaning) = Unit {0}
+
+-- what lies in the box can be written in the channel's shape
+abbrev pub FitsIn : Shape → Option Meaning → Type 0
+FitsIn shape None = Unit {0}
+FitsIn shape (Some meaning) = fits_shape shape meaning ≡ true
+
+-- what the hub did and saw
+abbrev pub view_in : PlainHub → View
+view_in hub = hub_view hub.size hub.place hub.past.items hub.changes.items hub.refused.items hub.cells.items
+
+-- the receiver after these turns, the last of them no later than the tick, with what lies in its box, what left and what is told
+pub record RxStands (rx : RxSet) (shape : Shape) (tick : ℕ) (turns : List RxTurn) (view : View) (receiver : Receiver) (lies : Option Meaning) (controls : List Written) (sessions : List SessionRecord) : Type 0 where
+  pub happened : Received rx turns
+  pub set : receiver.set ≡ rx
+  pub state : state_in receiver ≡ state_of turns
+  pub knows : Knows view receiver
+  pub number : receiver.next_n ≤ length (seen_by turns)
+  pub now : received_at turns ≤ tick
+  pub waits : WaitsBy receiver.state tick
+  pub lies_is : lies ≡ control_after turns
+  pub fits : FitsIn shape lies
+  pub controls_are : controls ≡ controls_by shape turns
+  pub sessions_are : sessions ≡ received_by turns
+
+-- the sender after these moments, the last of them no later than the tick, with what lies in its box, what left and what is told
+pub record TxStands (tx : TxSet) (tick : ℕ) (moments : List Moment) (view : View) (sender : Sender) (lies : Option Meaning) (frames : List Written) (dests : List DestRecord) : Type 0 where
+  pub happened : WasSent tx moments
+  pub set : set_of sender ≡ tx
+  pub state : sender_state sender ≡ state_from moments
+  pub knows : KnowsPort view sender
+  pub now : sent_at moments ≤ tick
+  pub since : since_of (sender_state sender).live ≤ tick
+  pub lies_is : lies ≡ box_after moments
+  pub fits : FitsIn tx.shape lies
+  pub has : HasFrame (sender_state sender).live → Lies lies
+  pub had : Lies lies → HasFrame (sender_state sender).live
+  pub frames_are : frames ≡ left_by tx.shape moments
+  pub dests_are : dests ≡ sent_by moments
+
+-- the pool after so many frames of the source channel: one take and nine cells are used for each at most, and its moves are told
+pub record PoolStands (came : ℕ) (view : View) (hub : PlainHub) (moves : List Move) : Type 0 where
+  pub view_is : view_in hub ≡ view
+  pub size : hub.size ≡ BUFFER_CELLS
+  pub takes : 1000000 ≤ came + hub.takes
+  pub spare : 9000000 ≤ 9 * came + hub.spare
+  pub moves_are : moves ≡ map move_of view.changes
+
+-- the gateway after these turns and moments, the last of them no later than the tick
+pub record Stands (g : Gateway) (tick : ℕ) (turns : List RxTurn) (moments : List Moment) (view : View) : Type 0 where
+  pub receives : RxStands g.machines.rx g.machines.shape tick turns view g.receiver (lying g.control) g.controls g.sessions
+  pub sends : TxStands g.machines.tx tick moments view g.sender (lying g.frame) g.frames g.dests
+  pub pool : PoolStands (length (seen_by turns)) view g.hub g.moves
+
+-- nothing is received and nothing is sent
+pub record IsQuiet (g : Gateway) : Type 0 where
+  pub receiver : (state_in g.receiver).busy ≡ None
+  pub sender : (sender_state g.sender).live ≡ None
+
+-- between two ticks: these frames and flow controls came so far, and the next tick is this one or, where nothing goes on, any later one
+pub record AtBarrier (g : Gateway) (seen : List Seen) (answers : List Answer) (next : ℕ) : Type 0 where
+  pub works : List Work
+  pub ticks : AreTicks (BUFFER_CELLS ∷ []) works
+  pub next_is : tick_after works ≡ next
+  pub stands : Stands g (next - 1) (turns_of works) (moments_of works) (view_of works)
+  pub clear : clear_from (moments_of works) ≤ next
+  pub seen_is : seen_by (turns_of works) ≡ seen
+  pub answers_is : answered_by (moments_of works) ≡ answers
+
+-- at the source's part of a tick's work: these turns are those of its frames that came so far
+pub record InSource (g : Gateway) (seen : List Seen) (answers : List Answer) (tick : ℕ) : Type 0 where
+  pub earlier : List Work
+  pub turns : List RxTurn
+  pub ticks : AreTicks (BUFFER_CELLS ∷ []) earlier
+  pub later : tick_after earlier ≤ tick
+  pub next : IsIdle earlier ⊎ (tick ≡ tick_after earlier)
+  pub came : AllByRecursion (λ (turn : RxTurn). CameIn tick turn.event turn.move.tick) turns
+  pub looks : AreLooks (view_of earlier) turns
+  pub stands : Stands g tick (turns ++ turns_of earlier) (moments_of earlier) (grows (received_calls turns) (view_of earlier))
+  pub clear : clear_from (moments_of earlier) ≤ tick
+  pub seen_is : seen_by (turns ++ turns_of earlier) ≡ seen
+  pub answers_is : answered_by (moments_of earlier) ≡ answers
+
+-- at the destination's part of a tick's work: these moments are those of the flow controls that came so far
+pub record InDestination (g : Gateway) (seen : List Seen) (answers : List Answer) (tick : ℕ) : Type 0 where
+  pub earlier : List Work
+  pub turns : List RxTurn
+  pub moments : List Moment
+  pub ticks : AreTicks (BUFFER_CELLS ∷ []) earlier
+  pub later : tick_after earlier ≤ tick
+  pub next : IsIdle earlier ⊎ (tick ≡ tick_after earlier)
+  pub receives : ReceivesIn tick (turns_of earlier) turns
+  pub looks : AreLooks (view_of earlier) turns
+  pub between : IsJoint (BUFFER_CELLS ∷ []) (grows (received_calls turns) (view_of earlier))
+  pub only : AllByRecursion (IsAnswerIn tick) moments
+  pub stands : Stands g tick (turns ++ turns_of earlier) (moments ++ moments_of earlier) (grows (sent_calls moments) (grows (received_calls turns) (view_of earlier)))
+  pub clear : clear_from (moments ++ moments_of earlier) ≤ tick
+  pub seen_is : seen_by (turns ++ turns_of earlier) ≡ seen
+  pub answers_is : answered_by (moments ++ moments_of earlier) ≡ answers
+
+-- what is told of a run in which these frames and flow controls came
+abbrev pub route_with : Machines → (last : ℕ) → List Seen → List Answer → Told → Route
+route_with m last seen answers told = record {
+  rx = m.rx;
+  tx = m.tx;
+  shape = m.shape;
+  source_budget = BUDGET;
+  budget = BUDGET;
+  sizes = BUFFER_CELLS ∷ [];
+  last = last;
+  seen = seen;
+  answers = answers;
+  controls = told.controls;
+  frames = told.frames;
+  sessions = told.report.sessions;
+  dests = told.report.dests;
+  moves = told.report.moves;
+  count = told.report.pool.changes;
+  free = told.report.pool.free;
+}
+
+-- the run is over, these frames and flow controls came in it, and this is what it tells
+pub record Finishes (m : Machines) (clock : Clock) (last : ℕ) (seen : List Seen) (answers : List Answer) (told : Told) : Type 0 where
+  pub ticks : List Work
+  pub end : Work
+  pub run : IsRun m.rx m.tx (BUFFER_CELLS ∷ []) last told.report.pool.changes told.report.pool.free ticks end
+  pub route : route_of m.rx m.tx m.shape BUDGET BUDGET (BUFFER_CELLS ∷ []) last told.report.pool.changes told.report.pool.free ticks end ≡ route_with m last seen answers told
+  pub clock_is : told.report.clock ≡ clock
+  pub buffers : told.report.pool.buffers ≡ 1

@@ -1,0 +1,132 @@
+-- One step of the gateway: what a step of the receiver or of the sender over the hub needs, what it comes to, and what is noted of it.
+use Rattle.std.specs.Prelude.{◌≡◌, ℕ, ◌+◌, ◌≤◌, None, Some, Option, option_to_list, List, [], ◌∷◌, ◌++◌, length}
+use Rattle.std.specs.List.{AllByRecursion}
+use Rattle.gw_law.specs.Run.{IsStepIn}
+use Rattle.hub_core.specs.Calls.{Means}
+use Rattle.hub_core.specs.Floors.{AreFresh, floors_of}
+use Rattle.hub_core.specs.Joint.{AreInOrder, Joint}
+use Rattle.hub_core.specs.Plain.{hub_means}
+use Rattle.hub_core.specs.View.{View, grows}
+use Rattle.hub_core.specs.declared.plain.PlainHub.{PlainHub}
+use Rattle.tick_clock.specs.declared.clock.Clock.{Clock}
+use Rattle.tp_receiver.specs.Known.{ActsFor, CanTake, Knows, WaitsBy, cells_for, takes_for}
+use Rattle.tp_receiver.specs.Receiving.{RxInput, RxMove, FlowControlLeft, moves_in, state_in}
+use Rattle.tp_receiver.specs.Rows.{RxStep}
+use Rattle.tp_receiver.specs.Running.{RxTurn}
+use Rattle.tp_receiver.specs.declared.receiver.Receiver.{Receiver}
+use Rattle.tp_sender.specs.Sending.{Moment, Written, box_then, calls_by, written_of}
+use Rattle.tp_sender.specs.State.{HasFrame, IsInBox, IsPlain, Knows as KnowsPort, StillHasFrame, ActsFor as ActsForSender, set_of, since_of, state_of}
+use Rattle.tp_sender.specs.Table.{TxMove, TxStep, state_after}
+use Rattle.tp_sender.specs.declared.event.TxEvent.{TxEvent}
+use Rattle.tp_sender.specs.declared.event.TxEvent.TheVariants.{Left, RunEnd}
+use Rattle.tp_sender.specs.declared.sender.Sender.{Sender}
+use Rattle.tp_unit.specs.Unit.{Meaning}
+use Rattle.gw_run.specs.Played.{Told}
+use Rattle.gw_run.specs.Standing.{Stands, lying, view_in}
+use Rattle.gw_run.specs.declared.gateway.Gateway.{Gateway}
+
+-- what the hub may do
+abbrev pub means_in : PlainHub → Means
+means_in hub = hub_means hub.size hub.takes hub.spare
+
+-- the receiver can be told of this in that tick
+pub record CanTell (receiver : Receiver) (hub : PlainHub) (event : RxInput) (tick : ℕ) : Type 0 where
+  pub acts : ActsFor receiver.set (means_in hub)
+  pub knows : Knows (view_in hub) receiver
+  pub waits : WaitsBy receiver.state tick
+  pub can : CanTake receiver.set (means_in hub) receiver.next_n event
+
+-- a step of the receiver over the hub
+pub record RxStepped (receiver : Receiver) (hub : PlainHub) (next : Receiver) (later : PlainHub) (event : RxInput) (tick : ℕ) (move : RxMove) : Type 0 where
+  pub tick_is : move.tick ≡ tick
+  pub row : RxStep receiver.set (state_in receiver) event move
+  pub fresh : AreFresh (floors_of (view_in hub)) (view_in hub) move.calls
+  pub grown : view_in later ≡ grows move.calls (view_in hub)
+  pub set : next.set ≡ receiver.set
+  pub state : state_in next ≡ move.new
+  pub knows : Knows (view_in later) next
+  pub waits : WaitsBy next.state tick
+  pub number : next.next_n ≤ receiver.next_n + takes_for event
+  pub readings : (view_in later).readings ≡ (view_in hub).readings
+  pub size : later.size ≡ hub.size
+  pub takes : hub.takes ≤ later.takes + takes_for event
+  pub spare : hub.spare ≤ later.spare + cells_for event
+
+-- the receiver was told of this in that tick, where this lay in its box and these flow controls had left, and its step is noted
+pub record TellsReceiver (g h : Gateway) (event : RxInput) (tick : ℕ) (lies : Option Meaning) (controls : List Written) : Type 0 where
+  pub move : RxMove
+  pub stepped : RxStepped g.receiver g.hub h.receiver h.hub event tick move
+  pub lies_is : lying h.control ≡ box_then move.act lies
+  pub controls_are : h.controls ≡ controls
+  pub sessions : h.sessions ≡ g.sessions ++ move.records
+  pub moves : h.moves ≡ g.moves ++ moves_in move.calls
+  pub rest : h ≡ record g { receiver = h.receiver; hub = h.hub; control = h.control; controls = h.controls; sessions = h.sessions; moves = h.moves }
+
+-- the flow control that lies in the box leaves, and the receiver is told; where nothing lies there nothing is done
+abbrev pub LeavesControl : Option Meaning → (g h : Gateway) → (tick : ℕ) → Type 0
+LeavesControl None g h tick = h ≡ g
+LeavesControl (Some meaning) g h tick = TellsReceiver g h FlowControlLeft tick None (g.controls ++ written_of g.machines.shape tick (Some meaning))
+
+-- the sender can be told of this in that tick
+pub record CanTellSender (sender : Sender) (hub : PlainHub) (event : TxEvent) (tick : ℕ) : Type 0 where
+  pub knows : KnowsPort (view_in hub) sender
+  pub acts : ActsForSender (means_in hub) sender
+  pub since : since_of (state_of sender).live ≤ tick
+  pub tick_is : tick ≤ 10000000
+  pub left : event ≡ Left → HasFrame (state_of sender).live
+  pub plain : IsPlain event
+
+-- a step of the sender over the hub
+pub record TxStepped (sender : Sender) (hub : PlainHub) (next : Sender) (later : PlainHub) (event : TxEvent) (tick : ℕ) (move : TxMove) : Type 0 where
+  pub event_is : move.event ≡ event
+  pub tick_is : move.did.tick ≡ tick
+  pub row : TxStep (set_of sender) (state_of sender) move
+  pub fresh : AreFresh (floors_of (view_in hub)) (view_in hub) move.calls
+  pub grown : view_in later ≡ grows move.calls (view_in hub)
+  pub set : set_of next ≡ set_of sender
+  pub state : state_of next ≡ state_after move
+  pub knows : KnowsPort (view_in later) next
+  pub since : since_of (state_of next).live ≤ tick
+  pub boxed : IsInBox move.did.act (StillHasFrame event (state_of sender).live) (state_of next).live
+  pub sessions : (view_in later).sessions ≡ (view_in hub).sessions
+  pub size : later.size ≡ hub.size
+  pub takes : hub.takes ≤ later.takes
+  pub spare : hub.spare ≤ later.spare
+
+-- the sender was told of this in that tick, where this lay in its box and these frames had left, and its step is noted
+pub record TellsSender (g h : Gateway) (event : TxEvent) (tick : ℕ) (lies : Option Meaning) (frames : List Written) : Type 0 where
+  pub move : TxMove
+  pub stepped : TxStepped g.sender g.hub h.sender h.hub event tick move
+  pub lies_is : lying h.frame ≡ box_then move.did.act lies
+  pub frames_are : h.frames ≡ frames
+  pub dests : h.dests ≡ g.dests ++ option_to_list move.did.ended
+  pub moves : h.moves ≡ g.moves ++ option_to_list move.did.moved
+  pub rest : h ≡ record g { sender = h.sender; hub = h.hub; frame = h.frame; frames = h.frames; dests = h.dests; moves = h.moves }
+
+-- the frame that lies in the box leaves, and the sender is told; where nothing lies there nothing is done
+abbrev pub LeavesFrame : Option Meaning → (g h : Gateway) → (tick : ℕ) → Type 0
+LeavesFrame None g h tick = h ≡ g
+LeavesFrame (Some meaning) g h tick = TellsSender g h Left tick None (g.frames ++ written_of g.machines.tx.shape tick (Some meaning))
+
+-- the sender was told of the run's end, perhaps many times, and all stands
+pub record EndsTelling (h : Gateway) (last : ℕ) (turns : List RxTurn) (moments : List Moment) (view : View) : Type 0 where
+  pub more : List Moment
+  pub only : AllByRecursion (IsStepIn last RunEnd) more
+  pub stands : Stands h last turns (more ++ moments) (grows (calls_by more) view)
+
+-- nothing is sent any more, and each session that was entered was joined
+pub record IsOver (h : Gateway) : Type 0 where
+  pub live : (state_of h.sender).live ≡ None
+  pub joined : length ((view_in h.hub).sessions h.sender.set.path.0) ≤ h.sender.next
+
+-- what the run tells: what was noted, and the pool as it is
+pub record Tells (g : Gateway) (clock : Clock) (told : Told) : Type 0 where
+  pub controls : told.controls ≡ g.controls
+  pub frames : told.frames ≡ g.frames
+  pub sessions : told.report.sessions ≡ g.sessions
+  pub dests : told.report.dests ≡ g.dests
+  pub moves : told.report.moves ≡ g.moves
+  pub clock_is : told.report.clock ≡ clock
+  pub buffers : told.report.pool.buffers ≡ 1
+  pub joint : Joint (g.hub.size ∷ []) told.report.pool.changes told.report.pool.free (view_in g.hub)
+  pub in_order : AreInOrder (view_in g.hub).changes

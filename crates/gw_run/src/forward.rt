@@ -1,0 +1,121 @@
+//! A run of a configuration that is built: logs are read, results are planned, and then written.
+ghost use Rattle.std.specs.Prelude.{◌≡◌, ◌≢◌, ℕ, List, true, Some};
+ghost use Rattle.gw_depot.specs.Files.{IsName};
+ghost use Rattle.gw_run.specs.Causes.{IsCause, IsFault, IsSetup, LeavesFiles, log_status};
+ghost use Rattle.gw_run.specs.Forwarded.{Forwards, IfDone, IsConfigured};
+ghost use Rattle.gw_run.specs.Results.{bus_numbered};
+ghost use Rattle.gw_run.specs.Decided.{IsNameIn, IsToldOf};
+
+use crate::config::{NamedFiles, read_checked};
+use crate::log::{LineStop, LogStop, read_log};
+use crate::plan::plan_results;
+use crate::results::write_results;
+use crate::say::tell;
+use crate::setup::{DESTINATION, SOURCE, Setup, built};
+use crate::status::{FileRole, Form, Status, Which};
+use crate::words::RunFiles;
+use gw_base::BusNo;
+use gw_depot::{Depot, Sink};
+use std::alloc::Global;
+
+/// The most lines of all logs together.
+const MOST_LINES: u32 = 1_000_000;
+
+/// What is answered where a bus's log wasn't read to its end.
+fn refused_log(bus: BusNo, stop: LogStop) -> Status
+    ensures { result ≡ log_status bus stop }
+{
+    match stop {
+        LogStop::Fault => Status::ReadFault(FileRole::Log(bus)),
+        LogStop::Line(LineStop::Memory) => Status::Memory,
+        LogStop::Line(LineStop::Unbuilt { line }) => Status::Unbuilt(Form::Line { bus, line }),
+        LogStop::Line(LineStop::Limit) => Status::Limit {
+            which: Which::Lines,
+            value: u64::from(MOST_LINES) + 1,
+        },
+    }
+}
+
+/// Runs what the configuration leaves free, over its two logs.
+fn carry_out<D: Depot>(alloc: Global, setup: &Setup<'_>, report: &str, depot: &mut D) -> Status
+    requires name { IsName report.now }
+    requires source { report.now ≢ setup.now.source.out }
+    requires destination { report.now ≢ setup.now.destination.out }
+    ensures done { (config : List ℕ) → D.told depot.old ≡ true → IsConfigured (D.files depot.old) config report.now setup.now → IfDone result (Forwards (D.files depot.old) (D.files depot.new) config report.now) }
+    ensures shaped { result ≢ Status.Usage }
+    ensures cause { (config : List ℕ) → D.told depot.old ≡ true → IsConfigured (D.files depot.old) config report.now setup.now → IsCause (D.files depot.old) config report.now result }
+    ensures files { (config : List ℕ) → D.told depot.old ≡ true → IsConfigured (D.files depot.old) config report.now setup.now → LeavesFiles result (D.files depot.old) (D.files depot.new) config report.now }
+    ensures fault { (config : List ℕ) → IsSetup (D.told depot.old) (D.files depot.old) config report.now setup.now → IsFault (D.told depot.old) (D.files depot.old) config report.now (D.faults depot.old) (D.faults depot.new) (D.blame depot.new) result }
+{
+    let source = match read_log(alloc, depot, setup.source(), MOST_LINES) {
+        Ok(source) => source,
+        Err(stop) => return refused_log(SOURCE, stop),
+    };
+    let rest = MOST_LINES - source.items().len() as u32;
+    let destination = match read_log(alloc, depot, setup.destination(), rest) {
+        Ok(destination) => destination,
+        Err(stop) => return refused_log(DESTINATION, stop),
+    };
+    let plan = match plan_results(alloc, setup, source.items(), destination.items()) {
+        Ok(plan) => plan,
+        Err(status) => return status,
+    };
+    if let Err(role) = write_results(
+        depot,
+        setup,
+        plan.source_output.items(),
+        plan.output.items(),
+        report,
+        plan.report.as_bytes(),
+    ) {
+        return Status::WriteFault(role);
+    }
+    Status::Ok(plan.summary)
+}
+
+/// The name of the bus that a status speaks of.
+fn name_in<'a>(setup: &'a Setup<'_>, status: Status) -> &'a str
+    ensures { IsNameIn setup.now status result.now }
+{
+    match status {
+        Status::Unbuilt(Form::Line { bus, line: _ }) => name_of(setup, bus),
+        _ => "",
+    }
+}
+
+/// The name of the bus with that number.
+fn name_of<'a>(setup: &'a Setup<'_>, bus: BusNo) -> &'a str
+    ensures { result.now ≡ (bus_numbered setup.now bus.0).interface }
+{
+    if bus.0 == 0 {
+        setup.source().name()
+    } else {
+        setup.destination().name()
+    }
+}
+
+/// Runs the configuration over its logs, and says how that ended.
+pub(crate) fn forward<D: Depot, K: Sink>(
+    alloc: Global,
+    files: &RunFiles<'_>,
+    depot: &mut D,
+    say: &mut K,
+) -> Status
+    requires { IsName files.now.config.now × IsName files.now.report.now }
+    ensures told { K.told say.new ≡ K.told say.old }
+    ensures answer { IsToldOf (D.told depot.old) (D.files depot.old) (D.files depot.new) files.now.config.now files.now.report.now (D.faults depot.old) (D.faults depot.new) (D.blame depot.new) (K.told say.old) (K.said say.old) (K.said say.new) (K.faults say.old) (K.faults say.new) result }
+{
+    let named = NamedFiles {
+        config: files.config,
+        report: Some(files.report),
+    };
+    let checked = match read_checked(alloc, &named, depot) {
+        Ok(checked) => checked,
+        Err(stop) => return tell(alloc, stop.status(), "", say),
+    };
+    let Some(setup) = built(checked.config()) else {
+        return tell(alloc, Status::Unbuilt(Form::Configuration), "", say);
+    };
+    let status = carry_out(alloc, &setup, files.report, depot);
+    tell(alloc, status, name_in(&setup, status), say)
+}

@@ -1,0 +1,27 @@
+//! How the receiver and the sender of a run are configured.
+ghost use Rattle.gw_run.specs.Machines.{AreMachines};
+
+use can_frame::CanId;
+use tp_receiver::RxSet;
+use tp_sender::TxSet;
+use tp_unit::Shape;
+
+/// The most frames that a bus sends in a tick.
+pub(crate) const BUDGET: u8 = 8;
+
+/// The cells of the one buffer of the pool.
+pub(crate) const BUFFER_CELLS: u32 = 4;
+
+/// How the receiver of the source channel and the sender of the destination are configured.
+#[derive(Clone, Copy, Debug, PartialEq, Eq)]
+pub(crate) struct Machines {
+    pub(crate) rx: RxSet,
+    /// The shape of the source channel's flow controls.
+    pub(crate) shape: Shape,
+    pub(crate) tx: TxSet,
+    /// The identifier of the frames that the source channel receives.
+    pub(crate) source_id: CanId,
+    /// The identifier of the flow controls that the destination's channel receives.
+    pub(crate) destination_id: CanId,
+    ghost are: { AreMachines rx shape tx },
+}

@@ -1,14 +1,13 @@
 #!/bin/sh
-# Runs the gateway on an example and compares what it writes and says with what is expected.
+# Runs the gateway on the examples and compares all that comes out with what is expected.
 #
 # usage: examples/run.sh [EXAMPLE]
 #
-# EXAMPLE is a folder beside this script, single-frame if none is given. It has the configuration gw.toml and the
-# logs that it names; its folder expected has the outputs, the report and what is said. The gateway runs in a new
-# folder, which is named at the end.
+# EXAMPLE is a folder beside this script; without it each is run. It has the files that the gateway reads, and in the file
+# command the words after the program's name. Its folder expected has the files that come out, what is said in said.txt,
+# and the status in status.txt. The gateway runs in a new folder, which is named at the end.
 set -eu
 
-example=${1:-single-frame}
 examples=$(CDPATH= cd -- "$(dirname -- "$0")" && pwd)
 crate=$examples/../crates/gateway
 
@@ -22,21 +21,32 @@ usage:*) ;;
     ;;
 esac
 
-folder=$(mktemp -d)
-cp "$examples/$example"/*.* "$folder"
-cd "$folder"
-status=0
-"$crate/out/gateway" run gw.toml gw.report >said.txt || status=$?
+cd "$examples"
+if [ $# -eq 0 ]; then
+    set -- */
+fi
 
-for file in *.out gw.report said.txt; do
-    if [ -e "$file" ]; then
-        echo "== $file"
-        cat "$file"
-    fi
-done
-echo "== status $status, the files are in $folder"
+differs=0
+for name in "$@"; do
+    example=$examples/${name%/}
+    folder=$(mktemp -d)
+    mkdir "$folder/came" "$folder/expected"
+    cp "$example"/*.* "$folder/came"
+    cp "$example"/*.* "$example"/expected/* "$folder/expected"
 
-for file in "$examples/$example"/expected/*; do
-    diff -u "$file" "$(basename "$file")" || status=1
+    cd "$folder/came"
+    status=0
+    "$crate/out/gateway" $(cat "$example/command") >said.txt || status=$?
+    echo "$status" >status.txt
+
+    echo "== ${name%/}: gateway $(cat "$example/command")"
+    for file in *; do
+        if [ ! -e "$example/$file" ]; then
+            echo "-- $file"
+            cat "$file"
+        fi
+    done
+    echo "-- the files are in $folder/came"
+    diff -r -u "$folder/expected" "$folder/came" || differs=1
 done
-exit $status
+exit $differs

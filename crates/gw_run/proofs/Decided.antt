@@ -1,6 +1,5 @@
 -- How a run is decided: by its configuration, or by what is carried out of it.
-use Rattle.std.proofs.Common.{◌≡◌, ◌≢◌, ◌⊎◌, ℕ, ◌+◌, ◌-◌, ◌^◌, ◌≤◌, min, Bool, true, List, Some, length, refl, sym, ◌∙◌, subst, ap, inl, inr, arith}
-use Rattle.gw_base.specs.declared.numbers.BusNo.{BusNo}
+use Rattle.std.proofs.Common.{◌≡◌, ◌≢◌, ℕ, ◌-◌, ◌≤◌, Bool, true, List, Some, length, refl, sym, subst, inl, inr, arith}
 use Rattle.gw_config.specs.Config.{Configuration}
 use Rattle.gw_depot.specs.Fault.{Blame, Rose}
 use Rattle.gw_depot.specs.Files.{Files}
@@ -15,10 +14,9 @@ use Rattle.gw_run.specs.declared.status.FileRole.TheVariants.{Config, Log, Out, 
 use Rattle.gw_run.specs.declared.status.Form.TheVariants.{Configuration as WholeConfiguration, Line}
 use Rattle.gw_run.specs.declared.status.Status.{Status}
 use Rattle.gw_run.specs.declared.status.Status.TheVariants.{Ok, Accepted, Usage, ConfigRefused, Unbuilt, ReadFault, WriteFault, Memory, Limit}
-use Rattle.gw_run.specs.declared.status.Which.TheVariants.{ConfigBytes, Lines, Ticks}
 use Rattle.gw_run.specs.declared.setup.TheConstants.{DESTINATION}
-use Rattle.gw_run.specs.Causes.{ConfigFailed, IsCause, IsFault, IsNamed, IsSetup, LeavesFiles, log_status}
-use Rattle.gw_run.specs.Config.{FaultsOnConfig, ReadsConfig, StopsConfig, files_repeat, stop_status}
+use Rattle.gw_run.specs.Causes.{IsCause, IsFault, IsNamed, IsSetup, LeavesFiles, log_status}
+use Rattle.gw_run.specs.Config.{FaultsOnConfig, ReadsConfig, StopsConfig, stop_status}
 use Rattle.gw_run.specs.Decided.{IsDecided, IsNameIn}
 use Rattle.gw_run.specs.Forwarded.{Forwards, IfDone, IsConfigured}
 use Rattle.gw_run.specs.Log.{LogStops, ReadsLog}

@@ -1,5 +1,5 @@
 -- What the calls that write the results leave, one after another.
-use Rattle.std.proofs.Common.{◌≡◌, ◌≢◌, ℕ, List, [], length, take, Some, Ok, Err, Result, inl, inr, refl, sym, ◌∙◌, ap}
+use Rattle.std.proofs.Common.{◌≡◌, ◌≢◌, ℕ, List, [], length, Some, Ok, Err, Result, inl, inr, refl, sym, ◌∙◌, ap}
 use Rattle.std.proofs.Math.Seq.{take-length}
 use Rattle.gw_depot.specs.Files.{Files, CreatesFile, OthersStay}
 use Rattle.gw_run.specs.Results.{HasBegun, HasOutputs, HasResults, IsBegun, OutputsBegun}

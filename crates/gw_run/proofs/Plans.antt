@@ -1,5 +1,5 @@
 -- What is planned, and what is done of it.
-use Rattle.std.proofs.Common.{◌≡◌, ℕ, ◌-◌, ◌≤◌, Bool, true, List, length, Some}
+use Rattle.std.proofs.Common.{◌≡◌, ℕ, ◌-◌, ◌≤◌, Bool, true, List, length}
 use Rattle.std.specs.String.{string_bytes}
 use Rattle.gw_depot.specs.Files.{Files}
 use Rattle.gw_run.specs.declared.log.Stamped.{Stamped}

@@ -1,5 +1,5 @@
 -- What a run that was done to its end has done.
-use Rattle.std.specs.Prelude.{◌≡◌, ℕ, ◌+◌, ◌-◌, ◌≤◌, max, Bool, true, false, List, ◌++◌, length, filter, map, Option, Some}
+use Rattle.std.specs.Prelude.{◌≡◌, ℕ, ◌+◌, ◌-◌, ◌≤◌, max, Bool, true, false, List, ◌++◌, length, filter, Some}
 use Rattle.gw_depot.specs.Files.{Files}
 use Rattle.gw_config.specs.Config.{Configuration}
 use Rattle.gw_law.specs.Lawful.{Lawful}

@@ -1,5 +1,5 @@
 -- Which lines of a log are built so far (this project's own).
-use Rattle.std.specs.Prelude.{◌≡◌, ℕ, ◌-◌, ◌*◌, ◌^◌, ◌<◌, Bool, true, false, ◌&&◌, ◌==◌, if◌then◌else◌, List, length, take, slice_index}
+use Rattle.std.specs.Prelude.{◌≡◌, ℕ, ◌-◌, ◌*◌, ◌^◌, ◌<◌, false, ◌==◌, if◌then◌else◌, List, length, take, slice_index}
 use Rattle.candump_line.specs.Plain.{IsPlain}
 use Rattle.gw_run.specs.Setup.{Bus}
 use Rattle.gw_run.specs.declared.log.Stamped.{Stamped}

@@ -1,7 +1,6 @@
 -- What a run over the frames of two logs has sent and tells.
 use Rattle.std.specs.Prelude.{◌≡◌, ℕ, List, [], ◌∷◌}
 use Rattle.gw_law.specs.Run.{IsRun, Route, Work, route_of}
-use Rattle.hub_core.specs.declared.record.DestRecord.{DestRecord}
 use Rattle.tick_clock.specs.declared.clock.Clock.{Clock}
 use Rattle.tp_sender.specs.Sending.{Written}
 use Rattle.session_report.specs.declared.report.Report.{Report}

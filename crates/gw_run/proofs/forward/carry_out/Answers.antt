@@ -1,5 +1,5 @@
 -- What was planned was begun or done.
-use Rattle.std.proofs.Common.{rules, inl, ap, arith, ◌≡◌, ◌∙◌}
+use Rattle.std.proofs.Common.{rules, inl}
 use Rattle.gw_run.proofs.Decided.{second-cause}
 use Rattle.gw_run.proofs.Plans.{begins, built, forwards}
 use Rattle.gw_run.specs.Plan.{IsPlan}

@@ -1,8 +1,8 @@
 -- What the machines tell keeps the laws, and is what is printed.
-use Rattle.std.proofs.Common.{◌≡◌, ◌+◌, max, ℕ, refl, subst, arith}
+use Rattle.std.proofs.Common.{◌≡◌, ◌+◌, refl, subst}
 use Rattle.std.specs.Prelude.{All}
 use Rattle.std.proofs.lemmas.List.Elements.{All-weaker}
-use Rattle.gw_run.specs.declared.setup.Side.TheVariants.{Source, Destination}
+use Rattle.gw_run.specs.declared.setup.Side.TheVariants.{Destination}
 use Rattle.gw_run.specs.Answers.{IsPlainAnswer}
 use Rattle.gw_run.specs.Forwarded.{last_of}
 use Rattle.gw_run.specs.Setup.{IsBuiltFrame}

@@ -1,6 +1,6 @@
 -- Each call that failed is the one to blame, and what was begun are the outputs.
-use Rattle.std.proofs.Common.{◌∙◌, inl, inr, arith}
-use Rattle.gw_run.proofs.Left.{first_appended, not_both_created, not_created, outputs_made, second_appended}
+use Rattle.std.proofs.Common.{◌∙◌, inl}
+use Rattle.gw_run.proofs.Left.{not_created, outputs_made}
 use Rattle.gw_run.proofs.results.write_outputs.Goals as goal
 
 pub returns-in_default-clause-cause : goal.returns-in_default-clause-cause

@@ -1,7 +1,7 @@
 -- The two outputs differ, and what is left free is that of the configuration's entries.
 use Rattle.std.proofs.Common.{◌≡◌, [], ◌∷◌, None, ◌∙◌, ap, sym, subst}
 use Rattle.gw_config.specs.Repeated.{repeated_in}
-use Rattle.gw_run.specs.Setup.{IsBaseChannel, IsBasePath}
+use Rattle.gw_run.specs.Setup.{IsBaseChannel}
 use Rattle.gw_run.proofs.Setups.{one-item, outs_apart, two-items}
 use Rattle.gw_run.proofs.setup.built.Goals as goal
 

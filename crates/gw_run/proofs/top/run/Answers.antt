@@ -1,6 +1,6 @@
 -- The words were those of a run or of a check, and its status was told.
 use Rattle.std.proofs.Common.{inl, inr}
-use Rattle.gw_run.proofs.Answered.{answers, named-told}
+use Rattle.gw_run.proofs.Answered.{answers}
 use Rattle.gw_run.proofs.Checked.{answers_check}
 use Rattle.gw_run.proofs.top.run.Goals as goal
 

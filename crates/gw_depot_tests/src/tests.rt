@@ -1,6 +1,8 @@
 ghost use Rattle.std.specs.Prelude.{◌<◌, length};
 
-use crate::{CallKind, Depot, Failed, FolderDepot, MemDepot, MemSink, NeverFails, OutSink, Sink};
+use gw_depot::{
+    CallKind, Depot, Failed, FolderDepot, MemDepot, MemSink, NeverFails, OutSink, Sink,
+};
 use std::fs;
 use std::rt::Files;
 

@@ -1,4 +1,4 @@
-use crate::{ConfigError, ConfigFault, FaultKind, Key, Settings, TableKind};
+use gw_settings::{ConfigError, ConfigFault, FaultKind, Key, Settings, TableKind};
 use std::test::Fail;
 
 const TEXT: &str = "

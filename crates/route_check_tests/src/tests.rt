@@ -1,6 +1,6 @@
-use crate::check;
 use gw_base::Bytes;
 use gw_config::{Config, read_config};
+use route_check::check;
 use std::alloc::Global;
 use std::test::Fail;
 

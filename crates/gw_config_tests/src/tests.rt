@@ -1,6 +1,6 @@
-use crate::{Addressing, Mode, print_config, read_config};
 use can_frame::CanId;
 use gw_base::Bytes;
+use gw_config::{Addressing, Mode, print_config, read_config};
 use gw_settings::ConfigError;
 use std::alloc::Global;
 use std::test::Fail;

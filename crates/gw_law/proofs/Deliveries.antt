@@ -20,11 +20,12 @@ use Rattle.tp_sender.specs.Sending.{Moment, calls_by as sent_calls, cells_in as 
 use Rattle.tp_sender.specs.State.{Sending}
 use Rattle.tp_sender.specs.declared.set.TxSet.{TxSet}
 use Rattle.gw_law.specs.Delivery.{AreWholeRuns, Delivers, Delivery, DeliveryLaw, IsNamed, Names, delivery_of}
-use Rattle.gw_law.specs.Source.{CountsFrom, SourceLaw, Tells as SourceTells, sessions_in}
+use Rattle.gw_law.specs.Source.{CountsFrom, sessions_in}
 use Rattle.gw_law.specs.Transfer.{GoesOnWith, SendsFor, Tells, Transfer, TransferLaw, has_sent, transfer_of}
 use Rattle.gw_law.proofs.Openings.{Entry, entries-are, entries_told, entry_told, openings, writing}
 use Rattle.gw_law.proofs.Sides.{cells_at-there}
-use Rattle.gw_law.proofs.SourceLaws.{source_law_of}
+use Rattle.gw_law.proofs.SourceLaws.{idle-of, source_law_of}
+use Rattle.gw_law.proofs.Tellings.{TellsPut}
 use Rattle.gw_law.proofs.TxLaw.{law}
 use Rattle.gw_law.proofs.TxReadings.{readings}
 use Rattle.gw_law.proofs.Lists.{all-weaker, mapped-at, zip-all}
@@ -116,20 +117,20 @@ joins rx turns tx moments v seq len runs is =
     let entry : Entry = (writing path).fixed s in
     let told : slice_get (entries_told (told_by turns)) seq ≡ Some entry =
     ap (λ l. slice_get l seq) (sym (entries-are rx turns v runs.received runs.idle runs.sessions)) ∙ slice_get-map (writing path).fixed (v.sessions path) seq ∙ ap (option_map (writing path).fixed) (ap (λ l. slice_get l seq) runs.sessions ∙ session) in
-    let source : SourceLaw rx.chan.0 rx.a rx.functional stored (seen_by turns) (told_by turns) = source_law_of rx turns runs.received runs.idle in
-    let found = find (SourceTells rx.chan.0 rx.a stored) (attempts_in rx.functional (seen_by turns)) (told_by turns) 0 seq entry source.tells source.sessions told in
+    let source = idle-of rx turns runs.received runs.idle in
+    let found = find (TellsPut rx.chan.0 rx.a stored) (attempts_in rx.functional (seen_by turns)) (told_by turns) 0 seq entry source.told.tells source.told.sessions told in
     let cells : s.cells ≡ put_in rx turns seq = sym (cells_at-there (λ (x : Session). x.cells) seq ((grows (received_calls turns) empty_view).sessions path) s session) ∙ puts.cells seq in
     let cells_were : r.cells ≡ cells_read seq (sent_calls moments) = sym (cells_at-there (λ (x : Reading). x.cells) seq ((grows (sent_calls moments) empty_view).readings tx.path.0 tx.dest.0) r at.1) ∙ read.cells seq in
     let front : t.read seq ≡ bytes_of (take (length r.cells) (put_in rx turns seq)) = ap bytes_of (sym cells_were ∙ known.2.prefix) ∙ ap (λ c. bytes_of (take (length r.cells) c)) cells in
     let numbered : found.opened.seq ≡ seq = omega (arith, found.seq_is) in
-    let puts_are : stored seq ≡ take found.session.bytes (reassembled rx.a found.unit) = ap stored (sym numbered) ∙ found.tells.puts found.opened found.opened_is in
+    let puts_are : stored seq ≡ take found.session.bytes (reassembled rx.a found.unit) = ap stored (sym numbered) ∙ found.tells.1 found.opened found.opened_is in
     let most : length (t.read seq) ≤ found.session.bytes =
     omega (arith, (front-bytes (put_in rx turns seq) (t.read seq) (length r.cells) 0 front (omega arith)).0, ap length puts_are, length-take-le found.session.bytes (reassembled rx.a found.unit)) in
     record {
       unit = found.unit;
       session = found.session;
       named = record { place = found.place; unit_is = found.unit_is; session_is = found.session_is; opened = found.opened; opened_is = found.opened_is; seq_is = numbered };
-      len_is = omega (arith, found.tells.len, ap (λ (e : Entry). e.len) found.entry_is, known.2.len, at.2);
+      len_is = omega (arith, found.tells.0.len, ap (λ (e : Entry). e.len) found.entry_is, known.2.len, at.2);
       most = most;
       bytes = λ sent within.
           (front-bytes (put_in rx turns seq) (t.read seq) (length r.cells) sent front within).1 ∙ ap (take sent) puts_are ∙ take-take sent found.session.bytes (reassembled rx.a found.unit) (omega (arith, within, most));

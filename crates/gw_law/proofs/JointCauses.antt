@@ -107,10 +107,10 @@ record IsTold (functional : Bool) (seen : List Seen) (p : ℕ) (session : Sessio
   whole : session.bytes ≡ session.len → session.result ≡ Whole
   all : session.result ≡ Whole → session.bytes ≡ session.len
 
-told-so : (chan address : ℕ) (functional : Bool) (stored : ℕ → List ℕ) (seen : List Seen) (records : List SessionRecord) (p : ℕ) (session : SessionRecord) (opened : OpenedAt) → SourceLaw chan address functional stored seen records → slice_get records p ≡ Some session →
+told-so : (chan address : ℕ) (functional : Bool) (seen : List Seen) (records : List SessionRecord) (p : ℕ) (session : SessionRecord) (opened : OpenedAt) → SourceLaw chan address functional seen records → slice_get records p ≡ Some session →
     session.opened ≡ Some opened → IsTold functional seen p session
-told-so chan address functional stored seen records p session opened law is opened_is =
-    let at = zip-back (Tells chan address stored) (attempts_in functional seen) records p session law.tells is in
+told-so chan address functional seen records p session opened law is opened_is =
+    let at = zip-back (Tells chan address) (attempts_in functional seen) records p session law.tells is in
     let no : is_overflow session.result ≡ false = opens-so (is_overflow session.result) session.opened opened at.2.opens opened_is in
     record { unit = at.0; unit_is = at.1; whole = (at.2.whole no).1; all = (at.2.whole no).0 }
 
@@ -138,7 +138,7 @@ source-lost rx tx shape source_budget budget sizes last count free ticks end run
     let P : DestResult → Type 0 = λ h. Meets tx has.item told.sent h (has_ended (moments_of works)) in
     let m : Meets tx has.item told.sent SourceEnded (has_ended (moments_of works)) = subst P how (meets rx tx sizes works has.place k has.item opened told far has.there has.holds.0.1 is (sym has.holds.0.2)) in
     let source = route-source rx tx shape source_budget budget sizes last count free ticks end run in
-    let so : IsTold rx.functional r.seen has.place has.item = told-so rx.chan.0 rx.a rx.functional source.0 r.seen r.sessions has.place has.item opened source.1 has.there has.holds.0.1 in
+    let so : IsTold rx.functional r.seen has.place has.item = told-so rx.chan.0 rx.a rx.functional r.seen r.sessions has.place has.item opened source has.there has.holds.0.1 in
     let lacks : Lacks r has.item told.sent × (has.item.bytes ≢ has.item.len) = lost-by r has.item told.sent (has_ended (moments_of works)) m run.shape m.shows.0 m.shows.1 in
     record {
       unit = so.unit;
@@ -256,7 +256,7 @@ unread-opened rx tx shape source_budget budget sizes last count free ticks end r
     let place : has.item.seq ≡ 0 + has.place = numbered-at 0 (sent_by (moments_of works)) has.place has.item (route-delivers rx tx shape source_budget budget sizes last count free ticks end run).numbered told_is in
     let here : has.place ≡ opened.seq = omega (arith, place, has.holds.seq_is) in
     let source = route-source rx tx shape source_budget budget sizes last count free ticks end run in
-    let so : IsTold rx.functional r.seen k session = told-so rx.chan.0 rx.a rx.functional source.0 r.seen r.sessions k session opened source.1 is opened_is in
+    let so : IsTold rx.functional r.seen k session = told-so rx.chan.0 rx.a rx.functional r.seen r.sessions k session opened source is opened_is in
     record {
       opened = opened;
       opened_is = opened_is;
@@ -281,7 +281,7 @@ route-unread rx tx shape source_budget budget sizes last count free ticks end ru
     let source = route-source rx tx shape source_budget budget sizes last count free ticks end run in
     all-by (λ (session : SessionRecord). session.result ≡ NoReaders → IsUnread r session) r.sessions
     (λ k session is how.
-    let at = zip-back (Tells rx.chan.0 rx.a source.0) (attempts_in rx.functional r.seen) r.sessions k session source.1.tells is in
+    let at = zip-back (Tells rx.chan.0 rx.a) (attempts_in rx.functional r.seen) r.sessions k session source.tells is in
     unread-by rx tx shape source_budget budget sizes last count free ticks end run k session session.opened is how refl (at.2.opens ∙ ap (λ h. not (is_overflow h)) how))
 
 -- all of them
@@ -292,6 +292,6 @@ joint_causes rx tx shape source_budget budget sizes last count free ticks end so
     record {
       unread = route-unread rx tx shape source_budget budget sizes last count free ticks end run;
       short = route-short rx tx shape source_budget budget sizes last count free ticks end run;
-      in_time = none-waits (route_of rx tx shape source_budget budget sizes last count free ticks end) source.0 run.shape source.1 (causes rx tx shape source_budget budget sizes last count free ticks end some run)
+      in_time = none-waits (route_of rx tx shape source_budget budget sizes last count free ticks end) run.shape source (causes rx tx shape source_budget budget sizes last count free ticks end some run)
           (timely rx tx shape source_budget budget sizes last count free ticks end run) (route-delivers rx tx shape source_budget budget sizes last count free ticks end run);
     }

@@ -19,11 +19,9 @@ pub laws : (rx : RxSet) (tx : TxSet) (shape : Shape) (source_budget budget : ℕ
     HasLawfulLimits rx tx shape source_budget budget → IsSmall (route_of rx tx shape source_budget budget sizes last count free ticks end) →
     IsRun rx tx sizes last count free ticks end → Lawful (route_of rx tx shape source_budget budget sizes last count free ticks end)
 laws rx tx shape source_budget budget sizes last count free ticks end limits small run =
-    let source = route-source rx tx shape source_budget budget sizes last count free ticks end run in
     let received = reception_causes rx tx shape source_budget budget sizes last count free ticks end limits.shape_is limits.n_cr small run in
     record {
-      stored = source.0;
-      source = source.1;
+      source = route-source rx tx shape source_budget budget sizes last count free ticks end run;
       delivery = route-delivers rx tx shape source_budget budget sizes last count free ticks end run;
       each = route-each rx tx shape source_budget budget sizes last count free ticks end run;
       timely = timely rx tx shape source_budget budget sizes last count free ticks end run;

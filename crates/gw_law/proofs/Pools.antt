@@ -30,7 +30,6 @@ use Rattle.gw_law.proofs.Deliveries.{find}
 use Rattle.gw_law.proofs.FreeSets.{whole-again}
 use Rattle.gw_law.proofs.Openings.{Denied, Entry, Granted, Outcome, entries-are, entries_told, entry_told, need_by, need_in, needs_by, openings, outcome_by, outcome_going, outcome_of, outcome_told, writing}
 use Rattle.gw_law.proofs.SourceLaws.{source_law_of}
-use Rattle.gw_law.proofs.Stores.{store}
 use Rattle.gw_law.proofs.Lists.{mapped-at, zip-both}
 
 -- the moves of changes, by their numbers
@@ -251,9 +250,9 @@ denied v need change free asked result (Some opened) is opens said = let no : tr
 granted : (v : View) (need : ℕ) (result : SessionResult) (was : Option OpenedAt) (opened : OpenedAt) → was ≡ Some opened → AskedFor v need (outcome_told result was) → AskedFor v need (Granted opened.change opened.buf.0)
 granted v need result was opened is said = let P : Option OpenedAt → Type 0 = λ o. AskedFor v need (outcome_told result o) in subst P is said
 
-asks : (chan address count now : ℕ) (stored : ℕ → List ℕ) (sizes : List ℕ) (v : View) (attempt : Cut Seen) (told : SessionRecord) → Joint sizes count now v → CountsFrom 1 (map number_of v.changes) → Tells chan address stored attempt told → Answered v attempt told →
+asks : (chan address count now : ℕ) (sizes : List ℕ) (v : View) (attempt : Cut Seen) (told : SessionRecord) → Joint sizes count now v → CountsFrom 1 (map number_of v.changes) → Tells chan address attempt told → Answered v attempt told →
     Asks sizes (map move_of v.changes) attempt told
-asks chan address count now stored sizes v attempt told joint counts tells said = record {
+asks chan address count now sizes v attempt told joint counts tells said = record {
   served = λ opened is. served sizes count now v (need_of attempt) opened joint counts (granted v (need_of attempt) told.result told.opened opened is said);
   refused = λ change free need is. refused sizes count now v (need_of attempt) change free need joint (denied v (need_of attempt) change free need told.result told.opened is tells.opens said);
 }
@@ -344,7 +343,7 @@ told-by v source seq s run at =
     let law = source_law_of source.set source.turns run.received run.idle in
     let entry : slice_get (entries_told (told_by source.turns)) seq ≡ Some ((writing path).fixed s) =
     ap (λ l. slice_get l seq) (sym (entries-are source.set source.turns v run.received run.idle run.sessions)) ∙ slice_get-map (writing path).fixed (v.sessions path) seq ∙ ap (option_map (writing path).fixed) at in
-    let found = find (Tells source.set.chan.0 source.set.a (store path (calls_by source.turns))) (attempts_in source.set.functional (seen_by source.turns)) (told_by source.turns) 0 seq ((writing path).fixed s) law.tells law.sessions entry in
+    let found = find (Tells source.set.chan.0 source.set.a) (attempts_in source.set.functional (seen_by source.turns)) (told_by source.turns) 0 seq ((writing path).fixed s) law.tells law.sessions entry in
     record { place = found.place; told = found.session; told_is = found.session_is; opened = found.opened; opened_is = found.opened_is; change_is = ap (λ (e : Entry). e.change) found.entry_is; buf_is = ap (λ (e : Entry). e.buf) found.entry_is }
 
 -- what the records of one channel ask
@@ -354,11 +353,10 @@ asks-of sizes count free v source joint counts run =
     let set : RxSet = source.set in
     let attempts : List (Cut Seen) = attempts_in set.functional (seen_by source.turns) in
     let records : List SessionRecord = told_by source.turns in
-    let stored : ℕ → List ℕ = store set.path.0 (calls_by source.turns) in
     let put = openings set source.turns run.received in
     let outs : flat_map outcome_by (calls_by source.turns) ≡ map outcome_of records = put.outcomes ∙ ap (λ b. map outcome_of records ++ outcome_going b) run.idle ∙ append-nil (map outcome_of records) in
     let needs : flat_map need_by (calls_by source.turns) ≡ map need_of attempts = put.needs_are ∙ needs-are set.functional source.turns in
-    zip-both (Tells set.chan.0 set.a stored) (Answered v) (Asks sizes (map move_of v.changes)) attempts records (λ attempt told tells said. asks set.chan.0 set.a count free stored sizes v attempt told joint counts tells said)
+    zip-both (Tells set.chan.0 set.a) (Answered v) (Asks sizes (map move_of v.changes)) attempts records (λ attempt told tells said. asks set.chan.0 set.a count free sizes v attempt told joint counts tells said)
     (source_law_of set source.turns run.received run.idle).tells (answered v (calls_by source.turns) attempts records outs needs run.calls)
 
 each-channel : (sizes : List ℕ) (count free : ℕ) (v : View) (sources : List Source) → Joint sizes count free v → CountsFrom 1 (map number_of v.changes) → AllByRecursion (IsWholeRun v) sources →

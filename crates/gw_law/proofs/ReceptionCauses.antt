@@ -43,31 +43,31 @@ record BeginsThere (records : List SessionRecord) (place tick : ℕ) : Type 0 wh
   pub is : slice_get records place ≡ Some next
   pub begins : next.begin.0 ≡ tick
 
-begins-there : (chan address : ℕ) (stored : ℕ → List ℕ) (attempts : List (Cut Seen)) (records : List SessionRecord) (place tick : ℕ) → AllZip (Tells chan address stored) attempts records → slice_get (starts_of attempts) place ≡ Some tick → BeginsThere records place tick
-begins-there chan address stored [] records place tick tells is = cc
-begins-there chan address stored (attempt ∷ attempts) [] place tick tells is = absurd tells
-begins-there chan address stored (attempt ∷ attempts) (told ∷ records) zero tick tells is = let same : attempt.start.at ≡ tick = cc in record { next = told; is = refl; begins = tells.0.begin ∙ same }
-begins-there chan address stored (attempt ∷ attempts) (told ∷ records) (suc place) tick tells is =
-    let there : BeginsThere records place tick = begins-there chan address stored attempts records place tick tells.1 is in
+begins-there : (chan address : ℕ) (attempts : List (Cut Seen)) (records : List SessionRecord) (place tick : ℕ) → AllZip (Tells chan address) attempts records → slice_get (starts_of attempts) place ≡ Some tick → BeginsThere records place tick
+begins-there chan address [] records place tick tells is = cc
+begins-there chan address (attempt ∷ attempts) [] place tick tells is = absurd tells
+begins-there chan address (attempt ∷ attempts) (told ∷ records) zero tick tells is = let same : attempt.start.at ≡ tick = cc in record { next = told; is = refl; begins = tells.0.begin ∙ same }
+begins-there chan address (attempt ∷ attempts) (told ∷ records) (suc place) tick tells is =
+    let there : BeginsThere records place tick = begins-there chan address attempts records place tick tells.1 is in
     record { next = there.next; is = there.is; begins = there.begins }
 
 -- a record that was told before the run's end
-cause-by : (r : Route) (over : ℕ) (stored : ℕ → List ℕ) (attempt : Cut Seen) (told : SessionRecord) (how : SessionResult) → AllZip (Tells r.rx.chan.0 r.rx.a stored) (attempts_in r.rx.functional r.seen) r.sessions → told.result ≡ how → Comes how → HasRoom how →
+cause-by : (r : Route) (over : ℕ) (attempt : Cut Seen) (told : SessionRecord) (how : SessionResult) → AllZip (Tells r.rx.chan.0 r.rx.a) (attempts_in r.rx.functional r.seen) r.sessions → told.result ≡ how → Comes how → HasRoom how →
     IsSettled r.rx (address_size r.shape) r.controls over (starts_of (attempts_in r.rx.functional r.seen)) attempt told → HasCause r attempt told how
-cause-by r over stored attempt told Whole tells is comes room_is so = sym (last-is told.begin.0 told.end.0 (walk_of r.rx.a attempt).pieces (so.whole is).0)
-cause-by r over stored attempt told (Overflow change free need) tells is comes room_is so = tt
-cause-by r over stored attempt told (WrongSn want got) tells is comes room_is so = tt
-cause-by r over stored attempt told (RxTimeout BoxLimit) tells is comes room_is so = cc
-cause-by r over stored attempt told (RxTimeout CfLimit) tells is comes room_is so =
+cause-by r over attempt told Whole tells is comes room_is so = sym (last-is told.begin.0 told.end.0 (walk_of r.rx.a attempt).pieces (so.whole is).0)
+cause-by r over attempt told (Overflow change free need) tells is comes room_is so = tt
+cause-by r over attempt told (WrongSn want got) tells is comes room_is so = tt
+cause-by r over attempt told (RxTimeout BoxLimit) tells is comes room_is so = cc
+cause-by r over attempt told (RxTimeout CfLimit) tells is comes room_is so =
     let late = so.late is in record { at = told.begin.0; from = omega arith; left = late.left; limit = late.limit; silent = late.silent }
-cause-by r over stored attempt told Restarted tells is comes room_is so =
-    let there : BeginsThere r.sessions (told.n + 1) told.end.0 = begins-there r.rx.chan.0 r.rx.a stored (attempts_in r.rx.functional r.seen) r.sessions (told.n + 1) told.end.0 tells (so.restarted is) in
+cause-by r over attempt told Restarted tells is comes room_is so =
+    let there : BeginsThere r.sessions (told.n + 1) told.end.0 = begins-there r.rx.chan.0 r.rx.a (attempts_in r.rx.functional r.seen) r.sessions (told.n + 1) told.end.0 tells (so.restarted is) in
     record { next = there.next; is = there.is; begins = there.begins }
-cause-by r over stored attempt told (NoRoom room need) tells is comes room_is so = absurd room_is
-cause-by r over stored attempt told WaitOver tells is comes room_is so = absurd comes
-cause-by r over stored attempt told NoReaders tells is comes room_is so = tt
-cause-by r over stored attempt told Cancelled tells is comes room_is so = absurd comes
-cause-by r over stored attempt told (RunEnd wait since) tells is comes room_is so = absurd comes
+cause-by r over attempt told (NoRoom room need) tells is comes room_is so = absurd room_is
+cause-by r over attempt told WaitOver tells is comes room_is so = absurd comes
+cause-by r over attempt told NoReaders tells is comes room_is so = tt
+cause-by r over attempt told Cancelled tells is comes room_is so = absurd comes
+cause-by r over attempt told (RunEnd wait since) tells is comes room_is so = absurd comes
 
 never-boxed : (how : SessionResult) → Comes how → IsNeverBoxed how
 never-boxed Whole comes = tt
@@ -85,20 +85,20 @@ never-boxed (RunEnd wait since) comes = absurd comes
 abbrev IsSaid : Route → Cut Seen → SessionRecord → Type 0
 IsSaid r attempt told = IsCaused r attempt told × IsNeverBoxed told.result
 
-said-all : (r : Route) (over : ℕ) (stored : ℕ → List ℕ) → AllZip (Tells r.rx.chan.0 r.rx.a stored) (attempts_in r.rx.functional r.seen) r.sessions → (attempts : List (Cut Seen)) (records : List SessionRecord) →
+said-all : (r : Route) (over : ℕ) → AllZip (Tells r.rx.chan.0 r.rx.a) (attempts_in r.rx.functional r.seen) r.sessions → (attempts : List (Cut Seen)) (records : List SessionRecord) →
     AllByRecursion (λ (told : SessionRecord). HasRoom told.result) records → AreSettled r.rx (address_size r.shape) r.controls over (starts_of (attempts_in r.rx.functional r.seen)) attempts records → AllZip (IsSaid r) attempts records
-said-all r over stored tells [] [] roomy so = tt
-said-all r over stored tells [] (told ∷ records) roomy so = absurd so
-said-all r over stored tells (attempt ∷ attempts) [] roomy so = absurd so
-said-all r over stored tells (attempt ∷ attempts) (told ∷ records) roomy so = (
+said-all r over tells [] [] roomy so = tt
+said-all r over tells [] (told ∷ records) roomy so = absurd so
+said-all r over tells (attempt ∷ attempts) [] roomy so = absurd so
+said-all r over tells (attempt ∷ attempts) (told ∷ records) roomy so = (
   (
     record {
-      cause = cause-by r over stored attempt told told.result tells refl so.0.comes roomy.0 so.0;
+      cause = cause-by r over attempt told told.result tells refl so.0.comes roomy.0 so.0;
       none_passed = λ tick from below late. so.0.none_passed tick from below late.silent;
     },
     never-boxed told.result so.0.comes,
   ),
-  said-all r over stored tells attempts records roomy.1 so.1,
+  said-all r over tells attempts records roomy.1 so.1,
 )
 
 -- in an empty box nothing is waited for
@@ -136,16 +136,16 @@ said-last r lies now over busy attempt empty over_is later so =
     )
 
 -- all records, after the run's end
-said-ended : (r : Route) (next seq now over : ℕ) (stored : ℕ → List ℕ) (busy : Option Busy) (lies : Option Meaning) (m : RxMove) (records : List SessionRecord) → AllZip (Tells r.rx.chan.0 r.rx.a stored) (attempts_in r.rx.functional r.seen) r.sessions →
+said-ended : (r : Route) (next seq now over : ℕ) (busy : Option Busy) (lies : Option Meaning) (m : RxMove) (records : List SessionRecord) → AllZip (Tells r.rx.chan.0 r.rx.a) (attempts_in r.rx.functional r.seen) r.sessions →
     AllByRecursion (λ (told : SessionRecord). HasRoom told.result) records → SoBy r.rx (address_size r.shape) busy lies r.controls now over r.seen records → lies ≡ None → ((b : Busy) → busy ≡ Some b → over ≡ r.last + 1) → now ≤ m.tick → m.tick ≡ r.last → EndRow r.rx (record { next = next; seq = seq; busy = busy }) busy m →
     AllZip (IsSaid r) (attempts_in r.rx.functional r.seen) (records ++ m.records)
-said-ended r next seq now over stored None lies m records tells roomy so empty past later at row = rw (row.records, append-nil) (said-all r over stored tells (attempts_in r.rx.functional r.seen) records roomy so)
-said-ended r next seq now over stored (Some busy) lies m records tells roomy so empty past later at row =
+said-ended r next seq now over None lies m records tells roomy so empty past later at row = rw (row.records, append-nil) (said-all r over tells (attempts_in r.rx.functional r.seen) records roomy so)
+said-ended r next seq now over (Some busy) lies m records tells roomy so empty past later at row =
     let P : List SessionRecord → Type 0 = λ more. AllZip (IsSaid r) (attempts_in r.rx.functional r.seen) (records ++ more) in
     let told : SessionRecord = ended r.rx busy (RunEnd busy.wait (record { 0 = busy.since })) r.last in
     let Q : List (Cut Seen) → Type 0 = λ attempts. AllZip (IsSaid r) attempts (records ++ told ∷ []) in
     subst P (sym (row.records ∙ ap (λ t. ended r.rx busy (RunEnd busy.wait (record { 0 = busy.since })) t ∷ []) at))
-    (subst Q (sym so.cut) (zip-push (IsSaid r) so.earlier records so.attempt told (said-all r over stored tells so.earlier records roomy so.told)
+    (subst Q (sym so.cut) (zip-push (IsSaid r) so.earlier records so.attempt told (said-all r over tells so.earlier records roomy so.told)
     (said-last r lies now over busy so.attempt empty (past busy refl) (omega (arith, later, at)) so.going)))
 
 -- the receiver's one turn at the end
@@ -189,7 +189,7 @@ reception_causes rx tx shape source_budget budget sizes last count free ticks en
     let R : RxInput → Type 0 = λ e. RxStep rx (state_of turns) e one.turn.move in
     let S : List SessionRecord → Type 0 = λ records. AllZip (IsSaid r) (attempts_in rx.functional r.seen) records in
     zip-first (IsCaused r) (λ (told_one : SessionRecord). IsNeverBoxed told_one.result) (attempts_in rx.functional r.seen) r.sessions (subst S (sym told)
-    (said-ended r (state_of turns).next (state_of turns).seq (now_of turns) (over_of turns) _ (state_of turns).busy (control_after turns) one.turn.move (told_by turns) law.tells roomy
+    (said-ended r (state_of turns).next (state_of turns).seq (now_of turns) (over_of turns) (state_of turns).busy (control_after turns) one.turn.move (told_by turns) law.tells roomy
     (subst Q (sym seen) (subst P (sym controls) (so_far rx shape turns sound some before over.ordered))) over.empty
     (λ b busy. elim run.ends.reached [
       | inl idle ↦ absurd (none-some idle.receiver busy)

@@ -12,7 +12,7 @@ use Rattle.tp_receiver.specs.Receiving.{Busy}
 use Rattle.tp_receiver.specs.Running.{Happened as Received, RxTurn, calls_by as received_calls, state_of}
 use Rattle.tp_sender.specs.Sending.{Happened as WasSent}
 use Rattle.tp_sender.specs.declared.set.TxSet.{TxSet}
-use Rattle.gw_law.specs.Run.{AreLooks, AreTicks, IsRun, Work, moments_of, turns_of, view_of}
+use Rattle.gw_law.specs.Run.{AreLooks, AreTicks, IsRun, LooksCount, Work, moments_of, turns_of, view_of}
 use Rattle.gw_law.proofs.OwnCalls.{received-calls, received-front, sent-front}
 use Rattle.gw_law.proofs.RxRooms.{AllLook, LooksWell}
 use Rattle.gw_law.proofs.Sessions.{AllFilled, all-filled, stored_in}
@@ -62,6 +62,15 @@ longer-grow path (Read p dest seq cell) v = longer-same (sizes_at path v)
 longer-grow path (Closed p seq freed) v = longer-changed path p seq (λ s. record s { stands = false }) v.sessions (λ s. refl)
 longer-grow path (Parted p dest seq freed) v = longer-same (sizes_at path v)
 
+-- a look that isn't older than some floors counts so
+pub fresh-counts : (f : Floors) (v : View) (calls : List Event) → AreFresh f v calls → LooksCount v calls
+fresh-counts f v calls fresh [] after path seq cells readers s is there =
+    let P : List Event → Type 0 = λ c. AreFresh f v c in
+    omega (arith, ((subst P is fresh).0 s there).room 0 (omega arith) (λ dest within stays. omega arith))
+fresh-counts f v calls fresh (event ∷ before) after path seq cells readers s is there =
+    let P : List Event → Type 0 = λ c. AreFresh f v c in
+    fresh-counts f (grow event v) (before ++ Asked path seq cells readers ∷ after) (subst P is fresh).1 before after path seq cells readers s refl there
+
 -- each session of a path has a buffer of 4 cells
 abbrev AreFour : ℕ → View → Type 0
 AreFour path v = AllByRecursion (λ (size : ℕ). size ≡ 4) (sizes_at path v)
@@ -100,16 +109,15 @@ only-size sizes buf size one is = the-one buf (subst P one is)
     the-one (suc place) at = cc
 
 -- the looks of one turn
-looks-busy : (rx : RxSet) (busy : Option Busy) (seq : ℕ) (turns : List RxTurn) (v : View) (floors : Floors) (calls : List Event) → Received rx turns → OwnSessions rx turns v → AreFour rx.path.0 (grows (received_calls turns) empty_view) →
-    ((b : Busy) → busy ≡ Some b → b.opened.seq < length ((grows (received_calls turns) empty_view).sessions rx.path.0)) → AreFresh floors v calls → LooksWell rx busy (received_calls turns) calls
-looks-busy rx None seq turns v floors calls happened own four inside fresh = tt
-looks-busy rx (Some busy) seq turns v floors calls happened own four inside fresh = λ room readers rest is.
+looks-busy : (rx : RxSet) (busy : Option Busy) (seq : ℕ) (turns : List RxTurn) (v : View) (calls : List Event) → Received rx turns → OwnSessions rx turns v → AreFour rx.path.0 (grows (received_calls turns) empty_view) →
+    ((b : Busy) → busy ≡ Some b → b.opened.seq < length ((grows (received_calls turns) empty_view).sessions rx.path.0)) → LooksCount v calls → LooksWell rx busy (received_calls turns) calls
+looks-busy rx None seq turns v calls happened own four inside counts = tt
+looks-busy rx (Some busy) seq turns v calls happened own four inside counts = λ room readers rest is.
     let made : List Session = (grows (received_calls turns) empty_view).sessions rx.path.0 in
     let there = slice_get-get_or made busy.opened.seq (session_new 0 0 0 0 0) (inside busy refl) in
-    let P : List Event → Type 0 = λ c. AreFresh floors v c in
-    let look = (subst P is fresh).0 _ (ap (λ l. slice_get l busy.opened.seq) own ∙ there) in
+    let look = counts [] rest rx.path.0 busy.opened.seq room readers _ is (ap (λ l. slice_get l busy.opened.seq) own ∙ there) in
     let cells = stored_in rx turns happened busy.opened.seq _ there in
-    omega (arith, look.room 0 (omega arith) (λ dest within stays. omega arith), four-at made busy.opened.seq _ four there, ap length cells)
+    omega (arith, look, four-at made busy.opened.seq _ four there, ap length cells)
 
 below-at : (rx : RxSet) (turns : List RxTurn) → AllFilled rx turns → (b : Busy) → (state_of turns).busy ≡ Some b → b.opened.seq < length ((grows (received_calls turns) empty_view).sessions rx.path.0)
 below-at rx turns so b is =
@@ -124,7 +132,7 @@ looks-turns rx (turn ∷ turns) earlier start looks happened own four known =
     let P : List Event → Type 0 = λ calls. here.sessions rx.path.0 ≡ (grows calls empty_view).sessions rx.path.0 in
     let own_here : OwnSessions rx (turns ++ earlier) here = subst P (sym (received-calls turns earlier)) (sessions-grown rx.path.0 (received_calls earlier) (received_calls turns) start here refl own) in
     let four_here : AreFour rx.path.0 (grows (received_calls (turns ++ earlier)) empty_view) = four-front rx (turn ∷ []) (turns ++ earlier) four in (
-      looks-busy rx (state_of (turns ++ earlier)).busy (state_of (turns ++ earlier)).seq (turns ++ earlier) here looks.0.0 turn.move.calls happened.2 own_here four_here (below-at rx (turns ++ earlier) (all-filled rx (turns ++ earlier) happened.2)) looks.0.1,
+      looks-busy rx (state_of (turns ++ earlier)).busy (state_of (turns ++ earlier)).seq (turns ++ earlier) here turn.move.calls happened.2 own_here four_here (below-at rx (turns ++ earlier) (all-filled rx (turns ++ earlier) happened.2)) looks.0,
       looks-turns rx turns earlier start looks.1 happened.2 own four_here known,
     )
 

@@ -25,6 +25,7 @@ use Rattle.gw_law.proofs.Pieces.{After, CutFront, CutIn, Within, bytes-front, by
 use Rattle.gw_law.proofs.SoFars.{AreTold, IsBusy}
 use Rattle.gw_law.proofs.SourceLaws.{HoldsBy, holds, source_law_of}
 use Rattle.gw_law.proofs.Stores.{store}
+use Rattle.gw_law.proofs.Tellings.{TellsPut}
 use Rattle.gw_law.proofs.Lists.{all-at, get-append, slice_get-more, zip-at, zip-back, zip-long}
 use Rattle.hub_core.proofs.Growing.{slice_get-pushed}
 
@@ -68,9 +69,9 @@ told-put : (rx : RxSet) (tick place now : ℕ) (front : List RxTurn) (records mo
     attempts_in rx.functional (seen_by front) ≡ ended ++ going → AreTold rx (calls_by front) now ended (told_by front) → opened.seq < length (sessions_in (told_by front)) → length (store rx.path.0 (calls_by front) opened.seq) ≤ bytes_to tick (walk_of rx.a unit).pieces
 told-put rx tick place now front records more unit session opened ended going known cuts told below = elim (get-append (told_by front) more place session (ap (λ l. slice_get l place) (sym known.split) ∙ known.session_is)) [
   | inl here ↦
-      let zipped = zip-back (Tells rx.chan.0 rx.a (store rx.path.0 (calls_by front))) ended (told_by front) place session told.tells here in
+      let zipped = zip-back (TellsPut rx.chan.0 rx.a (store rx.path.0 (calls_by front))) ended (told_by front) place session told.tells here in
       let is : slice_get (attempts_in rx.functional (seen_by front)) place ≡ Some zipped.0 = ap (λ l. slice_get l place) cuts ∙ slice_get-more ended going place zipped.0 zipped.1 in
-      omega (arith, ap length (zipped.2.puts opened known.opened_is), length-take-le session.bytes (reassembled rx.a zipped.0) zipped.2.within, zipped.2.within, within rx.a tick place (attempts_in rx.functional (seen_by front)) zipped.0 unit known.early is known.cut)
+      omega (arith, ap length (zipped.2.1 opened known.opened_is), length-take-le session.bytes (reassembled rx.a zipped.0) zipped.2.0.within, zipped.2.0.within, within rx.a tick place (attempts_in rx.functional (seen_by front)) zipped.0 unit known.early is known.cut)
   | inr later ↦ absurd (omega (arith, below, seq-later records (told_by front) more later.0 session opened known.split known.counts later.2 known.opened_is))
 ]
 
@@ -96,7 +97,7 @@ going-put rx tick place next seq busy front records more unit session opened kno
       let starts : CutIn (λ (s : Seen). s.at ≤ tick) so.attempt = all-at (CutIn (λ (s : Seen). s.at ≤ tick)) (attempts_in rx.functional (seen_by front)) (length so.earlier) so.attempt known.early last in
       let P : List (Cut Seen) → Type 0 = λ l. CutFront (λ (s : Seen). tick < s.at) l place unit in
       let is : slice_get (so.earlier ++ so.attempt ∷ []) place ≡ Some so.attempt =
-      last-place tick place so.earlier so.attempt unit (length (told_by front)) later.0 (zip-long (Tells rx.chan.0 rx.a (store rx.path.0 (calls_by front))) so.earlier (told_by front) so.told.tells) later.1
+      last-place tick place so.earlier so.attempt unit (length (told_by front)) later.0 (zip-long (TellsPut rx.chan.0 rx.a (store rx.path.0 (calls_by front))) so.earlier (told_by front) so.told.tells) later.1
       (omega (arith, same, known.begin, so.underway.begin, starts.0)) (subst P so.cut known.cut) in
       let put : store rx.path.0 (calls_by front) opened.seq ≡ reassembled rx.a so.attempt = ap (store rx.path.0 (calls_by front)) (omega (arith, number, so.at_is)) ∙ so.underway.puts in
       omega (arith, ap length put, within rx.a tick place (attempts_in rx.functional (seen_by front)) so.attempt unit known.early (ap (λ l. slice_get l place) so.cut ∙ is) known.cut)
@@ -136,7 +137,7 @@ put-up-to rx later front tick place unit session opened happened idle late early
     let sp : Split (told_by (later ++ front)) place session = splits (told_by (later ++ front)) place session session_is in
     let all : begins_told (told_by (later ++ front)) ≡ begins_by (later ++ front) =
     sym (begins-are rx (later ++ front) happened ∙ ap (λ b. begins_told (told_by (later ++ front)) ++ begin_going b) idle ∙ append-nil (begins_told (told_by (later ++ front)))) in
-    let zipped = zip-at (Tells rx.chan.0 rx.a _) (attempts_in rx.functional (seen_by (later ++ front))) (told_by (later ++ front)) place unit law.tells unit_is in
+    let zipped = zip-at (Tells rx.chan.0 rx.a) (attempts_in rx.functional (seen_by (later ++ front))) (told_by (later ++ front)) place unit law.tells unit_is in
     let same : session ≡ zipped.0 = cc in
     let known : Known rx tick place front (told_by (later ++ front)) told.more unit session opened = record {
       split = told.is;

@@ -8,6 +8,7 @@ use Rattle.hub_core.specs.declared.record.RxWait.TheVariants.{Box, Cf}
 use Rattle.hub_core.specs.declared.record.SessionRecord.{SessionRecord}
 use Rattle.hub_core.specs.declared.record.SessionResult.{SessionResult}
 use Rattle.hub_core.specs.declared.record.SessionResult.TheVariants.{Whole, WrongSn, RxTimeout, Restarted, NoRoom, NoReaders, RunEnd}
+use Rattle.tp_attempts.specs.Attempts.{attempts_in}
 use Rattle.tp_attempts.specs.Seen.{Seen, is_start, len_of}
 use Rattle.tp_attempts.specs.Walk.{Walk, look_at, walk_of}
 use Rattle.tp_attempts.proofs.Walks.{look-long, look-short}
@@ -17,9 +18,11 @@ use Rattle.tp_receiver.specs.Rows.{After, Begins, BeginsFirst, BeginsSingle, Car
 use Rattle.tp_receiver.specs.Rows.{NoneReads, All, NoBuffer, Completes, NoBufferFirst, Opened, NoneReadsOn, TooLittleRoom, Adds as AddsRow, Fills, TooLong, TooShort, WrongNumber, RightNumber, InTime, TooLate, FromBox, NotAwaited}
 use Rattle.tp_receiver.specs.Running.{Happened, RxTurn, calls_by, cells_in, now_of, put_in, seen_by, seen_in, state_of, told_by}
 use Rattle.tp_unit.specs.Unit.{BoxMeaning, Keeps, Offers, Meaning, SingleFrame, FirstFrame, ConsecutiveFrame, FlowControl, NoUnit}
-use Rattle.gw_law.specs.Source.{SourceLaw, is_overflow}
+use Rattle.gw_law.specs.Source.{Puts, SourceLaw, StoredLaw, Tells, is_overflow}
 use Rattle.gw_law.proofs.SoFars.{IsBusy, IsIdle, Same, begins, busy-later, busy-passed, closes, closes-wrong, due-is, goes-on, idle-later, idle-other, overflows}
+use Rattle.gw_law.proofs.Lists.{zip-weaker}
 use Rattle.gw_law.proofs.Stores.{Adds, adds-cells, store, store-keeps}
+use Rattle.gw_law.proofs.Tellings.{TellsPut}
 
 -- what holds so far, by the receiver's state
 abbrev pub HoldsBy : RxSet → (next seq : ℕ) → Option Busy → List Event → ℕ → List Seen → List SessionRecord → Type 0
@@ -310,18 +313,30 @@ holds set (turn ∷ earlier) happened =
     others set (state_of earlier).next (state_of earlier).seq (state_of earlier).busy turn.event turn.move (calls_by earlier) (seen_by earlier) (told_by earlier)
     (holds-later set (state_of earlier).next (state_of earlier).seq (state_of earlier).busy (calls_by earlier) (now_of earlier) turn.move.tick (seen_by earlier) (told_by earlier) happened.0 (holds set earlier happened.2)) happened.1
 
--- the law, where no reception is in progress
-law-idle : (set : RxSet) (next seq now : ℕ) (busy : Option Busy) (calls : List Event) (seen : List Seen) (records : List SessionRecord) → busy ≡ None → HoldsBy set next seq busy calls now seen records → SourceLaw set.chan.0 set.a set.functional (store set.path.0 calls) seen records
-law-idle set next seq now None calls seen records is so = record {
-  numbered = so.told.numbers;
-  sessions = so.told.sessions;
-  no_more = λ number above. so.fresh number (omega (arith, so.seq_is, above));
-  tells = so.told.tells;
-}
-law-idle set next seq now (Some busy) calls seen records is so = cc
+-- the laws, where no reception is in progress
+idle-so : (set : RxSet) (next seq now : ℕ) (busy : Option Busy) (calls : List Event) (seen : List Seen) (records : List SessionRecord) → busy ≡ None → HoldsBy set next seq busy calls now seen records → IsIdle set next seq calls now seen records
+idle-so set next seq now None calls seen records is so = so
+idle-so set next seq now (Some busy) calls seen records is so = cc
 
-pub source_law_of : (set : RxSet) (turns : List RxTurn) → Happened set turns → (state_of turns).busy ≡ None → SourceLaw set.chan.0 set.a set.functional (λ seq. cell_bytes_of (put_in set turns seq)) (seen_by turns) (told_by turns)
-source_law_of set turns happened idle_is = law-idle set (state_of turns).next (state_of turns).seq (now_of turns) (state_of turns).busy (calls_by turns) (seen_by turns) (told_by turns) idle_is (holds set turns happened)
+pub idle-of : (set : RxSet) (turns : List RxTurn) → Happened set turns → (state_of turns).busy ≡ None → IsIdle set (state_of turns).next (state_of turns).seq (calls_by turns) (now_of turns) (seen_by turns) (told_by turns)
+idle-of set turns happened idle_is = idle-so set (state_of turns).next (state_of turns).seq (now_of turns) (state_of turns).busy (calls_by turns) (seen_by turns) (told_by turns) idle_is (holds set turns happened)
+
+pub source_law_of : (set : RxSet) (turns : List RxTurn) → Happened set turns → (state_of turns).busy ≡ None → SourceLaw set.chan.0 set.a set.functional (seen_by turns) (told_by turns)
+source_law_of set turns happened idle_is =
+    let so = idle-of set turns happened idle_is in
+    record {
+      numbered = so.told.numbers;
+      sessions = so.told.sessions;
+      tells = zip-weaker (TellsPut set.chan.0 set.a (store set.path.0 (calls_by turns))) (Tells set.chan.0 set.a) (attempts_in set.functional (seen_by turns)) (told_by turns) (λ attempt told both. both.0) so.told.tells;
+    }
+
+pub stored_law_of : (set : RxSet) (turns : List RxTurn) → Happened set turns → (state_of turns).busy ≡ None → StoredLaw set.a set.functional (λ seq. cell_bytes_of (put_in set turns seq)) (seen_by turns) (told_by turns)
+stored_law_of set turns happened idle_is =
+    let so = idle-of set turns happened idle_is in
+    record {
+      puts = zip-weaker (TellsPut set.chan.0 set.a (store set.path.0 (calls_by turns))) (Puts set.a (store set.path.0 (calls_by turns))) (attempts_in set.functional (seen_by turns)) (told_by turns) (λ attempt told both. both.1) so.told.tells;
+      no_more = λ number above. so.fresh number (omega (arith, so.seq_is, above));
+    }
 
 -- after the run's end no reception is in progress
 idle-by : (set : RxSet) (next seq : ℕ) (busy : Option Busy) (m : RxMove) → RxStep set (record { next = next; seq = seq; busy = busy }) RunEnds m → m.new.busy ≡ None

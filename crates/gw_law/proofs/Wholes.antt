@@ -1,8 +1,7 @@
 -- What holds of a run's works, and of each front of them: the hub's view is what the calls of both parties made.
 use Rattle.std.proofs.Common.{◌≡◌, ℕ, ◌^◌, ◌-◌, List, [], ◌∷◌, ◌++◌, length, refl, ap, sym, ◌∙◌, subst, arith}
-use Rattle.gw_base.specs.Cell.{bytes_of}
 use Rattle.hub_core.specs.View.{View, Event, empty_view, grows}
-use Rattle.tp_receiver.specs.Running.{RxTurn, Happened as Received, calls_by as received_calls, put_in}
+use Rattle.tp_receiver.specs.Running.{RxTurn, Happened as Received, calls_by as received_calls}
 use Rattle.tp_receiver.specs.declared.set.RxSet.{RxSet}
 use Rattle.tp_sender.specs.Sending.{Moment, Happened as WasSent, calls_by as sent_calls}
 use Rattle.tp_sender.specs.declared.set.TxSet.{TxSet}
@@ -187,5 +186,5 @@ route-each rx tx shape source_budget budget sizes last count free ticks end run 
     each_session_of rx (turns_of (end ∷ ticks)) tx (moments_of (end ∷ ticks)) (view_of (end ∷ ticks)) (whole-runs rx tx sizes last count free ticks end run) run.ends.joined
 
 pub route-source : (rx : RxSet) (tx : TxSet) (shape : Shape) (source_budget budget : ℕ) (sizes : List ℕ) (last count free : ℕ) (ticks : List Work) (end : Work) → IsRun rx tx sizes last count free ticks end →
-    (stored : ℕ → List ℕ) × SourceLaw rx.chan.0 rx.a rx.functional stored (route_of rx tx shape source_budget budget sizes last count free ticks end).seen (route_of rx tx shape source_budget budget sizes last count free ticks end).sessions
-route-source rx tx shape source_budget budget sizes last count free ticks end run = (λ seq. bytes_of (put_in rx (turns_of (end ∷ ticks)) seq), source_law_of rx (turns_of (end ∷ ticks)) run.received run.ends.idle.receiver)
+    SourceLaw rx.chan.0 rx.a rx.functional (route_of rx tx shape source_budget budget sizes last count free ticks end).seen (route_of rx tx shape source_budget budget sizes last count free ticks end).sessions
+route-source rx tx shape source_budget budget sizes last count free ticks end run = source_law_of rx (turns_of (end ∷ ticks)) run.received run.ends.idle.receiver

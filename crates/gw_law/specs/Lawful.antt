@@ -1,5 +1,4 @@
 -- The laws of a run over one path with one destination: what its logs, its outputs and its report say together.
-use Rattle.std.specs.Prelude.{ℕ, List}
 use Rattle.gw_law.specs.Delivery.{AreOfEach, DeliveryLaw}
 use Rattle.gw_law.specs.Emission.{BusLaw}
 use Rattle.gw_law.specs.FlowControls.{FlowControlLaw}
@@ -13,9 +12,8 @@ use Rattle.gw_law.specs.TransmissionCauses.{TransmissionCauses}
 
 -- what is told of a run keeps all laws
 pub record Lawful (r : Route) : Type 0 where
-  -- the records of the source channel are those of its attempts; `stored` are the bytes that were put into each session
-  pub stored : ℕ → List ℕ
-  pub source : SourceLaw r.rx.chan.0 r.rx.a r.rx.functional stored r.seen r.sessions
+  -- the records of the source channel are those of its attempts
+  pub source : SourceLaw r.rx.chan.0 r.rx.a r.rx.functional r.seen r.sessions
   -- the destination's transmissions reassemble, in source order, to the first bytes, as many as its records tell, of the source
   -- units that the records name
   pub delivery : DeliveryLaw (delivery_of_route r)

@@ -2,9 +2,8 @@
 -- destination's sender, and what the hub said after each bus's work. The newest of everything stands first.
 use Rattle.std.specs.Prelude.{◌≡◌, ◌⊎◌, ℕ, ◌+◌, ◌≤◌, ◌==◌, filter, None, Some, Option, List, [], ◌∷◌, ◌++◌, length, map}
 use Rattle.std.specs.List.{AllByRecursion}
-use Rattle.hub_core.specs.Floors.{Floors, AreFresh}
 use Rattle.hub_core.specs.Joint.{Joint, number_of}
-use Rattle.hub_core.specs.View.{View, empty_view, grows}
+use Rattle.hub_core.specs.View.{View, Event, Asked, Session, empty_view, grows, session_at}
 use Rattle.hub_core.specs.declared.record.DestRecord.{DestRecord}
 use Rattle.hub_core.specs.declared.record.Move.{Move}
 use Rattle.hub_core.specs.declared.record.SessionRecord.{SessionRecord}
@@ -131,10 +130,14 @@ pub record SendsIn (tick : ℕ) (earlier moments : List Moment) : Type 0 where
   pub turn_tick : turn.did.tick ≡ tick
   pub left_is : FrameLeaves tick (box_after (Stepped turn ∷ (answers ++ earlier))) left
 
--- each turn's looks were fresh by some floors, at the view in which it began
+-- each look at the room, among some calls from this view on, counts all of the session's buffer but the cells that were put
+abbrev pub LooksCount : View → List Event → Type 0
+LooksCount v calls = (before after : List Event) (path seq cells readers : ℕ) (s : Session) → calls ≡ before ++ Asked path seq cells readers ∷ after → session_at (grows before v) path seq ≡ Some s → s.size ≤ cells + length s.cells
+
+-- so do the looks of each turn, from the view in which it began
 abbrev pub AreLooks : View → List RxTurn → Type 0
 AreLooks start [] = Unit {0}
-AreLooks start (turn ∷ earlier) = ((floors : Floors) × AreFresh floors (grows (received_calls earlier) start) turn.move.calls) × AreLooks start earlier
+AreLooks start (turn ∷ earlier) = LooksCount (grows (received_calls earlier) start) turn.move.calls × AreLooks start earlier
 
 -- the hub's word and view are joint
 abbrev pub IsJoint : List ℕ → View → Type 0

@@ -45,7 +45,7 @@ pub record IsKnown (r : Route) : Type 0 where
   pub rise : Rise 0 r.controls end
 
 -- a record and its start
-begins-at : (r : Route) (place : ℕ) (start : Seen) (told : SessionRecord) → IsKnown r → slice_get (starts_in r.rx r.seen) place ≡ Some start → slice_get r.sessions place ≡ Some told → (told.begin.0 ≡ start.at) × (told.begin.0 ≤ told.end.0)
+pub begins-at : (r : Route) (place : ℕ) (start : Seen) (told : SessionRecord) → IsKnown r → slice_get (starts_in r.rx r.seen) place ≡ Some start → slice_get r.sessions place ≡ Some told → (told.begin.0 ≡ start.at) × (told.begin.0 ≤ told.end.0)
 begins-at r place start told known there is =
     let attempt = attempt-of r.rx r.seen place start there in
     let tells : Tells r.rx.chan.0 r.rx.a attempt.0 told = zip-pair (Tells r.rx.chan.0 r.rx.a) (attempts_in r.rx.functional r.seen) r.sessions place attempt.0 told known.tells attempt.1 is in
@@ -54,7 +54,7 @@ begins-at r place start told known there is =
 record-at : (r : Route) (place : ℕ) (start : Seen) → IsKnown r → slice_get (starts_in r.rx r.seen) place ≡ Some start → (told : SessionRecord) × (slice_get r.sessions place ≡ Some told)
 record-at r place start known there = there-at r.sessions place (omega (arith, known.all_told, slice_get_within (starts_in r.rx r.seen) place start there))
 
-start-at : (r : Route) (place : ℕ) (told : SessionRecord) → IsKnown r → slice_get r.sessions place ≡ Some told → (start : Seen) × (slice_get (starts_in r.rx r.seen) place ≡ Some start)
+pub start-at : (r : Route) (place : ℕ) (told : SessionRecord) → IsKnown r → slice_get r.sessions place ≡ Some told → (start : Seen) × (slice_get (starts_in r.rx r.seen) place ≡ Some start)
 start-at r place told known is = there-at (starts_in r.rx r.seen) place (omega (arith, known.all_told, slice_get_within r.sessions place told is))
 
 -- one that lets frames come

@@ -5,6 +5,7 @@ use Rattle.gw_law.specs.FlowControls.{FlowControlLaw}
 use Rattle.gw_law.specs.JointCauses.{JointCauses}
 use Rattle.gw_law.specs.PoolOfRoute.{PoolOf}
 use Rattle.gw_law.specs.ReceptionCauses.{AreCaused, AreNeverBoxed}
+use Rattle.gw_law.specs.Records.{RecordsLaw}
 use Rattle.gw_law.specs.Run.{Route}
 use Rattle.gw_law.specs.Source.{SourceLaw}
 use Rattle.gw_law.specs.Timely.{TimelyLaw, delivery_of_route}
@@ -12,6 +13,8 @@ use Rattle.gw_law.specs.TransmissionCauses.{TransmissionCauses}
 
 -- what is told of a run keeps all laws
 pub record Lawful (r : Route) : Type 0 where
+  -- whose the records are, and that they lie within the run, one after another
+  pub records : RecordsLaw r
   -- the records of the source channel are those of its attempts
   pub source : SourceLaw r.rx.chan.0 r.rx.a r.rx.functional r.seen r.sessions
   -- the destination's transmissions reassemble, in source order, to the first bytes, as many as its records tell, of the source

@@ -1,10 +1,11 @@
 -- From step to step within a tick's work.
 use Rattle.std.proofs.Common.{◌≡◌, ℕ, Option, Some, None, List, [], ◌∷◌, ◌++◌, length, refl, sym, subst, ap, ◌∙◌, append-nil, append_assoc, arith}
 use Rattle.can_frame.specs.Frame.{CanFrame}
-use Rattle.hub_core.specs.Floors.{AreFresh, Floors, floors_of}
+use Rattle.hub_core.specs.Floors.{floors_of}
 use Rattle.hub_core.specs.View.{View, grows}
 use Rattle.hub_core.proofs.Whole.{is-joint}
-use Rattle.gw_law.specs.Run.{AreLooks, ControlLeaves, IsJoint, control_after, moments_of, turns_of, view_of}
+use Rattle.gw_law.proofs.RxLooks.{fresh-counts}
+use Rattle.gw_law.specs.Run.{AreLooks, ControlLeaves, IsJoint, LooksCount, control_after, moments_of, turns_of, view_of}
 use Rattle.tp_attempts.specs.Seen.{Seen, seen_frame}
 use Rattle.tp_receiver.specs.Receiving.{RxInput, Came, TimerTurn, FlowControlLeft}
 use Rattle.tp_receiver.specs.Running.{RxTurn, calls_by as received_calls, seen_by}
@@ -33,11 +34,11 @@ told-with g h event tick lies controls other is told = record { move = told.move
 abbrev pub told-same : (g h : Gateway) (event : RxInput) (tick : ℕ) (lies : Option Meaning) → TellsReceiver g h event tick lies g.controls → TellsReceiver g h event tick lies (g.controls ++ [])
 told-same g h event tick lies told = told-with g h event tick lies g.controls (g.controls ++ []) (sym (append-nil g.controls)) told
 
--- the step's looks are fresh at the view in which it began
-fresh-at : (g h : Gateway) (t tick : ℕ) (turns : List RxTurn) (moments : List Moment) (view : View) (event : RxInput) (lies : Option Meaning) (controls : List Written) → Stands g t turns moments view →
-    (told : TellsReceiver g h event tick lies controls) → (floors : Floors) × AreFresh floors view told.move.calls
-fresh-at g h t tick turns moments view event lies controls s told =
-    let P : View → Type 0 = λ v. AreFresh (floors_of (view_in g.hub)) v told.move.calls in (floors_of (view_in g.hub), subst P s.pool.view_is told.stepped.fresh)
+-- the step's looks at the room count all but what was put
+counts-at : (g h : Gateway) (t tick : ℕ) (turns : List RxTurn) (moments : List Moment) (view : View) (event : RxInput) (lies : Option Meaning) (controls : List Written) → Stands g t turns moments view →
+    (told : TellsReceiver g h event tick lies controls) → LooksCount view told.move.calls
+counts-at g h t tick turns moments view event lies controls s told =
+    let P : View → Type 0 = λ v. LooksCount v told.move.calls in subst P s.pool.view_is (fresh-counts (floors_of (view_in g.hub)) (view_in g.hub) told.move.calls told.stepped.fresh)
 
 -- a frame of the source channel came
 pub received : (g h : Gateway) (seen : List Seen) (answers : List Answer) (tick : ℕ) (frame : CanFrame) → InSource g seen answers tick →
@@ -56,7 +57,7 @@ received g h seen answers tick frame at told =
       later = at.later;
       next = at.next;
       came = (told.stepped.tick_is, at.came);
-      looks = (fresh-at g h tick tick _ _ view event (lying g.control) g.controls at.stands told, at.looks);
+      looks = (counts-at g h tick tick _ _ view event (lying g.control) g.controls at.stands told, at.looks);
       stands = subst V (sym (grows-append (received_calls at.turns) told.move.calls (view_of at.earlier))) stands;
       clear = at.clear;
       seen_is = ap (λ (k : ℕ). seen_by (at.turns ++ turns_of at.earlier) ++ (record { at = k; size = length frame.bytes; meaning = unit_of 0 frame } ∷ [])) told.stepped.tick_is
@@ -85,7 +86,7 @@ control-left g h tick turns moments view (Some meaning) is s told =
       left = turn ∷ [];
       left_is = subst P (sym is ∙ s.receives.lies_is) (refl, told.stepped.tick_is, refl);
       none_seen = append-nil (seen_by turns);
-      looks = (fresh-at g h tick tick turns moments view FlowControlLeft None _ s told, tt);
+      looks = (counts-at g h tick tick turns moments view FlowControlLeft None _ s told, tt);
       stands = turn-stands g h tick tick turns moments view FlowControlLeft s (omega arith) (told-with g h FlowControlLeft tick None _ _ same told);
     }
 
@@ -95,7 +96,7 @@ grows-join left rest view = ap (λ c. grows c view) (received-calls left rest) �
 looks-join : (left rest : List RxTurn) (view : View) → AreLooks (grows (received_calls rest) view) left → AreLooks view rest → AreLooks view (left ++ rest)
 looks-join [] rest view one other = other
 looks-join (turn ∷ left) rest view one other =
-    let P : View → Type 0 = λ v. (floors : Floors) × AreFresh floors v turn.move.calls in (subst P (sym (grows-join left rest view)) one.0, looks-join left rest view one.1 other)
+    let P : View → Type 0 = λ v. LooksCount v turn.move.calls in (subst P (sym (grows-join left rest view)) one.0, looks-join left rest view one.1 other)
 
 -- the receiver's timer
 pub timer-stands : (g k : Gateway) (seen : List Seen) (answers : List Answer) (tick : ℕ) → (at : InSource g seen answers tick) → (told : TellsReceiver g k TimerTurn tick (lying g.control) g.controls) →
@@ -128,7 +129,7 @@ source-ends g k h seen answers tick at told leaves =
       later = at.later;
       next = at.next;
       receives = record { came = at.turns; timer = timer; left = out.left; turns_are = refl; came_only = at.came; timer_is = refl; timer_tick = told.stepped.tick_is; left_is = out.left_is };
-      looks = looks-join out.left (timer ∷ at.turns) (view_of at.earlier) looks_left (fresh-at g k tick tick _ _ view TimerTurn (lying g.control) g.controls at.stands told, at.looks);
+      looks = looks-join out.left (timer ∷ at.turns) (view_of at.earlier) looks_left (counts-at g k tick tick _ _ view TimerTurn (lying g.control) g.controls at.stands told, at.looks);
       between = stands-joint h tick _ _ _ now;
       only = tt;
       stands = now;

@@ -81,12 +81,11 @@ opening-lets r w known frame is =
     }
 
 -- one that tells of no room
-refusal-tells : (r : Route) (w : Written) → 1 ≤ r.rx.n_ar → IsKnown r → IsRefusal (starts_in r.rx r.seen) r.sessions w.tick → TellsNoRoom r w
+refusal-tells : (r : Route) (w : Written) → 1 ≤ r.rx.n_ar → IsKnown r → (is : IsRefusal (starts_in r.rx r.seen) r.sessions w.tick) → TellsNoRoom r is.place w
 refusal-tells r w some known is =
     let attempt = attempt-of r.rx r.seen is.place is.start is.start_is in
     let at : (is.told.begin.0 ≡ is.start.at) × (is.told.begin.0 ≤ is.told.end.0) = begins-at r is.place is.start is.told known is.start_is is.told_is in
     record {
-      place = is.place;
       told = is.told;
       overflow = record { attempt = attempt.0; attempt_is = attempt.1; told_is = is.told_is; first = rw attempt.2 is.first; result = is.refused };
       from = omega (arith, at.0, is.at);
@@ -101,10 +100,33 @@ lets-by : (r : Route) (w : Written) → IsKnown r → Answers r.rx r.shape (star
 lets-by r w known (Lets frame is) status = opening-lets r w known frame is
 lets-by r w known (NoRoom frame is) status = absurd (no-room-other r w frame (inl status))
 
-tells-by : (r : Route) (w : Written) → 1 ≤ r.rx.n_ar → IsKnown r → Answers r.rx r.shape (starts_in r.rx r.seen) r.sessions w → HasStatus r 2 w → TellsNoRoom r w
-tells-by r w some known (Lets frame is) status =
+-- the place that the record of what it answers has
+abbrev place_in : (r : Route) (w : Written) → Answers r.rx r.shape (starts_in r.rx r.seen) r.sessions w → ℕ
+place_in r w (Lets frame is) = is.place
+place_in r w (NoRoom frame is) = is.place
+
+abbrev place_at : (r : Route) (controls : List Written) → AllByRecursion (Answers r.rx r.shape (starts_in r.rx r.seen) r.sessions) controls → ℕ → ℕ
+place_at r [] all k = 0
+place_at r (w ∷ controls) all zero = place_in r w all.0
+place_at r (w ∷ controls) all (suc k) = place_at r controls all.1 k
+
+-- a flow control that tells of no room answers an overflow in that place
+abbrev Refuses : Route → (place : ℕ) → Written → Type 0
+Refuses r place w = (is : IsRefusal (starts_in r.rx r.seen) r.sessions w.tick) × (is.place ≡ place)
+
+refuses-by : (r : Route) (w : Written) (answers : Answers r.rx r.shape (starts_in r.rx r.seen) r.sessions w) → HasStatus r 2 w → Refuses r (place_in r w answers) w
+refuses-by r w (Lets frame is) status =
     let says : said_in r w ≡ FlowControl 0 0 r.rx.st = said r.shape w 0 0 r.rx.st (omega arith) frame in let clash : FlowControl 0 0 r.rx.st ≡ FlowControl 2 status.block_size status.separation = sym says ∙ status.says in absurd cc
-tells-by r w some known (NoRoom frame is) status = refusal-tells r w some known is
+refuses-by r w (NoRoom frame is) status = (is, refl)
+
+refuses-at : (r : Route) (controls : List Written) (all : AllByRecursion (Answers r.rx r.shape (starts_in r.rx r.seen) r.sessions) controls) (k : ℕ) (w : Written) → slice_get controls k ≡ Some w → HasStatus r 2 w → Refuses r (place_at r controls all k) w
+refuses-at r [] all k w is status = cc
+refuses-at r (x ∷ controls) all zero w is status =
+    let same : x ≡ w = cc in
+    let P : Written → Type 0 = λ v. HasStatus r 2 v in
+    let Q : Written → Type 0 = λ v. Refuses r (place_in r x all.0) v in
+    subst Q same (refuses-by r x all.0 (subst P (sym same) status))
+refuses-at r (x ∷ controls) all (suc k) w is status = refuses-at r controls all.1 k w is status
 
 -- the order of two places
 order : (k n : ℕ) → (k < n) ⊎ (k ≡ n) ⊎ (n < k)
@@ -141,6 +163,27 @@ rise-after from end (w ∷ written) rise = (rise.0, all-weaker (λ (v : Written)
 rise-split : (from end : ℕ) (before after : List Written) (w : Written) → Rise from (before ++ w ∷ after) end → AllByRecursion (λ (v : Written). w.tick < v.tick) after
 rise-split from end [] after w rise = all-weaker (λ (v : Written). w.tick + 1 ≤ v.tick) (λ (v : Written). w.tick < v.tick) after (λ v above. omega (arith, above)) (rise-after (w.tick + 1) end after rise.1)
 rise-split from end (v ∷ before) after w rise = rise-split (v.tick + 1) end before after w rise.1
+
+rise-at : (from end : ℕ) (written : List Written) (k later : ℕ) (w next : Written) → Rise from written end → k < later → slice_get written k ≡ Some w → slice_get written later ≡ Some next → w.tick < next.tick
+rise-at from end [] k later w next rise above is after = cc
+rise-at from end (x ∷ written) zero zero w next rise above is after = absurd (omega (arith, above))
+rise-at from end (x ∷ written) zero (suc later) w next rise above is after =
+    let same : x ≡ w = cc in
+    omega (arith, ap (λ (v : Written). v.tick) same, all-at (λ (v : Written). x.tick + 1 ≤ v.tick) written later next (rise-after (x.tick + 1) end written rise.1) after)
+rise-at from end (x ∷ written) (suc k) zero w next rise above is after = absurd (omega (arith, above))
+rise-at from end (x ∷ written) (suc k) (suc later) w next rise above is after = rise-at (x.tick + 1) end written k later w next rise.1 (omega (arith, above)) is after
+
+-- overflows that are answered in later ticks are told later
+refused-later : (r : Route) (w next : Written) → IsKnown r → w.tick < next.tick → (one : IsRefusal (starts_in r.rx r.seen) r.sessions w.tick) (two : IsRefusal (starts_in r.rx r.seen) r.sessions next.tick) → one.place < two.place
+refused-later r w next known above one two = elim (order one.place two.place) [
+  | inl before ↦ before
+  | inr more ↦ elim more [
+    | inl same ↦ let alike : one.start ≡ two.start = same-some (subst (λ k. slice_get (starts_in r.rx r.seen) k ≡ Some one.start) same one.start_is) two.start_is in absurd (omega (arith, above, one.at, two.at, ap (λ (s : Seen). s.at) alike))
+    | inr after ↦
+        let begin : (two.told.begin.0 ≡ two.start.at) × (two.told.begin.0 ≤ two.told.end.0) = begins-at r two.place two.start two.told known two.start_is two.told_is in
+        absurd (omega (arith, above, one.at, two.at, begin.0, begin.1, known.facts.order two.place one.place two.told one.start after two.told_is one.start_is))
+  ]
+]
 
 none-after : (r : Route) (place : ℕ) (told : SessionRecord) (before after : List Written) (w : Written) → IsKnown r → slice_get r.sessions place ≡ Some told → r.controls ≡ before ++ w ∷ after → IsOfSession r place told w →
     AllByRecursion (λ (next : Written). IsOfSession r place told next → ⊥) after
@@ -203,7 +246,16 @@ owes-no-room r place tick told known is from none gone =
 pub law-known : (r : Route) → 1 ≤ r.rx.n_ar → IsKnown r → FlowControlLaw r
 law-known r some known = record {
   lets_come = all-weaker (Answers r.rx r.shape (starts_in r.rx r.seen) r.sessions) (λ (w : Written). HasStatus r 0 w → LetsCome r w) r.controls (λ w answers status. lets-by r w known answers status) known.facts.answers;
-  no_room = all-weaker (Answers r.rx r.shape (starts_in r.rx r.seen) r.sessions) (λ (w : Written). HasStatus r 2 w → TellsNoRoom r w) r.controls (λ w answers status. tells-by r w some known answers status) known.facts.answers;
+  no_room = record {
+    place_of = place_at r r.controls known.facts.answers;
+    tells = λ k w is status.
+        let refuses = refuses-at r r.controls known.facts.answers k w is status in
+        subst (λ place. TellsNoRoom r place w) refuses.1 (refusal-tells r w some known refuses.0);
+    rising = λ k later w next above is after status other.
+        let one = refuses-at r r.controls known.facts.answers k w is status in
+        let two = refuses-at r r.controls known.facts.answers later next after other in
+        omega (arith, one.1, two.1, refused-later r w next known (rise-at 0 known.end r.controls k later w next known.rise above is after) one.0 two.0);
+  };
   last = λ place separation told before after w told_is are of says. none-after r place told before after w known told_is are of;
   owes = λ place tick told is from below none. absurd (owes r place tick told known is from below none);
   owes_no_room = λ place tick told is from below by none gone. absurd (owes-no-room r place tick told known is from none gone);

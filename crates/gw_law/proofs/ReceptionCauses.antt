@@ -65,7 +65,7 @@ cause-by r over attempt told Restarted tells is comes room_is so =
     record { next = there.next; is = there.is; begins = there.begins }
 cause-by r over attempt told (NoRoom room need) tells is comes room_is so = absurd room_is
 cause-by r over attempt told WaitOver tells is comes room_is so = absurd comes
-cause-by r over attempt told NoReaders tells is comes room_is so = tt
+cause-by r over attempt told NoReaders tells is comes room_is so = so.unread is
 cause-by r over attempt told Cancelled tells is comes room_is so = absurd comes
 cause-by r over attempt told (RunEnd wait since) tells is comes room_is so = absurd comes
 

@@ -30,7 +30,7 @@ use Rattle.tp_unit.specs.Shape.{IsShape, address_size}
 use Rattle.tp_unit.specs.Unit.{BoxMeaning, Keeps, Meaning, SingleFrame, FirstFrame, ConsecutiveFrame, FlowControl, NoUnit}
 use Rattle.tp_unit.specs.Writing.{frame_of}
 use Rattle.tp_unit.proofs.RoundTrip.{reads_back}
-use Rattle.gw_law.specs.ReceptionCauses.{IsSilent, LetGoIn}
+use Rattle.gw_law.specs.ReceptionCauses.{IsFoundBy, IsSilent, LetGoIn}
 use Rattle.gw_law.specs.Run.{control_after, control_at, control_once, controls_by}
 use Rattle.gw_law.proofs.RxSettled.{AreSettled, CameLate, Comes, IsLast, IsSettled, all-by, all-later, all-other, left-more, silent-front, starts-same, starts_of}
 use Rattle.gw_law.proofs.RxTicks.{AreOrdered, Follows, IsReady, over_by, over_of}
@@ -161,33 +161,34 @@ going-timed set address lies controls now over tick busy attempt ready later som
 -- a reception ends
 settles : (set : RxSet) (address : ℕ) (lies : Option Meaning) (controls : List Written) (now over later tick : ℕ) (starts : List ℕ) (busy : Busy) (how : SessionResult) (attempt : Cut Seen) → IsGoing set address lies controls now over busy attempt → tick ≤ over → Comes how →
     (how ≡ Whole → IsLast tick (walk_of set.a attempt).pieces × ((walk_of set.a attempt).len ≤ length (joined (walk_of set.a attempt).pieces))) → (how ≡ RxTimeout CfLimit → CameLate set address controls later attempt (ended set busy how tick)) →
-    (how ≡ Restarted → slice_get starts (busy.n + 1) ≡ Some tick) → IsSettled set address controls later starts attempt (ended set busy how tick)
-settles set address lies controls now over later tick starts busy how attempt so by comes whole late restarted = record {
+    (how ≡ Restarted → slice_get starts (busy.n + 1) ≡ Some tick) → (how ≡ NoReaders → ⊥) → IsSettled set address controls later starts attempt (ended set busy how tick)
+settles set address lies controls now over later tick starts busy how attempt so by comes whole late restarted read = record {
   comes = comes;
   whole = whole;
   late = late;
   restarted = restarted;
+  unread = λ is. absurd (read is);
   none_passed = λ at from below silent. so.none_passed at from (omega (arith, below, by)) silent;
 }
 
 -- all receptions are over, once this one is
 on-ends : (set : RxSet) (address : ℕ) (lies : Option Meaning) (controls : List Written) (now over later tick : ℕ) (others : List ℕ) (busy : Busy) (how : SessionResult) (seen : List Seen) (records : List SessionRecord) (so : IsOn set address lies controls now over busy seen records) →
     tick ≤ over → over ≤ later → Comes how → (how ≡ Whole → IsLast tick (walk_of set.a so.attempt).pieces × ((walk_of set.a so.attempt).len ≤ length (joined (walk_of set.a so.attempt).pieces))) →
-    (how ≡ RxTimeout CfLimit → CameLate set address controls later so.attempt (ended set busy how tick)) → (how ≡ Restarted → slice_get (starts_of (attempts_in set.functional seen) ++ others) (busy.n + 1) ≡ Some tick) →
+    (how ≡ RxTimeout CfLimit → CameLate set address controls later so.attempt (ended set busy how tick)) → (how ≡ Restarted → slice_get (starts_of (attempts_in set.functional seen) ++ others) (busy.n + 1) ≡ Some tick) → (how ≡ NoReaders → ⊥) →
     AreSettled set address controls later (starts_of (attempts_in set.functional seen) ++ others) (attempts_in set.functional seen) (records ++ ended set busy how tick ∷ [])
-on-ends set address lies controls now over later tick others busy how seen records so by to comes whole late restarted =
+on-ends set address lies controls now over later tick others busy how seen records so by to comes whole late restarted read =
     let starts : List ℕ = starts_of (attempts_in set.functional seen) ++ others in
     let P : List (Cut Seen) → Type 0 = λ attempts. AreSettled set address controls later starts attempts (records ++ ended set busy how tick ∷ []) in
     let told : AreSettled set address controls later starts so.earlier records = simp append-nil at (all-later set address controls [] over later (starts_of (attempts_in set.functional seen)) others so.earlier records to so.told) in
     subst P (sym so.cut) (zip-push (IsSettled set address controls later starts) so.earlier records so.attempt (ended set busy how tick) told
-    (settles set address lies controls now over later tick starts busy how so.attempt so.going by comes whole late restarted))
+    (settles set address lies controls now over later tick starts busy how so.attempt so.going by comes whole late restarted read))
 
 on-over : (set : RxSet) (address : ℕ) (lies : Option Meaning) (controls : List Written) (now over later tick : ℕ) (busy : Busy) (how : SessionResult) (seen : List Seen) (records : List SessionRecord) (so : IsOn set address lies controls now over busy seen records) →
     tick ≤ over → over ≤ later → Comes how → (how ≡ Whole → IsLast tick (walk_of set.a so.attempt).pieces × ((walk_of set.a so.attempt).len ≤ length (joined (walk_of set.a so.attempt).pieces))) →
-    (how ≡ RxTimeout CfLimit → CameLate set address controls later so.attempt (ended set busy how tick)) → (how ≡ Restarted → ⊥) →
+    (how ≡ RxTimeout CfLimit → CameLate set address controls later so.attempt (ended set busy how tick)) → (how ≡ Restarted → ⊥) → (how ≡ NoReaders → ⊥) →
     AreSettled set address controls later (starts_of (attempts_in set.functional seen)) (attempts_in set.functional seen) (records ++ ended set busy how tick ∷ [])
-on-over set address lies controls now over later tick busy how seen records so by to comes whole late restarted =
-    simp append-nil at (on-ends set address lies controls now over later tick [] busy how seen records so by to comes whole late (λ is. absurd (restarted is)))
+on-over set address lies controls now over later tick busy how seen records so by to comes whole late restarted read =
+    simp append-nil at (on-ends set address lies controls now over later tick [] busy how seen records so by to comes whole late (λ is. absurd (restarted is)) read)
 
 -- a frame that is no start, where no reception is in progress
 idle-frame : (set : RxSet) (address : ℕ) (controls : List Written) (over later : ℕ) (seen : List Seen) (records : List SessionRecord) (frame : Seen) → is_start set.functional frame.meaning ≡ false → over ≤ frame.at → over ≤ later →
@@ -229,13 +230,36 @@ finish-idle set address m next seq lies controls over seen records more new told
 
 -- a frame ends the reception, but is neither its last one nor another start
 frame-ends : (set : RxSet) (address next seq : ℕ) (lies later : Option Meaning) (controls : List Written) (now over size number : ℕ) (bytes : List ℕ) (busy : Busy) (how : SessionResult) (m : RxMove) (seen : List Seen) (records : List SessionRecord) →
-    IsOn set address lies controls now over busy seen records → m.tick ≡ over → Comes how → (how ≡ Whole → ⊥) → (how ≡ RxTimeout CfLimit → ⊥) → (how ≡ Restarted → ⊥) → m.records ≡ ended set busy how m.tick ∷ [] → m.new ≡ idle next seq →
+    IsOn set address lies controls now over busy seen records → m.tick ≡ over → Comes how → (how ≡ Whole → ⊥) → (how ≡ RxTimeout CfLimit → ⊥) → (how ≡ Restarted → ⊥) → (how ≡ NoReaders → ⊥) → m.records ≡ ended set busy how m.tick ∷ [] → m.new ≡ idle next seq →
     SoBy set address m.new.busy later controls m.tick m.tick (seen ++ record { at = m.tick; size = size; meaning = ConsecutiveFrame number bytes } ∷ []) (records ++ m.records)
-frame-ends set address next seq lies later controls now over size number bytes busy how m seen records so at comes whole late restarted told new =
+frame-ends set address next seq lies later controls now over size number bytes busy how m seen records so at comes whole late restarted read told new =
     let frame : Seen = record { at = m.tick; size = size; meaning = ConsecutiveFrame number bytes } in
     finish-idle set address m next seq later controls m.tick (seen ++ frame ∷ []) records (ended set busy how m.tick ∷ []) new told
     (idle-frame set address controls m.tick m.tick seen (records ++ ended set busy how m.tick ∷ []) frame refl (omega arith) (omega arith)
-    (on-over set address lies controls now over m.tick m.tick busy how seen records so (omega (arith, at)) (omega (arith, at)) comes (λ is. absurd (whole is)) (λ is. absurd (late is)) restarted))
+    (on-over set address lies controls now over m.tick m.tick busy how seen records so (omega (arith, at)) (omega (arith, at)) comes (λ is. absurd (whole is)) (λ is. absurd (late is)) restarted read))
+
+-- a frame whose bytes are due finds that no destination reads
+unread-ends : (set : RxSet) (address next seq : ℕ) (lies later : Option Meaning) (controls : List Written) (now over size number : ℕ) (bytes : List ℕ) (busy : Busy) (m : RxMove) (seen : List Seen) (records : List SessionRecord) →
+    (so : IsOn set address lies controls now over busy seen records) → m.tick ≡ over → IsFoundBy set.a (with_frame so.attempt (record { at = m.tick; size = size; meaning = ConsecutiveFrame number bytes })) busy.bytes m.tick →
+    m.records ≡ ended set busy NoReaders m.tick ∷ [] → m.new ≡ idle next seq →
+    SoBy set address m.new.busy later controls m.tick m.tick (seen ++ record { at = m.tick; size = size; meaning = ConsecutiveFrame number bytes } ∷ []) (records ++ m.records)
+unread-ends set address next seq lies later controls now over size number bytes busy m seen records so at found made new =
+    let frame : Seen = record { at = m.tick; size = size; meaning = ConsecutiveFrame number bytes } in
+    let told : SessionRecord = ended set busy NoReaders m.tick in
+    let starts : List ℕ = starts_of (attempts_in set.functional (seen ++ frame ∷ [])) in
+    let T : List ℕ → Type 0 = λ starts. AreSettled set address controls m.tick starts so.earlier records in
+    let earlier : T starts = subst T (sym (starts-same set.functional seen frame refl)) (all-by set address controls over m.tick (starts_of (attempts_in set.functional seen)) so.earlier records (omega (arith, at)) so.told) in
+    let P : List (Cut Seen) → Type 0 = λ attempts. AreSettled set address controls m.tick starts attempts (records ++ told ∷ []) in
+    finish-idle set address m next seq later controls m.tick (seen ++ frame ∷ []) records (told ∷ []) new made
+    (subst P (sym (cuts-more (λ (s : Seen). is_start set.functional s.meaning) seen frame so.earlier so.attempt refl so.cut))
+    (zip-push (IsSettled set address controls m.tick starts) so.earlier records (with_frame so.attempt frame) told earlier (record {
+      comes = tt;
+      whole = λ is. cc;
+      late = λ is. cc;
+      restarted = λ is. cc;
+      unread = λ is. found;
+      none_passed = λ tick from below silent. so.going.none_passed tick from (omega (arith, below, at)) (silent-front set.a set.n_cr tick so.attempt frame silent);
+    })))
 
 -- the due bytes of a consecutive frame, whose number is right
 carries : (set : RxSet) (address next seq : ℕ) (busy : Busy) (size number : ℕ) (bytes : List ℕ) (m : RxMove) (calls : List Event) (before over : ℕ) (lies : Option Meaning) (controls : List Written) (seen : List Seen) (records : List SessionRecord) →
@@ -244,9 +268,19 @@ carries : (set : RxSet) (address next seq : ℕ) (busy : Busy) (size number : �
     SoBy set address m.new.busy (box_then m.act lies) controls m.tick m.tick (seen ++ record { at = m.tick; size = size; meaning = ConsecutiveFrame number bytes } ∷ []) (records ++ m.records)
 unfolding on-frame
 carries set address next seq busy size number bytes m calls before over lies controls seen records is_busy more ready later short enough right so (NoneReadsOn room readers none row) =
-    frame-ends set address next seq lies (box_then m.act lies) controls before over size number bytes busy NoReaders m seen records so (ready.next busy refl) tt (λ is. cc) (λ is. cc) (λ is. cc) row.row.records row.row.new
+    let counts = walk-counts set busy calls before m.tick size number bytes so.attempt (under set next seq busy calls before seen records is_busy so.earlier so.attempt so.cut) more short enough right in
+    unread-ends set address next seq lies (box_then m.act lies) controls before over size number bytes busy m seen records so (ready.next busy refl)
+    (record {
+      before = (walk_of set.a so.attempt).pieces;
+      piece = record { at = m.tick; bytes = take (busy_due set.a busy) bytes };
+      after = [];
+      among = ap (λ (w : Walk). w.pieces) counts;
+      at = refl;
+      told = inl (under set next seq busy calls before seen records is_busy so.earlier so.attempt so.cut).bytes;
+    })
+    row.row.records row.row.new
 carries set address next seq busy size number bytes m calls before over lies controls seen records is_busy more ready later short enough right so (TooLittleRoom room readers need some need_is little row) =
-    frame-ends set address next seq lies (box_then m.act lies) controls before over size number bytes busy (NoRoom room need) m seen records so (ready.next busy refl) little (λ is. cc) (λ is. cc) (λ is. cc) row.row.records row.row.new
+    frame-ends set address next seq lies (box_then m.act lies) controls before over size number bytes busy (NoRoom room need) m seen records so (ready.next busy refl) little (λ is. cc) (λ is. cc) (λ is. cc) (λ is. cc) row.row.records row.row.new
 carries set address next seq busy size number bytes m calls before over lies controls seen records is_busy more ready later short enough right so (Adds room readers cells some fits packed row) =
     let frame : Seen = record { at = m.tick; size = size; meaning = ConsecutiveFrame number bytes } in
     let due : List ℕ = take (busy_due set.a busy) bytes in
@@ -270,7 +304,7 @@ carries set address next seq busy size number bytes m calls before over lies con
     (λ is. (
       record { front = w.pieces; piece = record { at = m.tick; bytes = due }; are = ap (λ (v : Walk). v.pieces) counts; at_is = refl },
       subst P (sym counts) (rw (joined-more, length-append) (omega (arith, full, under_way.bytes, under_way.len, len-walk_of set.a so.attempt))),
-    )) (λ is. cc) (λ is. cc))
+    )) (λ is. cc) (λ is. cc) (λ is. cc))
 
 -- a consecutive frame, where a reception is in progress
 continues : (set : RxSet) (address next seq : ℕ) (busy : Busy) (size number : ℕ) (bytes : List ℕ) (m : RxMove) (calls : List Event) (before over : ℕ) (lies : Option Meaning) (controls : List Written) (seen : List Seen) (records : List SessionRecord) →
@@ -289,7 +323,7 @@ continues set address next seq busy size number bytes m calls before over lies c
     (rw append-nil (on-frame set address lies controls before over busy busy seen records frame refl ready.early so (going-passed set address lies controls before over busy so.attempt frame ready later
     (walk_of-more set.a so.attempt frame ∙ look-short set.a (walk_of set.a so.attempt) m.tick size number bytes (omega (arith, short, due-is set busy calls before so.attempt under_way))) so.going)))
 continues set address next seq busy size number bytes m calls before over lies controls seen records is_busy more ready later so (WrongNumber looked other row) =
-    frame-ends set address next seq lies (box_then m.act lies) controls before over size number bytes busy (WrongSn busy.number number) m seen records so (ready.next busy refl) tt (λ is. cc) (λ is. cc) (λ is. cc) row.records row.new
+    frame-ends set address next seq lies (box_then m.act lies) controls before over size number bytes busy (WrongSn busy.number number) m seen records so (ready.next busy refl) tt (λ is. cc) (λ is. cc) (λ is. cc) (λ is. cc) row.records row.new
 continues set address next seq busy size number bytes m calls before over lies controls seen records is_busy more ready later so (RightNumber looked right row) =
     carries set address next seq busy size number bytes m calls before over lies controls seen records is_busy more ready later looked.short looked.enough right so row
 
@@ -322,14 +356,14 @@ cleared set address next seq (Some busy) m calls tick before over lies controls 
     ∙ ap (λ n. n + 1) (sym (AllZip-long (IsSettled set address controls over starts) so.earlier records so.told) ∙ sym known.0.n_is) in
     let P : ℕ → Type 0 = λ place. slice_get (starts ++ tick ∷ []) place ≡ Some tick in
     let Q : List SessionRecord → Type 0 = λ r. AreSettled set address controls tick (starts ++ tick ∷ []) (attempts_in set.functional seen) (records ++ r) in
-    subst Q (sym told) (on-ends set address lies controls before over tick tick (tick ∷ []) busy Restarted seen records so (omega (arith, ready.next busy refl)) ready.early tt (λ is. cc) (λ is. cc) (λ is. subst P many (slice_get-pushed starts tick (length starts) refl)))
+    subst Q (sym told) (on-ends set address lies controls before over tick tick (tick ∷ []) busy Restarted seen records so (omega (arith, ready.next busy refl)) ready.early tt (λ is. cc) (λ is. cc) (λ is. subst P many (slice_get-pushed starts tick (length starts) refl)) (λ is. cc))
 
 -- a start has its record at once
 starts-told : (set : RxSet) (address : ℕ) (controls : List Written) (seen : List Seen) (records : List SessionRecord) (frame : Seen) (told : SessionRecord) → is_start set.functional frame.meaning ≡ true →
     AreSettled set address controls frame.at (starts_of (attempts_in set.functional seen) ++ frame.at ∷ []) (attempts_in set.functional seen) records → Comes told.result → told.begin.0 ≡ frame.at → told.end.0 ≡ frame.at →
-    (told.result ≡ Whole → length (joined (walk_of set.a (record { start = frame; after = [] })).pieces) ≡ (walk_of set.a (record { start = frame; after = [] })).len) → (told.result ≡ RxTimeout CfLimit → ⊥) → (told.result ≡ Restarted → ⊥) →
+    (told.result ≡ Whole → length (joined (walk_of set.a (record { start = frame; after = [] })).pieces) ≡ (walk_of set.a (record { start = frame; after = [] })).len) → (told.result ≡ RxTimeout CfLimit → ⊥) → (told.result ≡ Restarted → ⊥) → (told.result ≡ NoReaders → told.bytes ≡ length (joined (walk_of set.a (record { start = frame; after = [] })).pieces)) →
     AreSettled set address controls frame.at (starts_of (attempts_in set.functional (seen ++ frame ∷ []))) (attempts_in set.functional (seen ++ frame ∷ [])) (records ++ told ∷ [])
-starts-told set address controls seen records frame told start so comes begin end whole late restarted =
+starts-told set address controls seen records frame told start so comes begin end whole late restarted unread =
     let new : Cut Seen = record { start = frame; after = [] } in
     let starts : List ℕ = starts_of (attempts_in set.functional seen) ++ frame.at ∷ [] in
     let cut : attempts_in set.functional (seen ++ frame ∷ []) ≡ attempts_in set.functional seen ++ new ∷ [] = cuts-begin (λ (s : Seen). is_start set.functional s.meaning) seen frame start in
@@ -340,6 +374,7 @@ starts-told set address controls seen records frame told start so comes begin en
       whole = λ is. (record { front = []; piece = _; are = refl; at_is = sym end }, omega (arith, whole is));
       late = λ is. absurd (late is);
       restarted = λ is. absurd (restarted is);
+      unread = λ is. record { before = []; piece = _; after = []; among = refl; at = sym end; told = inr (unread is) };
       none_passed = λ tick from below silent. omega (arith, begin, end, from, below);
     })))
 
@@ -351,7 +386,7 @@ grants set address next seq len size bytes opened number m act lies controls see
     let frame : Seen = record { at = m.tick; size = size; meaning = FirstFrame len bytes } in
     let told : SessionRecord = ended set (begun number len size (length bytes) m.tick opened) NoReaders m.tick in
     finish-idle set address m next seq (box_then (later_act act m.act) lies) controls m.tick (seen ++ frame ∷ []) records (told ∷ []) row.row.new row.row.records
-    (starts-told set address controls seen records frame told (ap not segmented) so tt refl refl (λ is. cc) (λ is. cc) (λ is. cc))
+    (starts-told set address controls seen records frame told (ap not segmented) so tt refl refl (λ is. cc) (λ is. cc) (λ is. cc) (λ is. ap length (sym (append-nil bytes))))
 grants set address next seq len size bytes opened number m act lies controls seen records segmented so (All room readers some row) =
     let frame : Seen = record { at = m.tick; size = size; meaning = FirstFrame len bytes } in
     let new : Cut Seen = record { start = frame; after = [] } in
@@ -384,16 +419,16 @@ begins : (set : RxSet) (address next seq size : ℕ) (meaning : Meaning) (m : Rx
 begins set address next seq size (SingleFrame bytes) m act lies controls seen records start so (NoBuffer row) =
     let frame : Seen = record { at = m.tick; size = size; meaning = SingleFrame bytes } in
     let told : SessionRecord = refused set next (length bytes) m.tick row.number row.free row.need in
-    finish-idle set address m (next + 1) seq (box_then (later_act act m.act) lies) controls m.tick (seen ++ frame ∷ []) records (told ∷ []) row.new row.records (starts-told set address controls seen records frame told start so tt refl refl (λ is. cc) (λ is. cc) (λ is. cc))
+    finish-idle set address m (next + 1) seq (box_then (later_act act m.act) lies) controls m.tick (seen ++ frame ∷ []) records (told ∷ []) row.new row.records (starts-told set address controls seen records frame told start so tt refl refl (λ is. cc) (λ is. cc) (λ is. cc) (λ is. cc))
 begins set address next seq size (SingleFrame bytes) m act lies controls seen records start so (Completes opened opening opens row) =
     let frame : Seen = record { at = m.tick; size = size; meaning = SingleFrame bytes } in
     let told : SessionRecord = ended set (begun next (length bytes) size (length bytes) m.tick opened) Whole m.tick in
     finish-idle set address m (next + 1) (seq + 1) (box_then (later_act act m.act) lies) controls m.tick (seen ++ frame ∷ []) records (told ∷ []) row.row.new row.row.records
-    (starts-told set address controls seen records frame told start so tt refl refl (λ is. ap length (append-nil bytes)) (λ is. cc) (λ is. cc))
+    (starts-told set address controls seen records frame told start so tt refl refl (λ is. ap length (append-nil bytes)) (λ is. cc) (λ is. cc) (λ is. cc))
 begins set address next seq size (FirstFrame len bytes) m act lies controls seen records start so (NoBufferFirst more row) =
     let frame : Seen = record { at = m.tick; size = size; meaning = FirstFrame len bytes } in
     let told : SessionRecord = refused set next len m.tick row.number row.free row.need in
-    finish-idle set address m (next + 1) seq (box_then (later_act act m.act) lies) controls m.tick (seen ++ frame ∷ []) records (told ∷ []) row.new row.records (starts-told set address controls seen records frame told start so tt refl refl (λ is. cc) (λ is. cc) (λ is. cc))
+    finish-idle set address m (next + 1) seq (box_then (later_act act m.act) lies) controls m.tick (seen ++ frame ∷ []) records (told ∷ []) row.new row.records (starts-told set address controls seen records frame told start so tt refl refl (λ is. cc) (λ is. cc) (λ is. cc) (λ is. cc))
 begins set address next seq size (FirstFrame len bytes) m act lies controls seen records start so (Opened more opened opening opens row) =
     grants set address (next + 1) (seq + 1) len size bytes opened next (record m { calls = row.rest }) act lies controls seen records (not-true set.functional start) so row.row
   where
@@ -466,7 +501,7 @@ times set address next seq busy m before over lies controls seen records some re
       limit = omega (arith, so.going.by, late.1);
       silent = all-late set.n_cr busy.since m.tick late.1 (walk_of set.a so.attempt).pieces so.going.up_to;
       past = omega arith;
-    }) (λ is. cc))
+    }) (λ is. cc) (λ is. cc))
 
 -- a flow control that leaves is among those that left
 left-now : (shape : Shape) (controls : List Written) (tick separation : ℕ) → IsShape shape → LetGoIn (address_size shape) (controls ++ record { tick = tick; frame = frame_of shape (FlowControl 0 0 separation) } ∷ []) tick

@@ -1,13 +1,13 @@
 -- The law of a source channel's flow controls, by the records of its units.
 use Rattle.std.proofs.Common.{◌≡◌, ◌⊎◌, inl, inr, ℕ, zero, suc, ◌+◌, ◌<◌, ◌≤◌, true, false, Option, None, Some, List, [], ◌∷◌, ◌++◌, length, refl, ap, sym, ◌∙◌, subst, arith}
+use Rattle.tp_receiver.specs.Table.{continue_to_send, overflow}
+use Rattle.tp_receiver.specs.State.{RxTurn}
 use Rattle.std.specs.Prelude.{slice_get}
 use Rattle.std.specs.List.{AllByRecursion, AllZip}
 use Rattle.std.proofs.lemmas.Option.{slice_get_within}
 use Rattle.hub_core.specs.declared.record.SessionRecord.{SessionRecord}
 use Rattle.tp_attempts.specs.Attempts.{attempts_in}
 use Rattle.tp_attempts.specs.Seen.{Seen}
-use Rattle.tp_receiver.specs.Rows.{continue_to_send, overflow}
-use Rattle.tp_receiver.specs.Running.{RxTurn}
 use Rattle.tp_receiver.specs.declared.set.RxSet.{RxSet}
 use Rattle.tp_sender.specs.Sending.{Written}
 use Rattle.tp_sender.specs.declared.set.TxSet.{TxSet}

@@ -1,5 +1,9 @@
 -- Each record tells whose it is, and as its end the tick of the step that made it.
 use Rattle.std.proofs.Common.{◌≡◌, ℕ, ◌+◌, Bool, true, false, Option, Some, None, List, [], ◌∷◌, ◌++◌, refl, ap, sym, ◌∙◌, subst, append-nil, append_assoc}
+use Rattle.tp_receiver.specs.State.{Reception, RxState, RxEvent, RxDid, Came, Timer, FcLeft, RunEnd, RxTurn, rx_new}
+use Rattle.tp_receiver.specs.Table.{due, Begins, Carries, Ends as RxEnds, FirstRow, Grants, Interrupts, Overflows as RxOverflows, RxStep, Starts, overflow, NoneReads, All as GrantsAll, NoBuffer, Completes, NoBufferFirst, Opened, NoneReadsOn, TooLittleRoom, Adds, Fills, TooLong, TooShort, WrongNumber, RightNumber, InTime, TooLate as RxTooLate, FromBox, NotAwaited}
+use Rattle.tp_receiver.specs.Runs.{HasReceived}
+use Rattle.hub_core.specs.Turns.{state_after, records_by}
 use Rattle.std.specs.Prelude.{option_to_list, take}
 use Rattle.std.specs.List.{AllByRecursion}
 use Rattle.hub_core.specs.View.{Event}
@@ -13,10 +17,6 @@ use Rattle.hub_core.specs.declared.record.SessionResult.{SessionResult}
 use Rattle.hub_core.specs.declared.record.SessionResult.TheVariants.{Whole, WrongSn, RxTimeout, Restarted, NoRoom, NoReaders, RunEnd as RxEnd}
 use Rattle.hub_core.specs.declared.record.TxWait.TheVariants.{Turn as ForTurn}
 use Rattle.tp_receiver.specs.declared.set.RxSet.{RxSet}
-use Rattle.tp_receiver.specs.Receiving.{Busy, RxState, RxInput, RxMove, Came, TimerTurn, FlowControlLeft, RunEnds, due}
-use Rattle.tp_receiver.specs.Rows.{Begins, Carries, Ends as RxEnds, FirstRow, Grants, Interrupts, Overflows as RxOverflows, RxStep, Starts, overflow}
-use Rattle.tp_receiver.specs.Rows.{NoneReads, All as GrantsAll, NoBuffer, Completes, NoBufferFirst, Opened, NoneReadsOn, TooLittleRoom, Adds, Fills, TooLong, TooShort, WrongNumber, RightNumber, InTime, TooLate as RxTooLate, FromBox, NotAwaited}
-use Rattle.tp_receiver.specs.Running.{Happened as Received, RxTurn, state_of, told_by as received_by}
 use Rattle.tp_sender.specs.Sending.{Happened, Moment, OtherLeft, Stepped, state_from, told_by as sent_by}
 use Rattle.tp_sender.specs.State.{Sending}
 use Rattle.tp_sender.specs.Table.{Did, Ends, FrameLeft, InAnswer, InBytes, InStart, InTurn, InWait, Lacks, TxMove, TxRow, all_sent, fetched, in_phase, joined_in, revoked, wait_of}
@@ -35,23 +35,23 @@ use Rattle.gw_law.proofs.Lists.{all-join, all-weaker}
 abbrev pub EndsAt : RxSet → ℕ → SessionRecord → Type 0
 EndsAt set tick told = (told.chan ≡ set.chan) × (told.end.0 ≡ tick)
 
-abbrev pub TellsNow : RxSet → RxMove → Type 0
+abbrev pub TellsNow : RxSet → RxDid → Type 0
 TellsNow set m = AllByRecursion (EndsAt set m.tick) m.records
 
-none-told : (set : RxSet) (m : RxMove) → m.records ≡ [] → TellsNow set m
+none-told : (set : RxSet) (m : RxDid) → m.records ≡ [] → TellsNow set m
 none-told set m none = rw none tt
 
-ended-now : (set : RxSet) (next seq : ℕ) (busy : Busy) (how : SessionResult) (m : RxMove) → RxEnds set next seq busy how m → TellsNow set m
+ended-now : (set : RxSet) (next seq : ℕ) (busy : Reception) (how : SessionResult) (m : RxDid) → RxEnds set next seq busy how m → TellsNow set m
 ended-now set next seq busy how m row = rw row.records ((refl, refl), tt)
 
-refused-now : (set : RxSet) (next seq len : ℕ) (bytes : List ℕ) (act : BoxMeaning) (m : RxMove) → RxOverflows set next seq len bytes act m → TellsNow set m
+refused-now : (set : RxSet) (next seq len : ℕ) (bytes : List ℕ) (act : BoxMeaning) (m : RxDid) → RxOverflows set next seq len bytes act m → TellsNow set m
 refused-now set next seq len bytes act m row = rw row.records ((refl, refl), tt)
 
-grants-now : (set : RxSet) (next seq : ℕ) (busy : Busy) (m : RxMove) → Grants set next seq busy m → TellsNow set m
+grants-now : (set : RxSet) (next seq : ℕ) (busy : Reception) (m : RxDid) → Grants set next seq busy m → TellsNow set m
 grants-now set next seq busy m (NoneReads room readers none row) = ended-now set next seq busy NoReaders (record m { calls = row.rest }) row.row
 grants-now set next seq busy m (GrantsAll room readers some row) = none-told set m row.row.records
 
-begins-now : (set : RxSet) (next seq size : ℕ) (meaning : Meaning) (m : RxMove) → Begins set next seq size meaning m → TellsNow set m
+begins-now : (set : RxSet) (next seq size : ℕ) (meaning : Meaning) (m : RxDid) → Begins set next seq size meaning m → TellsNow set m
 begins-now set next seq size (SingleFrame bytes) m (NoBuffer row) = refused-now set next seq _ bytes Keeps m row
 begins-now set next seq size (SingleFrame bytes) m (Completes opened opening opens row) = ended-now set (next + 1) (seq + 1) _ Whole (record m { calls = row.rest }) row.row
 begins-now set next seq size (FirstFrame len bytes) m (NoBufferFirst more row) = refused-now set next seq len bytes (Offers overflow) m row
@@ -60,27 +60,27 @@ begins-now set next seq size (ConsecutiveFrame number bytes) m row = absurd row
 begins-now set next seq size (FlowControl status block_size separation) m row = absurd row
 begins-now set next seq size (NoUnit why) m row = absurd row
 
-interrupts-now : (set : RxSet) (next seq : ℕ) (busy : Option Busy) (m : RxMove) → Interrupts set next seq busy m → TellsNow set m
+interrupts-now : (set : RxSet) (next seq : ℕ) (busy : Option Reception) (m : RxDid) → Interrupts set next seq busy m → TellsNow set m
 interrupts-now set next seq None m row = none-told set m row.records
 interrupts-now set next seq (Some busy) m row = ended-now set next seq busy Restarted m row
 
-starts-now : (set : RxSet) (old : RxState) (size : ℕ) (meaning : Meaning) (m : RxMove) → Starts set old size meaning m → TellsNow set m
+starts-now : (set : RxSet) (old : RxState) (size : ℕ) (meaning : Meaning) (m : RxDid) → Starts set old size meaning m → TellsNow set m
 starts-now set old size meaning m row =
     let P : ℕ → Type 0 = λ t. AllByRecursion (EndsAt set t) row.earlier.records in
     let Q : ℕ → Type 0 = λ t. AllByRecursion (EndsAt set t) row.later.records in
     rw row.records (all-join (EndsAt set m.tick) row.earlier.records row.later.records (subst P row.earlier_tick (interrupts-now set old.next old.seq old.busy row.earlier row.interrupts)) (subst Q row.later_tick (begins-now set old.next old.seq size meaning row.later row.begins)))
 
-carries-now : (set : RxSet) (next seq : ℕ) (busy : Busy) (bytes : List ℕ) (m : RxMove) → Carries set next seq busy bytes m → TellsNow set m
+carries-now : (set : RxSet) (next seq : ℕ) (busy : Reception) (bytes : List ℕ) (m : RxDid) → Carries set next seq busy bytes m → TellsNow set m
 carries-now set next seq busy bytes m (NoneReadsOn room readers none row) = ended-now set next seq busy NoReaders (record m { calls = row.rest }) row.row
 carries-now set next seq busy bytes m (TooLittleRoom room readers need some is little row) = ended-now set next seq busy (NoRoom room need) (record m { calls = row.rest }) row.row
 carries-now set next seq busy bytes m (Adds room readers cells some fits packed row) = none-told set m row.row.row.records
 carries-now set next seq busy bytes m (Fills room readers cells some fits packed full row) = ended-now set next seq _ Whole (record m { calls = row.row.rest }) row.row.row
 
-first-now : (set : RxSet) (old : RxState) (size : ℕ) (meaning : Meaning) (functional : Bool) (m : RxMove) → FirstRow set old size meaning functional m → TellsNow set m
+first-now : (set : RxSet) (old : RxState) (size : ℕ) (meaning : Meaning) (functional : Bool) (m : RxDid) → FirstRow set old size meaning functional m → TellsNow set m
 first-now set old size meaning true m row = none-told set m row.records
 first-now set old size meaning false m row = starts-now set old size meaning m row
 
-pub tells-now : (set : RxSet) (next seq : ℕ) (busy : Option Busy) (event : RxInput) (m : RxMove) → RxStep set (record { next = next; seq = seq; busy = busy }) event m → TellsNow set m
+pub tells-now : (set : RxSet) (next seq : ℕ) (busy : Option Reception) (event : RxEvent) (m : RxDid) → RxStep set (record { next = next; seq = seq; busy = busy }) event m → TellsNow set m
 tells-now set next seq busy (Came size (SingleFrame bytes)) m row = starts-now set _ size (SingleFrame bytes) m row
 tells-now set next seq busy (Came size (FirstFrame len bytes)) m row = first-now set _ size (FirstFrame len bytes) set.functional m row
 tells-now set next seq None (Came size (ConsecutiveFrame number bytes)) m row = none-told set m row.records
@@ -90,17 +90,17 @@ tells-now set next seq (Some busy) (Came size (ConsecutiveFrame number bytes)) m
 tells-now set next seq (Some busy) (Came size (ConsecutiveFrame number bytes)) m (RightNumber looked right row) = carries-now set next seq busy (take (due set.a busy) bytes) m row
 tells-now set next seq busy (Came size (FlowControl status block_size separation)) m row = none-told set m row.records
 tells-now set next seq busy (Came size (NoUnit why)) m row = none-told set m row.records
-tells-now set next seq None TimerTurn m row = none-told set m row.records
-tells-now set next seq None FlowControlLeft m row = none-told set m row.records
-tells-now set next seq None RunEnds m row = none-told set m row.records
-tells-now set next seq (Some busy) TimerTurn m (InTime early row) = none-told set m row.records
-tells-now set next seq (Some busy) TimerTurn m (RxTooLate late row) = ended-now set next seq busy (RxTimeout CfLimit) m row
-tells-now set next seq (Some busy) FlowControlLeft m (FromBox waits row) = none-told set m row.records
-tells-now set next seq (Some busy) FlowControlLeft m (NotAwaited waits row) = none-told set m row.records
-tells-now set next seq (Some busy) RunEnds m row = ended-now set next seq busy (RxEnd busy.wait (record { 0 = busy.since })) m row
+tells-now set next seq None Timer m row = none-told set m row.records
+tells-now set next seq None FcLeft m row = none-told set m row.records
+tells-now set next seq None RunEnd m row = none-told set m row.records
+tells-now set next seq (Some busy) Timer m (InTime early row) = none-told set m row.records
+tells-now set next seq (Some busy) Timer m (RxTooLate late row) = ended-now set next seq busy (RxTimeout CfLimit) m row
+tells-now set next seq (Some busy) FcLeft m (FromBox waits row) = none-told set m row.records
+tells-now set next seq (Some busy) FcLeft m (NotAwaited waits row) = none-told set m row.records
+tells-now set next seq (Some busy) RunEnd m row = ended-now set next seq busy (RxEnd busy.wait (record { 0 = busy.since })) m row
 
 -- at the run's end no record tells that no destination reads
-pub end-tells : (set : RxSet) (next seq : ℕ) (busy : Option Busy) (m : RxMove) → RxStep set (record { next = next; seq = seq; busy = busy }) RunEnds m → AllByRecursion (λ (told : SessionRecord). told.result ≡ NoReaders → ⊥) m.records
+pub end-tells : (set : RxSet) (next seq : ℕ) (busy : Option Reception) (m : RxDid) → RxStep set (record { next = next; seq = seq; busy = busy }) RunEnd m → AllByRecursion (λ (told : SessionRecord). told.result ≡ NoReaders → ⊥) m.records
 end-tells set next seq None m row = rw row.records tt
 end-tells set next seq (Some busy) m row = rw row.records ((λ is. cc), tt)
 
@@ -109,16 +109,16 @@ pub record MoreTold (P : SessionRecord → Type 0) (front whole : List SessionRe
   pub is : whole ≡ front ++ more
   pub all : AllByRecursion P more
 
-pub turns-told : (P : ℕ → Type 0) (set : RxSet) (turns earlier : List RxTurn) → Received set (turns ++ earlier) → AllByRecursion (TurnIn P) turns → MoreTold (λ (told : SessionRecord). P told.end.0) (received_by earlier) (received_by (turns ++ earlier))
-turns-told P set [] earlier happened all = record { more = []; is = sym (append-nil (received_by earlier)); all = tt }
+pub turns-told : (P : ℕ → Type 0) (set : RxSet) (turns earlier : List RxTurn) → HasReceived set (turns ++ earlier) → AllByRecursion (TurnIn P) turns → MoreTold (λ (told : SessionRecord). P told.end.0) (records_by earlier) (records_by (turns ++ earlier))
+turns-told P set [] earlier happened all = record { more = []; is = sym (append-nil (records_by earlier)); all = tt }
 turns-told P set (turn ∷ turns) earlier happened all =
     let so = turns-told P set turns earlier happened.2 all.1 in
-    let old : RxState = state_of (turns ++ earlier) in
+    let old : RxState = state_after rx_new (turns ++ earlier) in
     record {
-      more = so.more ++ turn.move.records;
-      is = ap (λ l. l ++ turn.move.records) so.is ∙ append_assoc (received_by earlier) so.more turn.move.records;
-      all = all-join (λ (told : SessionRecord). P told.end.0) so.more turn.move.records so.all
-          (all-weaker (EndsAt set turn.move.tick) (λ (told : SessionRecord). P told.end.0) turn.move.records (λ told is. subst P (sym is.1) all.0) (tells-now set old.next old.seq old.busy turn.event turn.move happened.1));
+      more = so.more ++ turn.did.records;
+      is = ap (λ l. l ++ turn.did.records) so.is ∙ append_assoc (records_by earlier) so.more turn.did.records;
+      all = all-join (λ (told : SessionRecord). P told.end.0) so.more turn.did.records so.all
+          (all-weaker (EndsAt set turn.did.tick) (λ (told : SessionRecord). P told.end.0) turn.did.records (λ told is. subst P (sym is.1) all.0) (tells-now set old.next old.seq old.busy turn.event turn.did happened.1));
     }
 
 -- the sender's records

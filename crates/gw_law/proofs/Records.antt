@@ -1,12 +1,14 @@
 -- Whose the records of a run are, that they lie within it, and that one follows another.
 use Rattle.std.proofs.Common.{◌≡◌, ℕ, ◌+◌, ◌<◌, ◌≤◌, inl, inr, Option, Some, None, List, [], ◌∷◌, ◌++◌, length, refl, ap, sym, ◌∙◌, subst, arith, append-nil}
+use Rattle.tp_receiver.specs.Runs.{HasReceived}
+use Rattle.tp_receiver.specs.State.{RxTurn, rx_new}
+use Rattle.hub_core.specs.Turns.{state_after, records_by}
 use Rattle.std.specs.Prelude.{option_to_list, slice_get}
 use Rattle.std.specs.List.{AllByRecursion}
 use Rattle.std.proofs.lemmas.Option.{slice_get_within}
 use Rattle.hub_core.specs.declared.record.DestRecord.{DestRecord}
 use Rattle.hub_core.specs.declared.record.SessionRecord.{SessionRecord}
 use Rattle.tp_receiver.specs.declared.set.RxSet.{RxSet}
-use Rattle.tp_receiver.specs.Running.{Happened as Received, RxTurn, state_of, told_by as received_by}
 use Rattle.tp_sender.specs.Sending.{Happened as WasSent, Moment, OtherLeft, Stepped, now_of, state_from, told_by as sent_by}
 use Rattle.tp_sender.specs.State.{Sending}
 use Rattle.tp_sender.specs.Table.{Did}
@@ -21,12 +23,12 @@ use Rattle.gw_law.proofs.Lists.{all-at, all-join, all-push, all-weaker, at-next}
 use Rattle.gw_law.proofs.Origins.{InTicks, IsToldBy, OfLive, row-by, told-by}
 
 -- the source's records, in turns up to a tick
-sessions-of : (set : RxSet) (last : ℕ) (turns : List RxTurn) → Received set turns → AllByRecursion (TurnIn (λ (t : ℕ). t ≤ last)) turns → AllByRecursion (λ (told : SessionRecord). (told.chan ≡ set.chan) × (told.end.0 ≤ last)) (received_by turns)
+sessions-of : (set : RxSet) (last : ℕ) (turns : List RxTurn) → HasReceived set turns → AllByRecursion (TurnIn (λ (t : ℕ). t ≤ last)) turns → AllByRecursion (λ (told : SessionRecord). (told.chan ≡ set.chan) × (told.end.0 ≤ last)) (records_by turns)
 sessions-of set last [] happened all = tt
 sessions-of set last (turn ∷ earlier) happened all =
-    all-join (λ (told : SessionRecord). (told.chan ≡ set.chan) × (told.end.0 ≤ last)) (received_by earlier) turn.move.records (sessions-of set last earlier happened.2 all.1)
-    (all-weaker (EndsAt set turn.move.tick) (λ (told : SessionRecord). (told.chan ≡ set.chan) × (told.end.0 ≤ last)) turn.move.records (λ told is. (is.0, omega (arith, is.1, all.0)))
-    (tells-now set (state_of earlier).next (state_of earlier).seq (state_of earlier).busy turn.event turn.move happened.1))
+    all-join (λ (told : SessionRecord). (told.chan ≡ set.chan) × (told.end.0 ≤ last)) (records_by earlier) turn.did.records (sessions-of set last earlier happened.2 all.1)
+    (all-weaker (EndsAt set turn.did.tick) (λ (told : SessionRecord). (told.chan ≡ set.chan) × (told.end.0 ≤ last)) turn.did.records (λ told is. (is.0, omega (arith, is.1, all.0)))
+    (tells-now set (state_after rx_new earlier).next (state_after rx_new earlier).seq (state_after rx_new earlier).busy turn.event turn.did happened.1))
 
 -- the destination's records, in moments up to a tick
 abbrev IsSent : TxSet → ℕ → DestRecord → Type 0

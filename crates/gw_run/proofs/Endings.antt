@@ -1,5 +1,9 @@
 -- The run's end: both machines are told, and the whole run is one.
 use Rattle.std.proofs.Common.{◌≡◌, ◌⊎◌, ℕ, zero, suc, ◌+◌, ◌-◌, ◌*◌, ◌<◌, ◌≤◌, Option, Some, None, List, [], ◌∷◌, ◌++◌, length, refl, sym, subst, ap, ◌∙◌, append-nil, length-append, arith}
+use Rattle.tp_receiver.specs.State.{Reception, RxDid, RxState, RunEnd, RxTurn}
+use Rattle.tp_receiver.specs.Table.{EndRow}
+use Rattle.hub_core.specs.Turns.{came_by}
+use Rattle.tp_receiver.specs.Runs.{frames_in}
 use Rattle.std.specs.Prelude.{option_to_list}
 use Rattle.hub_core.specs.Floors.{AreFresh, floors_of}
 use Rattle.hub_core.specs.Joint.{AreInOrder, Joint}
@@ -12,9 +16,6 @@ use Rattle.hub_core.specs.declared.record.SessionRecord.{SessionRecord}
 use Rattle.gw_law.specs.Run.{IsIdle, Route, Work, moments_of, turns_of, view_of}
 use Rattle.tick_clock.specs.declared.clock.Clock.{Clock}
 use Rattle.tp_attempts.specs.Seen.{Seen}
-use Rattle.tp_receiver.specs.Receiving.{Busy, RxMove, RxState, RunEnds}
-use Rattle.tp_receiver.specs.Rows.{EndRow}
-use Rattle.tp_receiver.specs.Running.{RxTurn, seen_by}
 use Rattle.tp_receiver.specs.declared.set.RxSet.{RxSet}
 use Rattle.tp_sender.specs.Sending.{Answer, Moment, Stepped, Written, calls_by as sent_calls}
 use Rattle.tp_sender.specs.State.{Sending, TxState, set_of, state_of}
@@ -113,7 +114,7 @@ less-remains g h last lies frames told more =
     let most : h.sender.next ≤ length ((view_in h.hub).sessions h.sender.set.path.0) = readings-most _ joint.0 joint.1 (view_in h.hub) h.sender.set.path.0 h.sender.set.dest.0 h.sender.next joint.2 st.knows.next in
     omega (arith, next, live, same, most, out.1, out.2)
 
-end-idle : (set : RxSet) (old : RxState) (busy : Option Busy) (m : RxMove) → old.busy ≡ busy → EndRow set old busy m → m.new.busy ≡ None
+end-idle : (set : RxSet) (old : RxState) (busy : Option Reception) (m : RxDid) → old.busy ≡ busy → EndRow set old busy m → m.new.busy ≡ None
 end-idle set old None m is row = ap (λ (s : RxState). s.busy) row.new ∙ is
 end-idle set old (Some busy) m is row = ap (λ (s : RxState). s.busy) row.new
 
@@ -123,17 +124,17 @@ same-route : (m : Machines) (last count free : ℕ) (seen : List Seen) (answers 
 same-route m last count free seen answers controls frames sessions dests moves told seen_told answers_told a b c d e f g h i = rw (a, b, ← c, ← d, ← e, ← f, ← g, ← h, ← i) refl
 
 -- the receiver was told of the run's end
-pub end-stands : (g k : Gateway) (last : ℕ) (seen : List Seen) (answers : List Answer) (next : ℕ) → next ≤ last + 1 → (at : AtBarrier g seen answers next) → (first : TellsReceiver g k RunEnds last (lying g.control) g.controls) →
-    Stands k last (record { event = RunEnds; move = first.move } ∷ turns_of at.works) (moments_of at.works) (grows first.move.calls (view_of at.works))
+pub end-stands : (g k : Gateway) (last : ℕ) (seen : List Seen) (answers : List Answer) (next : ℕ) → next ≤ last + 1 → (at : AtBarrier g seen answers next) → (first : TellsReceiver g k RunEnd last (lying g.control) g.controls) →
+    Stands k last (record { event = RunEnd; did = first.move } ∷ turns_of at.works) (moments_of at.works) (grows first.move.calls (view_of at.works))
 end-stands g k last seen answers next in_time at first =
-    turn-stands g k last last (turns_of at.works) (moments_of at.works) (view_of at.works) RunEnds (stands-later g (next - 1) last (turns_of at.works) (moments_of at.works) (view_of at.works) (omega arith) at.stands) (omega arith) (told-same g k RunEnds last (lying g.control) first)
+    turn-stands g k last last (turns_of at.works) (moments_of at.works) (view_of at.works) RunEnd (stands-later g (next - 1) last (turns_of at.works) (moments_of at.works) (view_of at.works) (omega arith) at.stands) (omega arith) (told-same g k RunEnd last (lying g.control) first)
 
 pub finishes : (g k h : Gateway) (clock : Clock) (last : ℕ) (seen : List Seen) (answers : List Answer) (next : ℕ) (told : Told) → next ≤ last + 1 → IsQuiet g ⊎ (next ≡ last + 1) → AtBarrier g seen answers next →
-    TellsReceiver g k RunEnds last (lying g.control) g.controls → ((turns : List RxTurn) (moments : List Moment) (view : View) → Stands k last turns moments view → EndsTelling h last turns moments view) → IsOver h → h.machines ≡ k.machines → Tells h clock told →
+    TellsReceiver g k RunEnd last (lying g.control) g.controls → ((turns : List RxTurn) (moments : List Moment) (view : View) → Stands k last turns moments view → EndsTelling h last turns moments view) → IsOver h → h.machines ≡ k.machines → Tells h clock told →
     Finishes g.machines clock last seen answers told
 finishes g k h clock last seen answers next told in_time quiet at first ends over machines tells =
     let works = at.works in
-    let turn : RxTurn = record { event = RunEnds; move = first.move } in
+    let turn : RxTurn = record { event = RunEnd; did = first.move } in
     let stands = end-stands g k last seen answers next in_time at first in
     let out = ends (turn ∷ turns_of works) (moments_of works) (grows first.move.calls (view_of works)) stands in
     let all = out.stands in
@@ -175,7 +176,7 @@ finishes g k h clock last seen answers next told in_time quiet at first ends ove
         joint = subst J all.pool.view_is (subst S all.pool.size tells.joint);
         in_order = subst O all.pool.view_is tells.in_order;
       };
-      route = same-route g.machines last _ _ _ _ _ _ _ _ _ told seen answers (append-nil (seen_by (turns_of works)) ∙ at.seen_is) (end-answers last out.more (moments_of works) out.only ∙ at.answers_is)
+      route = same-route g.machines last _ _ _ _ _ _ _ _ _ told seen answers (append-nil (came_by frames_in (turns_of works)) ∙ at.seen_is) (end-answers last out.more (moments_of works) out.only ∙ at.answers_is)
           (tells.controls ∙ rx.controls_are) (tells.frames ∙ tx.frames_are) (tells.sessions ∙ rx.sessions_are) (tells.dests ∙ tx.dests_are) (tells.moves ∙ all.pool.moves_are) refl refl;
       clock_is = tells.clock_is;
       buffers = tells.buffers;

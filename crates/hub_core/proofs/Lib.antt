@@ -8,4 +8,5 @@ mod Party
 mod Streams
 pub mod Fresh
 pub mod Growing
+pub mod Turns
 pub mod Whole

@@ -2,7 +2,9 @@ pub mod Alone
 pub mod Calls
 pub mod Floors
 pub mod Joint
+pub mod Moves
 pub mod Plain
 pub mod Records
 pub mod Tokens
+pub mod Turns
 pub mod View

@@ -1,21 +1,86 @@
--- One step of a receiver, row by row (ISO 15765-2, segmentation and reassembly; the records and sessions are this project's own).
-use Rattle.std.specs.Prelude.{◌≡◌, ◌≢◌, ℕ, ◌+◌, ◌/◌, ◌<◌, ◌≤◌, Bool, true, false, Option, Some, None, List, [], ◌∷◌, ◌++◌, length, map, take}
+-- One turn of a receiver, row by row (ISO 15765-2, segmentation and reassembly; the records and sessions are this project's own).
+use Rattle.std.specs.Prelude.{◌≡◌, ◌≢◌, ℕ, ◌+◌, ◌-◌, ◌/◌, ◌%◌, ◌<◌, ◌≤◌, Bool, true, false, min, Option, Some, None, List, [], ◌∷◌, ◌++◌, length, map, take}
 use Rattle.cell_stream.specs.Packing.{IsPacked}
 use Rattle.gw_base.specs.Cell.{counted}
 use Rattle.hub_core.specs.Calls.{freed_by}
-use Rattle.hub_core.specs.Floors.{Floors, AreFresh}
-use Rattle.hub_core.specs.View.{View, Event, Took, Refused, Entered, Asked, Put, Published, Closed, grows}
+use Rattle.hub_core.specs.View.{Event, Took, Refused, Entered, Asked, Put, Published, Closed}
 use Rattle.hub_core.specs.declared.port.Left.{Left}
-use Rattle.hub_core.specs.declared.record.Move.{Move}
 use Rattle.hub_core.specs.declared.record.OpenedAt.{OpenedAt}
 use Rattle.hub_core.specs.declared.record.RxLimit.TheVariants.{Cf as CfLimit}
-use Rattle.hub_core.specs.declared.record.RxWait.TheVariants.{Box, Cf}
+use Rattle.hub_core.specs.declared.record.RxWait.{RxWait}
+use Rattle.hub_core.specs.declared.record.RxWait.TheVariants.{Box, Room, Cf}
 use Rattle.hub_core.specs.declared.record.SessionRecord.{SessionRecord}
 use Rattle.hub_core.specs.declared.record.SessionResult.{SessionResult}
-use Rattle.hub_core.specs.declared.record.SessionResult.TheVariants.{Whole, WrongSn, RxTimeout, Restarted, NoRoom, NoReaders, RunEnd}
+use Rattle.hub_core.specs.declared.record.SessionResult.TheVariants.{Whole, Overflow, WrongSn, RxTimeout, Restarted, NoRoom, NoReaders, RunEnd as EndOfRun}
 use Rattle.tp_receiver.specs.declared.set.RxSet.{RxSet}
-use Rattle.tp_receiver.specs.Receiving.{Busy, RxState, RxInput, RxMove, Came, TimerTurn, FlowControlLeft, RunEnds, idle, busy_with, begun, gone_on, later_act, revoking, due, ended, refused, moves_in}
-use Rattle.tp_unit.specs.Unit.{Meaning, SingleFrame, FirstFrame, ConsecutiveFrame, FlowControl, NoUnit, BoxMeaning, Keeps, Offers}
+use Rattle.tp_receiver.specs.State.{Reception, RxDid, RxState, RxEvent, Came, Timer, FcLeft, RunEnd, idle, busy_with}
+use Rattle.tp_unit.specs.Unit.{Meaning, SingleFrame, FirstFrame, ConsecutiveFrame, FlowControl, NoUnit, BoxMeaning, Keeps, Offers, Revokes}
+
+-- the later of two acts, where it does anything
+abbrev pub later_act : BoxMeaning → BoxMeaning → BoxMeaning
+later_act earlier Keeps = earlier
+later_act earlier (Offers meaning) = Offers meaning
+later_act earlier Revokes = Revokes
+
+-- where a reception ends, its flow control that still lies in the box doesn't leave
+abbrev pub revoking : RxWait → BoxMeaning
+revoking Box = Revokes
+revoking Room = Keeps
+revoking Cf = Keeps
+
+-- the bytes that the next consecutive frame must carry: a whole frame's, or what remains
+abbrev pub due : ℕ → Reception → ℕ
+due address busy = min (busy.size - 1 - address) (busy.len - busy.bytes)
+
+-- the record of a reception that ends so in that tick
+abbrev pub ended : RxSet → Reception → SessionResult → ℕ → SessionRecord
+ended set busy result tick = record {
+  chan = set.chan;
+  n = busy.n;
+  len = busy.len;
+  begin = record { 0 = busy.begin };
+  bytes = busy.bytes;
+  end = record { 0 = tick };
+  opened = Some busy.opened;
+  result = result;
+}
+
+-- a reception as its start begins it
+abbrev pub begun : (next len size bytes tick : ℕ) → OpenedAt → Reception
+begun next len size bytes tick opened = record {
+  n = next;
+  len = len;
+  size = size;
+  begin = tick;
+  bytes = bytes;
+  number = 1;
+  wait = Cf;
+  since = tick;
+  opened = opened;
+}
+
+-- where a consecutive frame is awaited, it is awaited anew from this tick on
+abbrev pub awaited_since : RxWait → (before tick : ℕ) → ℕ
+awaited_since Cf before tick = tick
+awaited_since Box before tick = before
+awaited_since Room before tick = before
+
+-- the reception with so many bytes more
+abbrev pub gone_on : Reception → (more tick : ℕ) → Reception
+gone_on busy more tick = record busy { bytes = busy.bytes + more; number = (busy.number + 1) % 16; since = awaited_since busy.wait busy.since tick }
+
+-- the record of a start that finds no free buffer, by the pool word that it saw
+abbrev pub refused : RxSet → (next len tick number free need : ℕ) → SessionRecord
+refused set next len tick number free need = record {
+  chan = set.chan;
+  n = next;
+  len = len;
+  begin = record { 0 = tick };
+  bytes = 0;
+  end = record { 0 = tick };
+  opened = None;
+  result = Overflow number free need;
+}
 
 -- the flow controls: go on with no block size, and no room for the message
 abbrev pub continue_to_send : RxSet → Meaning
@@ -33,20 +98,20 @@ abbrev pub puts : ℕ → ℕ → List ℕ → List Event
 puts path seq cells = map (λ cell. Put path seq cell) cells ++ Published path seq (counted cells) ∷ []
 
 -- nothing is done or told, and the state stays
-pub record Quiet (old : RxState) (m : RxMove) : Type 0 where
+pub record Quiet (old : RxState) (m : RxDid) : Type 0 where
   pub calls : m.calls ≡ []
   pub act : m.act ≡ Keeps
   pub records : m.records ≡ []
   pub new : m.new ≡ old
 
 -- what is left of a move after its first calls
-pub record After (before : List Event) (m : RxMove) (Row : RxMove → Type 0) : Type 0 where
+pub record After (before : List Event) (m : RxDid) (Row : RxDid → Type 0) : Type 0 where
   pub rest : List Event
   pub calls : m.calls ≡ before ++ rest
   pub row : Row (record m { calls = rest })
 
 -- the reception ends so: the writer leaves, what lies in the box doesn't leave, the record is made
-pub record Ends (set : RxSet) (next seq : ℕ) (busy : Busy) (result : SessionResult) (m : RxMove) : Type 0 where
+pub record Ends (set : RxSet) (next seq : ℕ) (busy : Reception) (result : SessionResult) (m : RxDid) : Type 0 where
   pub left : Left
   pub calls : m.calls ≡ Closed set.path.0 busy.opened.seq (freed_by left) ∷ []
   pub act : m.act ≡ revoking busy.wait
@@ -54,12 +119,12 @@ pub record Ends (set : RxSet) (next seq : ℕ) (busy : Busy) (result : SessionRe
   pub new : m.new ≡ idle next seq
 
 -- a busy receiver ends its reception before another start
-abbrev pub Interrupts : RxSet → (next seq : ℕ) → Option Busy → RxMove → Type 0
+abbrev pub Interrupts : RxSet → (next seq : ℕ) → Option Reception → RxDid → Type 0
 Interrupts set next seq None m = Quiet (idle next seq) m
 Interrupts set next seq (Some busy) m = Ends set next seq busy Restarted m
 
 -- no free buffer fits the start's bytes: the record of the overflow
-pub record Overflows (set : RxSet) (next seq len : ℕ) (bytes : List ℕ) (act : BoxMeaning) (m : RxMove) : Type 0 where
+pub record Overflows (set : RxSet) (next seq len : ℕ) (bytes : List ℕ) (act : BoxMeaning) (m : RxDid) : Type 0 where
   pub number : ℕ
   pub free : ℕ
   pub need : ℕ
@@ -81,35 +146,35 @@ pub record Opens (set : RxSet) (seq len : ℕ) (bytes : List ℕ) (opened : Open
   pub calls_are : calls ≡ Took opened.change opened.buf.0 size need ∷ Entered set.path.0 seq opened.buf.0 opened.change size len set.readers ∷ puts set.path.0 seq cells
 
 -- a look at the room: what the port answered
-abbrev pub asks : RxSet → Busy → (room readers : ℕ) → List Event
+abbrev pub asks : RxSet → Reception → (room readers : ℕ) → List Event
 asks set busy room readers = Asked set.path.0 busy.opened.seq room readers ∷ []
 
 -- a flow control lets the sender go on
-pub record LetsGo (set : RxSet) (next seq : ℕ) (busy : Busy) (m : RxMove) : Type 0 where
+pub record LetsGo (set : RxSet) (next seq : ℕ) (busy : Reception) (m : RxDid) : Type 0 where
   pub calls : m.calls ≡ []
   pub act : m.act ≡ Offers (continue_to_send set)
   pub records : m.records ≡ []
   pub new : m.new ≡ busy_with next seq (record busy { wait = Box; since = m.tick })
 
 -- what is granted: nothing where no destination reads any more, else all frames that remain
-pub data Grants (set : RxSet) (next seq : ℕ) (busy : Busy) (m : RxMove) : Type 0 where
+pub data Grants (set : RxSet) (next seq : ℕ) (busy : Reception) (m : RxDid) : Type 0 where
   NoneReads : (room readers : ℕ) → readers ≡ 0 → After (asks set busy room readers) m (Ends set next seq busy NoReaders) → Grants set next seq busy m
   All : (room readers : ℕ) → 0 < readers → After (asks set busy room readers) m (LetsGo set next seq busy) → Grants set next seq busy m
 
 -- a single frame, for a receiver that is idle
-pub data BeginsSingle (set : RxSet) (next seq size : ℕ) (bytes : List ℕ) (m : RxMove) : Type 0 where
+pub data BeginsSingle (set : RxSet) (next seq size : ℕ) (bytes : List ℕ) (m : RxDid) : Type 0 where
   NoBuffer : Overflows set next seq (length bytes) bytes Keeps m → BeginsSingle set next seq size bytes m
   Completes : (opened : OpenedAt) (opening : List Event) → Opens set seq (length bytes) bytes opened opening →
       After opening m (Ends set (next + 1) (seq + 1) (begun next (length bytes) size (length bytes) m.tick opened) Whole) → BeginsSingle set next seq size bytes m
 
 -- a first frame, for a receiver that is idle
-pub data BeginsFirst (set : RxSet) (next seq size len : ℕ) (bytes : List ℕ) (m : RxMove) : Type 0 where
+pub data BeginsFirst (set : RxSet) (next seq size len : ℕ) (bytes : List ℕ) (m : RxDid) : Type 0 where
   NoBufferFirst : length bytes < len → Overflows set next seq len bytes (Offers overflow) m → BeginsFirst set next seq size len bytes m
   Opened : length bytes < len → (opened : OpenedAt) (opening : List Event) → Opens set seq len bytes opened opening →
       After opening m (Grants set (next + 1) (seq + 1) (begun next len size (length bytes) m.tick opened)) → BeginsFirst set next seq size len bytes m
 
 -- a start, for a receiver that is idle
-abbrev pub Begins : RxSet → (next seq size : ℕ) → Meaning → RxMove → Type 0
+abbrev pub Begins : RxSet → (next seq size : ℕ) → Meaning → RxDid → Type 0
 Begins set next seq size (SingleFrame bytes) m = BeginsSingle set next seq size bytes m
 Begins set next seq size (FirstFrame len bytes) m = BeginsFirst set next seq size len bytes m
 Begins set next seq size (ConsecutiveFrame number bytes) m = ⊥
@@ -117,9 +182,9 @@ Begins set next seq size (FlowControl status block_size separation) m = ⊥
 Begins set next seq size (NoUnit why) m = ⊥
 
 -- a start: what the receiver was at ends, and then the start begins, in the same tick
-pub record Starts (set : RxSet) (old : RxState) (size : ℕ) (meaning : Meaning) (m : RxMove) : Type 0 where
-  pub earlier : RxMove
-  pub later : RxMove
+pub record Starts (set : RxSet) (old : RxState) (size : ℕ) (meaning : Meaning) (m : RxDid) : Type 0 where
+  pub earlier : RxDid
+  pub later : RxDid
   pub interrupts : Interrupts set old.next old.seq old.busy earlier
   pub begins : Begins set old.next old.seq size meaning later
   pub earlier_tick : earlier.tick ≡ m.tick
@@ -130,12 +195,12 @@ pub record Starts (set : RxSet) (old : RxState) (size : ℕ) (meaning : Meaning)
   pub new : m.new ≡ later.new
 
 -- the frame isn't longer than the start's, and it carries what is due
-pub record IsLookedAt (set : RxSet) (busy : Busy) (size : ℕ) (bytes : List ℕ) : Type 0 where
+pub record IsLookedAt (set : RxSet) (busy : Reception) (size : ℕ) (bytes : List ℕ) : Type 0 where
   pub short : size ≤ busy.size
   pub enough : due set.a busy ≤ length bytes
 
 -- more bytes are due
-pub record GoesOn (next seq : ℕ) (busy : Busy) (m : RxMove) : Type 0 where
+pub record GoesOn (next seq : ℕ) (busy : Reception) (m : RxDid) : Type 0 where
   pub more_due : busy.bytes < busy.len
   pub calls : m.calls ≡ []
   pub act : m.act ≡ Keeps
@@ -143,7 +208,7 @@ pub record GoesOn (next seq : ℕ) (busy : Busy) (m : RxMove) : Type 0 where
   pub new : m.new ≡ busy_with next seq busy
 
 -- the due bytes of a consecutive frame: after a look at the room they are put, and the message goes on or is whole
-pub data Carries (set : RxSet) (next seq : ℕ) (busy : Busy) (bytes : List ℕ) (m : RxMove) : Type 0 where
+pub data Carries (set : RxSet) (next seq : ℕ) (busy : Reception) (bytes : List ℕ) (m : RxDid) : Type 0 where
   NoneReadsOn : (room readers : ℕ) → readers ≡ 0 → After (asks set busy room readers) m (Ends set next seq busy NoReaders) → Carries set next seq busy bytes m
   TooLittleRoom : (room readers need : ℕ) → 0 < readers → need ≡ cells_of (length bytes) → room < need → After (asks set busy room readers) m (Ends set next seq busy (NoRoom room need)) → Carries set next seq busy bytes m
   Adds : (room readers : ℕ) (cells : List ℕ) → 0 < readers → length cells ≤ room → IsPacked bytes cells →
@@ -152,24 +217,24 @@ pub data Carries (set : RxSet) (next seq : ℕ) (busy : Busy) (bytes : List ℕ)
       After (asks set busy room readers) m (λ later. After (puts set.path.0 busy.opened.seq cells) later (Ends set next seq (gone_on busy (length bytes) m.tick) Whole)) → Carries set next seq busy bytes m
 
 -- a consecutive frame, for a busy receiver: it is passed over, it ends the reception by its number, or its due bytes are put
-pub data Continues (set : RxSet) (next seq : ℕ) (busy : Busy) (size number : ℕ) (bytes : List ℕ) (m : RxMove) : Type 0 where
+pub data Continues (set : RxSet) (next seq : ℕ) (busy : Reception) (size number : ℕ) (bytes : List ℕ) (m : RxDid) : Type 0 where
   TooLong : busy.size < size → Quiet (busy_with next seq busy) m → Continues set next seq busy size number bytes m
   TooShort : length bytes < due set.a busy → Quiet (busy_with next seq busy) m → Continues set next seq busy size number bytes m
   WrongNumber : IsLookedAt set busy size bytes → number ≢ busy.number → Ends set next seq busy (WrongSn busy.number number) m → Continues set next seq busy size number bytes m
   RightNumber : IsLookedAt set busy size bytes → number ≡ busy.number → Carries set next seq busy (take (due set.a busy) bytes) m → Continues set next seq busy size number bytes m
 
 -- a consecutive frame
-abbrev pub ConsecutiveRow : RxSet → RxState → (size number : ℕ) → List ℕ → Option Busy → RxMove → Type 0
+abbrev pub ConsecutiveRow : RxSet → RxState → (size number : ℕ) → List ℕ → Option Reception → RxDid → Type 0
 ConsecutiveRow set old size number bytes None m = Quiet old m
 ConsecutiveRow set old size number bytes (Some busy) m = Continues set old.next old.seq busy size number bytes m
 
 -- a first frame is ignored where frames are for many receivers at once
-abbrev pub FirstRow : RxSet → RxState → (size : ℕ) → Meaning → (functional : Bool) → RxMove → Type 0
+abbrev pub FirstRow : RxSet → RxState → (size : ℕ) → Meaning → (functional : Bool) → RxDid → Type 0
 FirstRow set old size meaning true m = Quiet old m
 FirstRow set old size meaning false m = Starts set old size meaning m
 
 -- a frame, by its unit
-abbrev pub FrameRow : RxSet → RxState → (size : ℕ) → Meaning → RxMove → Type 0
+abbrev pub FrameRow : RxSet → RxState → (size : ℕ) → Meaning → RxDid → Type 0
 FrameRow set old size (SingleFrame bytes) m = Starts set old size (SingleFrame bytes) m
 FrameRow set old size (FirstFrame len bytes) m = FirstRow set old size (FirstFrame len bytes) set.functional m
 FrameRow set old size (ConsecutiveFrame number bytes) m = ConsecutiveRow set old size number bytes old.busy m
@@ -177,59 +242,42 @@ FrameRow set old size (FlowControl status block_size separation) m = Quiet old m
 FrameRow set old size (NoUnit why) m = Quiet old m
 
 -- a consecutive frame is awaited, and its time is over
-abbrev pub IsLate : RxSet → Busy → ℕ → Type 0
+abbrev pub IsLate : RxSet → Reception → ℕ → Type 0
 IsLate set busy tick = (busy.wait ≡ Cf) × (busy.since + set.n_cr ≤ tick)
 
 -- a tick is over, for a busy receiver
-pub data Times (set : RxSet) (next seq : ℕ) (busy : Busy) (m : RxMove) : Type 0 where
+pub data Times (set : RxSet) (next seq : ℕ) (busy : Reception) (m : RxDid) : Type 0 where
   InTime : (IsLate set busy m.tick → ⊥) → Quiet (busy_with next seq busy) m → Times set next seq busy m
   TooLate : IsLate set busy m.tick → Ends set next seq busy (RxTimeout CfLimit) m → Times set next seq busy m
 
-abbrev pub TimerRow : RxSet → RxState → Option Busy → RxMove → Type 0
+abbrev pub TimerRow : RxSet → RxState → Option Reception → RxDid → Type 0
 TimerRow set old None m = Quiet old m
 TimerRow set old (Some busy) m = Times set old.next old.seq busy m
 
 -- the flow control left: a consecutive frame is awaited from this tick on
-pub record Awaits (next seq : ℕ) (busy : Busy) (m : RxMove) : Type 0 where
+pub record Awaits (next seq : ℕ) (busy : Reception) (m : RxDid) : Type 0 where
   pub calls : m.calls ≡ []
   pub act : m.act ≡ Keeps
   pub records : m.records ≡ []
   pub new : m.new ≡ busy_with next seq (record busy { wait = Cf; since = m.tick })
 
 -- the flow control left, for a busy receiver
-pub data Leaves (next seq : ℕ) (busy : Busy) (m : RxMove) : Type 0 where
+pub data Leaves (next seq : ℕ) (busy : Reception) (m : RxDid) : Type 0 where
   FromBox : busy.wait ≡ Box → Awaits next seq busy m → Leaves next seq busy m
   NotAwaited : busy.wait ≢ Box → Quiet (busy_with next seq busy) m → Leaves next seq busy m
 
-abbrev pub LeftRow : RxState → Option Busy → RxMove → Type 0
+abbrev pub LeftRow : RxState → Option Reception → RxDid → Type 0
 LeftRow old None m = Quiet old m
 LeftRow old (Some busy) m = Leaves old.next old.seq busy m
 
 -- the run ends
-abbrev pub EndRow : RxSet → RxState → Option Busy → RxMove → Type 0
+abbrev pub EndRow : RxSet → RxState → Option Reception → RxDid → Type 0
 EndRow set old None m = Quiet old m
-EndRow set old (Some busy) m = Ends set old.next old.seq busy (RunEnd busy.wait (record { 0 = busy.since })) m
+EndRow set old (Some busy) m = Ends set old.next old.seq busy (EndOfRun busy.wait (record { 0 = busy.since })) m
 
 -- one step, by what the receiver is told
-abbrev pub RxStep : RxSet → RxState → RxInput → RxMove → Type 0
+abbrev pub RxStep : RxSet → RxState → RxEvent → RxDid → Type 0
 RxStep set old (Came size meaning) m = FrameRow set old size meaning m
-RxStep set old TimerTurn m = TimerRow set old old.busy m
-RxStep set old FlowControlLeft m = LeftRow old old.busy m
-RxStep set old RunEnds m = EndRow set old old.busy m
-
--- a take finds no free buffer, and this is its record
-pub record Refuses (set : RxSet) (next len tick : ℕ) (bytes : List ℕ) (told : SessionRecord) (calls : List Event) : Type 0 where
-  pub number : ℕ
-  pub free : ℕ
-  pub need : ℕ
-  pub need_is : need ≡ cells_of (length bytes)
-  pub calls_are : calls ≡ Refused number free need ∷ []
-  pub told_is : told ≡ refused set next len tick number free need
-
--- a part of a step: these calls made the new view of the old one, none is older than the floors, their moves are told, and the row holds of them
-pub record Over (floors : Floors) (old new : View) (moves : List Move) (Row : List Event → Type 0) : Type 0 where
-  pub calls : List Event
-  pub grown : new ≡ grows calls old
-  pub fresh : AreFresh floors old calls
-  pub moves_are : moves ≡ moves_in calls
-  pub row : Row calls
+RxStep set old Timer m = TimerRow set old old.busy m
+RxStep set old FcLeft m = LeftRow old old.busy m
+RxStep set old RunEnd m = EndRow set old old.busy m

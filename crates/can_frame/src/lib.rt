@@ -6,5 +6,5 @@ mod id;
 mod length;
 
 pub use frame::{Frame, FrameFault};
-pub use id::CanId;
-pub use length::fill_up;
+pub use id::{CanId, MAX_EXT, MAX_STD};
+pub use length::{MAX_CLASSIC, MAX_FD, fill_up};

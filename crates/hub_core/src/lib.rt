@@ -6,8 +6,6 @@ mod plain;
 mod port;
 mod record;
 mod row;
-#[cfg(test)]
-mod tests;
 mod token;
 
 pub use plain::PlainHub;

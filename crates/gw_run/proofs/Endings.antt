@@ -8,7 +8,8 @@ use Rattle.std.specs.Prelude.{option_to_list}
 use Rattle.hub_core.specs.Floors.{AreFresh, floors_of}
 use Rattle.hub_core.specs.Joint.{AreInOrder, Joint}
 use Rattle.gw_base.specs.declared.numbers.PathNo.{PathNo}
-use Rattle.hub_core.proofs.Whole.{is-joint}
+use Rattle.hub_core.proofs.Whole.{is-joint, none-missed}
+use Rattle.hub_core.specs.declared.plain.PlainHub.{PlainHub}
 use Rattle.hub_core.specs.View.{Event, Missed, Session, View, grows}
 use Rattle.hub_core.specs.declared.record.DestRecord.{DestRecord}
 use Rattle.hub_core.specs.declared.record.Move.{Move}
@@ -18,7 +19,7 @@ use Rattle.tick_clock.specs.declared.clock.Clock.{Clock}
 use Rattle.tp_attempts.specs.Seen.{Seen}
 use Rattle.tp_receiver.specs.declared.set.RxSet.{RxSet}
 use Rattle.tp_sender.specs.Sending.{Answer, Moment, Stepped, Written, calls_by as sent_calls}
-use Rattle.tp_sender.specs.State.{Sending, TxState, set_of, state_of}
+use Rattle.tp_sender.specs.State.{ActsFor as ActsForSender, Sending, TxState, set_of, state_of}
 use Rattle.tp_sender.specs.Table.{NothingStands, FindsOne, TxMove, TxRow}
 use Rattle.tp_sender.specs.declared.event.TxEvent.{TxEvent}
 use Rattle.tp_sender.specs.declared.event.TxEvent.TheVariants.{RunEnd}
@@ -26,7 +27,7 @@ use Rattle.tp_sender.specs.declared.set.TxSet.{TxSet}
 use Rattle.tp_unit.specs.Unit.{Meaning}
 use Rattle.gw_run.specs.Played.{Told}
 use Rattle.gw_run.specs.Standing.{AtBarrier, Finishes, IsQuiet, RxStands, Stands, TxStands, lying, route_with, view_in}
-use Rattle.gw_run.specs.Telling.{EndsTelling, IsOver, Tells, TellsReceiver, TellsSender}
+use Rattle.gw_run.specs.Telling.{EndsTelling, IsOver, Tells, TellsReceiver, TellsSender, means_in}
 use Rattle.gw_run.specs.declared.gateway.Gateway.{Gateway}
 use Rattle.gw_run.specs.declared.machines.Machines.{Machines}
 use Rattle.gw_run.specs.declared.machines.TheConstants.{BUDGET, BUFFER_CELLS}
@@ -67,21 +68,22 @@ none-told set next (Some s) m entered row none missed = let some = row.0.ended i
 none-told set next None m entered (NothingStands row) none missed = (row.live, omega (arith, missed next [] row.calls_are, row.next_is))
 none-told set next None m entered (FindsOne buf len more joins ends) none missed = let some = ends.ended in cc
 
-missed-fresh : (view : View) (path dest number : ℕ) (calls more : List Event) → AreFresh (floors_of view) view calls → calls ≡ Missed path dest number ∷ more → length (view.sessions path) ≤ number
-missed-fresh view path dest number calls more fresh is = let P : List Event → Type 0 = λ c. AreFresh (floors_of view) view c in (subst P is fresh).0
+missed-fresh : (hub : PlainHub) (path dest number : ℕ) (calls more : List Event) → (means_in hub).reads path dest ≡ true → AreFresh (floors_of (view_in hub)) (view_in hub) calls → calls ≡ Missed path dest number ∷ more →
+    length ((view_in hub).sessions path) ≤ number
+missed-fresh hub path dest number calls more acts fresh is = let P : List Event → Type 0 = λ c. AreFresh (floors_of (view_in hub)) (view_in hub) c in none-missed hub path dest number acts (subst P is fresh).0
 
 ended-none : (before after : List DestRecord) (ended : Option DestRecord) → after ≡ before ++ option_to_list ended → length after ≤ length before → ended ≡ None
 ended-none before after None is few = refl
 ended-none before after (Some told) is few = absurd (omega (arith, ap length is ∙ length-append before (told ∷ []), few))
 
-pub is-over : (g h : Gateway) (last : ℕ) → TellsSender g h RunEnd last (lying g.frame) g.frames → length h.dests ≤ length g.dests → IsOver h
-is-over g h last told few =
+pub is-over : (g h : Gateway) (last : ℕ) → ActsForSender (means_in g.hub) g.sender → TellsSender g h RunEnd last (lying g.frame) g.frames → length h.dests ≤ length g.dests → IsOver h
+is-over g h last acts told few =
     let move = told.move in
     let st = told.stepped in
     let next = ap (λ (s : TxState). s.next) st.state in
     let row : TxRow (set_of g.sender) (state_of g.sender).next (state_of g.sender).live (record move { event = RunEnd }) = (let P : TxEvent → Type 0 = λ e. TxRow (set_of g.sender) (state_of g.sender).next (state_of g.sender).live (record move { event = e }) in subst P st.event_is st.row) in
     let out = none-told (set_of g.sender) (state_of g.sender).next (state_of g.sender).live move (λ path. length ((view_in g.hub).sessions path)) row (ended-none g.dests h.dests move.did.ended told.dests few)
-    (λ number more is. missed-fresh (view_in g.hub) (set_of g.sender).path.0 (set_of g.sender).dest.0 number move.calls more st.fresh is) in
+    (λ number more is. missed-fresh g.hub (set_of g.sender).path.0 (set_of g.sender).dest.0 number move.calls more acts st.fresh is) in
     let joined : length ((view_in h.hub).sessions h.sender.set.path.0) ≡ length ((view_in g.hub).sessions g.sender.set.path.0) =
     ap (λ (s : ℕ → List Session). length (s h.sender.set.path.0)) st.sessions ∙ ap (λ (x : TxSet). length ((view_in g.hub).sessions x.path.0)) st.set in
     record { live = ap (λ (s : TxState). s.live) st.state ∙ out.0; joined = omega (arith, joined, next, out.1) }

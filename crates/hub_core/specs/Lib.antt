@@ -1,6 +1,8 @@
 pub mod Alone
 pub mod Calls
+pub mod Core
 pub mod Floors
+pub mod Groups
 pub mod Joint
 pub mod Moves
 pub mod Plain

@@ -1,7 +1,10 @@
 ghost use Rattle.std.specs.Prelude.{◌≡◌, ◌<◌, ◌≤◌, [], true};
 ghost use Rattle.gw_base.specs.Cell.{IsCell};
 
-use super::*;
+use hub_core::{
+    DestRecord, DestResult, End, Left, Move, OpenedAt, PlainHub, Port, Room, Seen, SessionRecord,
+    SessionResult, Take,
+};
 use gw_base::{BufNo, ChanNo, DestNo, PathNo, Tick};
 use std::test::Fail;
 
@@ -29,7 +32,7 @@ struct Carried {
 }
 
 /// Carries four cells of seven bytes through a session of any port whose buffer has room for two of them at a time.
-#[tactic(auto, using(crate::proofs::Growing::writes_kept, crate::proofs::Growing::reads_kept))]
+#[tactic(auto, using(hub_core::proofs::Growing::writes_kept, hub_core::proofs::Growing::reads_kept))]
 fn carry_four<P: Port>(port: &mut P, cells: (u64, u64, u64, u64)) -> Option<Carried>
     requires takes { 1 < (P.means port.old).takes }
     requires spare { 3 < (P.means port.old).spare }

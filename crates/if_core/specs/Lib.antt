@@ -1,0 +1,6 @@
+pub mod Unit
+pub mod Lane
+pub mod Props
+pub mod Calls
+pub mod Past
+pub mod Alone

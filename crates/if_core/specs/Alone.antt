@@ -24,8 +24,21 @@ if_there f other (Some queue) = f queue
 abbrev pub by_path : {A : Type 0} → (PlainQueue → A) → A → List PlainQueue → ℕ → A
 by_path f other queues path = if_there f other (slice_get queues path)
 
+-- what was done with a queue
 abbrev pub past_of : PlainQueue → Lane
 past_of queue = lane_of queue.past.seat.me.0
+
+-- a queue of a depth and a kind with which nothing was done
+abbrev pub IsNew : ℕ × Bool → PlainQueue → Type 0
+IsNew kind queue = (past_of queue ≡ empty_lane) × (queue.depth ≡ kind.0) × (queue.keep ≡ kind.1)
+
+-- each queue that has a kind is a new one of it
+abbrev pub EachIsNew : List (ℕ × Bool) → List PlainQueue → Type 0
+EachIsNew kinds queues = (path : ℕ) (kind : ℕ × Bool) (queue : PlainQueue) → slice_get kinds path ≡ Some kind → slice_get queues path ≡ Some queue → IsNew kind queue
+
+-- for each kind there is a new queue, and there are no others
+abbrev pub AreNew : List (ℕ × Bool) → List PlainQueue → Type 0
+AreNew kinds queues = (length queues ≡ length kinds) × EachIsNew kinds queues
 
 abbrev pub view_of : List PlainQueue → View
 view_of queues = by_path past_of empty_lane queues
@@ -44,4 +57,18 @@ floors_of queues = record {
   position = by_path (λ queue. queue.position) 0 queues;
   gone = by_path (λ queue. queue.position) 0 queues;
   count = by_path (λ queue. queue.count) 0 queues;
+}
+
+abbrev pub if_given : {A : Type 0} → (ℕ × Bool → A) → A → Option (ℕ × Bool) → A
+if_given f other None = other
+if_given f other (Some kind) = f kind
+
+-- what a port of that many queues may do, each given by its depth and whether it keeps what it has: all
+abbrev pub plain_means : List (ℕ × Bool) → Means
+plain_means kinds = record {
+  depth = λ path. if_given (λ kind. kind.0) 0 (slice_get kinds path);
+  keep = λ path. if_given (λ kind. kind.1) false (slice_get kinds path);
+  offers = λ path. if_given (λ kind. true) false (slice_get kinds path);
+  takes = λ path. if_given (λ kind. true) false (slice_get kinds path);
+  whole = λ path. if_given (λ kind. true) false (slice_get kinds path);
 }

@@ -2,15 +2,15 @@
 //! the law of both ends of a queue, and queues on one thread.
 #![tactic(auto)]
 
+mod fates;
 mod history;
 mod lanes;
 mod plain;
-
 mod queue;
 mod unit;
 
+pub use fates::fates_law;
 pub use history::{Offering, Taking};
 pub use lanes::{Lanes, Offer};
 pub use plain::PlainLanes;
-
 pub use unit::IfUnit;

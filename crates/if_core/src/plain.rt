@@ -1,5 +1,6 @@
 //! Queues of interface paths on one thread.
-ghost use Rattle.std.specs.Prelude.{◌≡◌, ◌<◌, ◌≤◌, true, All, IfOk, Some, slice_get};
+ghost use Rattle.std.specs.Prelude.{◌≤◌, All, IfOk};
+ghost use Rattle.if_core.specs.Alone.{AreNew};
 
 use crate::queue::PlainQueue;
 use crate::{IfUnit, Lanes, Offer};
@@ -13,6 +14,37 @@ use std::alloc::Global;
 #[derive(Drop)]
 pub struct PlainLanes {
     queues: Vec<PlainQueue>,
+}
+
+impl PlainLanes {
+    ghost use Rattle.std.specs.Prelude.{◌≡◌, ◌≤◌, ℕ, All, IfOk};
+    ghost use Rattle.if_core.specs.Alone.{plain_means};
+    ghost use Rattle.if_core.specs.Lane.{empty_lane};
+
+    /// An empty queue for each path: its depth in units, 1 to 64, and whether it keeps what it has. It takes no memory
+    /// later. `Memory` where a growth was refused.
+    pub fn new(alloc: Global, queues: &[(u32, bool)]) -> Result<PlainLanes, Memory>
+        requires depths { All (λ kind. (1 ≤ kind.0) × (kind.0 ≤ 64)) queues.now }
+        ensures view { IfOk result (λ lanes. (path : ℕ) → ⟦<PlainLanes as Lanes>⟧.view lanes path ≡ empty_lane) }
+        ensures means { IfOk result (λ lanes. ⟦<PlainLanes as Lanes>⟧.means lanes ≡ plain_means queues.now) }
+    {
+        Ok(PlainLanes {
+            queues: empty_queues(alloc, queues)?,
+        })
+    }
+}
+
+/// An empty queue of each kind, in order.
+fn empty_queues(alloc: Global, kinds: &[(u32, bool)]) -> Result<Vec<PlainQueue>, Memory>
+    requires { All (λ kind. (1 ≤ kind.0) × (kind.0 ≤ 64)) kinds.now }
+    ensures { IfOk result (λ queues. AreNew kinds.now queues.items) }
+{
+    let mut queues = Vec::with_capacity(alloc, kinds.len())?;
+    for at in 0..kinds.len() {
+        let (depth, keep) = kinds[at];
+        queues.push(PlainQueue::new(alloc, u64::from(depth), keep)?)?;
+    }
+    Ok(queues)
 }
 
 impl Lanes for PlainLanes {

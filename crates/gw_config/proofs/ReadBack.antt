@@ -12,7 +12,7 @@ use Rattle.gw_settings.specs.Tree.{element_at, elements, entry_of}
 use Rattle.gw_config.specs.declared.words.Addressing.TheVariants.{Normal, Extended, Mixed}
 use Rattle.gw_config.specs.declared.words.Addressing.{Addressing}
 use Rattle.gw_config.specs.declared.words.QueueKind.{QueueKind}
-use Rattle.gw_config.specs.declared.words.QueueKind.TheVariants.{Fifo, Last}
+use Rattle.gw_config.specs.declared.words.QueueKind.TheVariants.{Fifo, Last, Keep}
 use Rattle.gw_config.specs.declared.words.Role.{Role}
 use Rattle.gw_config.specs.declared.words.Role.TheVariants.{Receive, Send}
 use Rattle.gw_config.specs.Config.{BusEntry, ChannelEntry, PathEntry, InterfaceEntry, CancelEntry}
@@ -58,6 +58,7 @@ each_back show IsLawful read get back (value ∷ values) first lawful stand =
 queue_back : (queue : QueueKind) → queue_of (queue_text queue) ≡ Some queue
 queue_back Fifo = refl
 queue_back Last = refl
+queue_back Keep = refl
 
 role_back : (role : Role) → role_of (role_text role) ≡ Some role
 role_back Receive = refl

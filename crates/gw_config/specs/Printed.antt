@@ -10,7 +10,7 @@ use Rattle.gw_config.specs.declared.words.Mode.TheVariants.{Serial, Threads}
 use Rattle.gw_config.specs.declared.words.Addressing.{Addressing}
 use Rattle.gw_config.specs.declared.words.Addressing.TheVariants.{Normal, Extended, Mixed}
 use Rattle.gw_config.specs.declared.words.QueueKind.{QueueKind}
-use Rattle.gw_config.specs.declared.words.QueueKind.TheVariants.{Fifo, Last}
+use Rattle.gw_config.specs.declared.words.QueueKind.TheVariants.{Fifo, Last, Keep}
 use Rattle.gw_config.specs.declared.words.Role.{Role}
 use Rattle.gw_config.specs.declared.words.Role.TheVariants.{Receive, Send}
 use Rattle.gw_config.specs.Puts.{put, put_some}
@@ -39,6 +39,7 @@ addressing_text Mixed = codes "mixed"
 abbrev pub queue_text : QueueKind → List ℕ
 queue_text Fifo = codes "fifo"
 queue_text Last = codes "last"
+queue_text Keep = codes "keep"
 
 abbrev pub role_text : Role → List ℕ
 role_text Receive = codes "receive"

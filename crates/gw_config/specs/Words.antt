@@ -10,7 +10,7 @@ use Rattle.gw_config.specs.declared.words.Mode.TheVariants.{Serial, Threads}
 use Rattle.gw_config.specs.declared.words.Addressing.{Addressing}
 use Rattle.gw_config.specs.declared.words.Addressing.TheVariants.{Normal, Extended, Mixed}
 use Rattle.gw_config.specs.declared.words.QueueKind.{QueueKind}
-use Rattle.gw_config.specs.declared.words.QueueKind.TheVariants.{Fifo, Last}
+use Rattle.gw_config.specs.declared.words.QueueKind.TheVariants.{Fifo, Last, Keep}
 use Rattle.gw_config.specs.declared.words.Role.{Role}
 use Rattle.gw_config.specs.declared.words.Role.TheVariants.{Receive, Send}
 
@@ -24,7 +24,7 @@ addressing_of word = if bytes_eq word (codes "normal") then Some Normal else if 
 
 -- a kind of queue, by its word
 abbrev pub queue_of : List ℕ → Option QueueKind
-queue_of word = if bytes_eq word (codes "fifo") then Some Fifo else if bytes_eq word (codes "last") then Some Last else None
+queue_of word = if bytes_eq word (codes "fifo") then Some Fifo else if bytes_eq word (codes "last") then Some Last else if bytes_eq word (codes "keep") then Some Keep else None
 
 -- the side that a cancellation ends, by its word
 abbrev pub role_of : List ℕ → Option Role

@@ -29,10 +29,12 @@ pub enum Addressing {
 /// What an interface path's queue keeps.
 #[derive(Clone, Copy, Debug, PartialEq, Eq)]
 pub enum QueueKind {
-    /// As many units as its depth.
+    /// As many units as its depth; a full queue gives way to a new unit.
     Fifo,
     /// The last unit alone.
     Last,
+    /// As many units as its depth; a full queue refuses a new unit.
+    Keep,
 }
 
 /// The side of a path that a cancellation ends.
@@ -96,6 +98,7 @@ impl Word for QueueKind {
         match word {
             "fifo" => Some(QueueKind::Fifo),
             "last" => Some(QueueKind::Last),
+            "keep" => Some(QueueKind::Keep),
             _ => None,
         }
     }
@@ -208,6 +211,7 @@ impl QueueKind {
         match self {
             QueueKind::Fifo => "fifo",
             QueueKind::Last => "last",
+            QueueKind::Keep => "keep",
         }
     }
 }

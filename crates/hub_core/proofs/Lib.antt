@@ -5,6 +5,7 @@ mod Exact
 mod Grouped
 mod Journal
 mod Keeps
+mod Merging
 mod Numbered
 mod OneView
 mod Owned
@@ -13,6 +14,7 @@ mod Party
 mod Places
 mod Streamed
 mod Streams
+pub mod Beside
 pub mod Fresh
 pub mod Growing
 pub mod Whole

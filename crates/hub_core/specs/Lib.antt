@@ -4,6 +4,7 @@ pub mod Core
 pub mod Floors
 pub mod Groups
 pub mod Joint
+pub mod Parts
 pub mod Plain
 pub mod Records
 pub mod Tokens

@@ -1,5 +1,5 @@
 -- The run's end: both machines are told, and the whole run is one.
-use Rattle.std.proofs.Common.{◌≡◌, ◌⊎◌, ℕ, zero, suc, ◌+◌, ◌-◌, ◌*◌, ◌<◌, ◌≤◌, Option, Some, None, List, [], ◌∷◌, ◌++◌, length, refl, sym, subst, ap, ◌∙◌, append-nil, length-append, arith}
+use Rattle.std.proofs.Common.{◌≡◌, ◌⊎◌, ℕ, zero, suc, true, ◌+◌, ◌-◌, ◌*◌, ◌<◌, ◌≤◌, Option, Some, None, List, [], ◌∷◌, ◌++◌, length, refl, sym, subst, ap, ◌∙◌, append-nil, length-append, arith}
 use Rattle.std.specs.Prelude.{option_to_list}
 use Rattle.hub_core.specs.Floors.{AreFresh, floors_of}
 use Rattle.hub_core.specs.Joint.{AreInOrder, Joint}

@@ -7,6 +7,7 @@ mod Journal
 mod Keeps
 mod Merging
 mod Numbered
+mod OneGroup
 mod OneView
 mod Owned
 mod Owning

@@ -1,4 +1,4 @@
-ghost use Rattle.hub_core.specs.Core.{CoreLaw};
+ghost use Rattle.hub_core.specs.Core.{CoreLaw, OneGroupLaw};
 ghost use Rattle.hub_core.specs.Parts.{AgainLaw, JoinLaw, MergingLaw};
 
 /// After every list of steps, by any parties in any order, over any groups of buffers, paths and destinations, the views
@@ -6,6 +6,12 @@ ghost use Rattle.hub_core.specs.Parts.{AgainLaw, JoinLaw, MergingLaw};
 #[tactic(auto, using(crate::proofs::EveryStep::core))]
 pub fn core_law()
     ensures { CoreLaw }
+{}
+
+/// Over one group, where no buffer waits for its free, the law says that the view of all ports is joint.
+#[tactic(auto, using(crate::proofs::OneGroup::law))]
+pub fn one_group_law()
+    ensures { OneGroupLaw }
 {}
 
 /// Views that were divided among parts and are joined again are what one view would be that had all events, one part's

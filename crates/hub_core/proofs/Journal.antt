@@ -8,7 +8,6 @@ use Rattle.std.proofs.lemmas.Option.{slice_get-get_or, slice_get_within, get_or_
 use Rattle.std.proofs.Math.ListN.{get_or-append}
 use Rattle.std.specs.Prelude.{slice_get, ◌==◌, if◌then◌else◌, IsBitSet}
 use Rattle.gw_base.specs.Fit.{IsSmallest}
-use Rattle.hub_core.proofs.Numbered.{own-numbers}
 use Rattle.hub_core.specs.Joint.{CountsFrom, AreInOrder, number_of, numbered, moved, replay, IsLawful, IsOverflow, IsJournal}
 use Rattle.hub_core.specs.Plain.{Moves, IsMove, IsRefused, change_of, refusal_of, number_in, takes_in, free_set, take_in, taken, left_by, hub_view}
 use Rattle.hub_core.specs.declared.row.ChangeRow.{ChangeRow}
@@ -140,7 +139,6 @@ hub-journal size place past changes refused cells count free moves all set = rec
       let found = row-at size changes at moves.each (omega arith) in
       let P : ℕ → Type 0 = λ f. IsLawful (size ∷ []) f (change_of found.0) in
       (change_of found.0, found.1, subst P (sym (replay-is size changes at moves.each (omega arith))) (lawful size found.0 at found.2));
-  own = own-numbers (map change_of changes) (in-order size place changes refused past moves);
   overflows = All-map (IsOverflow (size ∷ []) (map change_of changes)) refusal_of refused (All-weaker (IsRefused size (length changes)) (λ row. IsOverflow (size ∷ []) (map change_of changes) (refusal_of row)) (λ row is. overflow-is size changes row moves.each is) refused moves.refused);
 }
 

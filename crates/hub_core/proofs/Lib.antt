@@ -6,7 +6,6 @@ mod Grouped
 mod Journal
 mod Keeps
 mod Merging
-mod Numbered
 mod OneGroup
 mod OneView
 mod Owned
@@ -18,4 +17,5 @@ mod Streams
 pub mod Beside
 pub mod Fresh
 pub mod Growing
+pub mod Numbered
 pub mod Whole

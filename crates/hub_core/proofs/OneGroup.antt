@@ -96,7 +96,6 @@ module _ (sizes : List ℕ) (h : HubState) (joint : AreJoint (sizes ∷ []) h) w
     count_is = refl;
     free_is = refl;
     each = subst (λ (l : List Change). (number : ℕ) → number < length l → (change : Change) × (numbered l (number + 1) ≡ Some change) × IsLawful sizes (replay sizes l number) change) same mine.each;
-    own = subst (λ (l : List Change). All (λ change. numbered l (number_of change) ≡ Some change) l) same mine.own;
     overflows = subst (All (IsOverflow sizes v.changes)) (sym all) (subst (λ (l : List Change). All (IsOverflow sizes l) (h.refused 0)) same mine.overflows);
   }
 

@@ -49,8 +49,6 @@ pub record IsJournal (sizes : List ℕ) (count free : ℕ) (v : View) : Type 0 w
   pub count_is : count ≡ length v.changes
   pub free_is : free ≡ replay sizes v.changes count
   pub each : (number : ℕ) → number < count → (change : Change) × (numbered v.changes (number + 1) ≡ Some change) × IsLawful sizes (replay sizes v.changes number) change
-  -- each change is found by its number
-  pub own : All (λ change. numbered v.changes (number_of change) ≡ Some change) v.changes
   pub overflows : All (IsOverflow sizes v.changes) v.refused
 
 -- a session is in order: no more is published than was put, and no more was put than its unit's length

@@ -1,13 +1,13 @@
 -- With one group its journal is that of all changes, and the law speaks in the words of a port.
-use Rattle.std.proofs.Common.{◌≡◌, ℕ, suc, ◌+◌, ◌<◌, ◌≤◌, ◌⊎◌, inl, inr, Bool, true, false, List, [], ◌∷◌, ◌++◌, length, Some, None, All, refl, ap, sym, ◌∙◌, subst, arith}
+use Rattle.std.proofs.Common.{◌≡◌, ℕ, ◌+◌, ◌<◌, inl, inr, List, [], ◌∷◌, ◌++◌, length, Some, None, All, refl, ap, sym, ◌∙◌, subst, arith}
 use Rattle.std.proofs.lemmas.Bool.{cases_lt}
 use Rattle.std.specs.Prelude.{◌==◌, slice_get, if◌then◌else◌}
 use Rattle.hub_core.proofs.EveryStep.{core}
 use Rattle.hub_core.proofs.Grouped.{first-group, later-group}
 use Rattle.hub_core.specs.Core.{HubState, opening, Step, Takes, Refuses, Does, Frees, after, May, Leads, AreJoint, IsQuiet, OneGroupLaw}
 use Rattle.hub_core.specs.Groups.{group_of, place_of, sizes_of, in_group, journal_of}
-use Rattle.hub_core.specs.Joint.{number_of, numbered, replay, IsLawful, IsOverflow, IsJournal, AreOwned, ChangesBuf, IsNextChange, Joint, changed_buf}
-use Rattle.hub_core.specs.View.{View, Change, Taken, Freed, Session, Event, session_at, grow}
+use Rattle.hub_core.specs.Joint.{numbered, replay, IsLawful, IsOverflow, IsJournal, AreOwned, ChangesBuf, IsNextChange, changed_buf}
+use Rattle.hub_core.specs.View.{View, Change, Taken, Freed, Session, session_at, grow}
 use Rattle.hub_core.specs.View.{Took, Refused, Entered, Asked, Put, Published, Joining, Missed, Saw, Read, Closed, Parted}
 
 -- with one group its overflows are all there are

@@ -1,5 +1,5 @@
 -- The plain machine of sessions: its steps, when each may happen, and what all views together are after every list of steps.
-use Rattle.std.specs.Prelude.{◌≡◌, ℕ, ◌+◌, ◌<◌, ◌≤◌, ◌⊎◌, true, false, List, [], ◌∷◌, ◌++◌, length, take, slice_get, All, Some, None}
+use Rattle.std.specs.Prelude.{◌≡◌, ℕ, ◌+◌, ◌<◌, ◌≤◌, ◌⊎◌, true, false, List, [], ◌∷◌, ◌++◌, length, take, slice_get, All, Some}
 use Rattle.gw_base.specs.Cell.{IsCell, count_of, counted}
 use Rattle.gw_base.specs.Fit.{IsSmallest, NoneFits}
 use Rattle.hub_core.specs.Groups.{group_of, place_of, sizes_of, changes_in, free_in}

@@ -1,6 +1,6 @@
 -- Views that are divided by parties and joined again: what goes with whom, and what the joined view is.
 use Rattle.std.specs.Prelude.{◌≡◌, ℕ, Bool, true, false, if◌then◌else◌, List, [], ◌∷◌, ◌++◌, Option, Some, None}
-use Rattle.hub_core.specs.View.{View, Event, Taking, empty_view, grows, Took, Refused, Entered, Asked, Put, Published, Joining, Missed, Saw, Read, Closed, Parted}
+use Rattle.hub_core.specs.View.{View, Event, empty_view, grows, Took, Refused, Entered, Asked, Put, Published, Joining, Missed, Saw, Read, Closed, Parted}
 
 -- parties: writers of paths, and destinations of paths
 pub record Part : Type 0 where

@@ -1,14 +1,14 @@
 -- The examples, step by step.
-use Rattle.std.proofs.Common.{◌≡◌, ◌≢◌, ℕ, zero, suc, ◌+◌, ◌<◌, ◌≤◌, inl, inr, Bool, true, false, true≢false, List, [], ◌∷◌, ◌++◌, length, Option, Some, None, refl, ap, sym, ◌∙◌, subst, arith}
+use Rattle.std.proofs.Common.{◌≡◌, ℕ, zero, suc, ◌<◌, ◌≤◌, inl, inr, Bool, true≢false, List, [], ◌∷◌, ◌++◌, length, Option, Some, None, refl, ap, sym, ◌∙◌, subst, arith}
 use Rattle.std.proofs.lemmas.Bool.{ne_eqb}
 use Rattle.std.proofs.lemmas.Bool.Decides.{eqb_tells}
 use Rattle.std.proofs.lemmas.Option.{slice_get_within}
-use Rattle.std.specs.Prelude.{if◌then◌else◌, slice_get, slice_index, IsBitSet}
+use Rattle.std.specs.Prelude.{if◌then◌else◌, slice_index, IsBitSet}
 use Rattle.gw_base.specs.Cell.{IsCell}
-use Rattle.gw_base.specs.Fit.{Fits, IsSmallest, NoneFits}
-use Rattle.hub_core.specs.Core.{HubState, opening, Step, Takes, Refuses, Does, Frees, after, May, MayDo, MayTake, MayRefuse, MayFree, Leads, AreJoint, CoreLaw}
+use Rattle.gw_base.specs.Fit.{Fits, IsSmallest}
+use Rattle.hub_core.specs.Core.{HubState, opening, Step, Takes, Does, Frees, after, May, MayFree, Leads, CoreLaw}
 use Rattle.hub_core.specs.Joint.{ChangesBuf, HasLeft}
-use Rattle.hub_core.specs.View.{Session, Reading, Taken, Freed, Entered, Asked, Put, Published, Joining, Saw, Read, Closed, Parted, session_at, reading_at, grow}
+use Rattle.hub_core.specs.View.{Session, Taken, Asked, Put, Joining, Closed, Parted, session_at, grow}
 use Rattle.hub_core_tests.specs.Examples.{done, two_groups, first_path, second_path, end_of_first, standing, ended, TwoPathsOverTwoGroups, Stays, one_group, two_sessions, filling, full, MistakesAreRefused}
 
 -- each step of a list may happen, one after another

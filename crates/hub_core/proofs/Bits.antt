@@ -1,10 +1,10 @@
 -- The bits of a free set: a take clears its buffer's bit, a free sets its buffer's, and each leaves the others.
-use Rattle.std.proofs.Common.{◌≡◌, ◌≢◌, ℕ, zero, suc, ◌+◌, ◌-◌, ◌/◌, ◌%◌, ◌^◌, ◌<◌, ◌≤◌, inl, inr, refl, ap, sym, ◌∙◌, arith}
+use Rattle.std.proofs.Common.{◌≡◌, ◌≢◌, ℕ, zero, suc, ◌+◌, ◌-◌, ◌/◌, ◌%◌, ◌^◌, ◌≤◌, inl, inr, refl, ap, sym, ◌∙◌, arith}
 use Rattle.std.proofs.Math.Nat.{pow-suc, pow-succ', div-div-eq-div-mul}
 use Rattle.std.proofs.lemmas.Bool.{cases_lt}
 use Rattle.std.proofs.lemmas.Grind.{and_numeral}
 use Rattle.std.proofs.lemmas.Nat.{bit_set_by_shift}
-use Rattle.std.specs.Prelude.{IsBitSet, bit_and}
+use Rattle.std.specs.Prelude.{IsBitSet}
 
 -- the binary digits of a number, from the lowest
 abbrev digit : ℕ → ℕ → ℕ

@@ -1,9 +1,9 @@
 -- Each step of the machine that may happen keeps all that its law says.
-use Rattle.std.proofs.Common.{◌≡◌, ℕ, ◌+◌, ◌-◌, ◌<◌, ◌≤◌, ◌⊎◌, inl, inr, Bool, false, List, [], ◌∷◌, ◌++◌, length, Option, Some, None, All, refl, ap, sym, ◌∙◌, subst, arith, append-nil}
+use Rattle.std.proofs.Common.{◌≡◌, ℕ, ◌+◌, ◌-◌, inl, inr, Bool, false, List, [], ◌∷◌, ◌++◌, length, Option, Some, All, refl, ap, sym, ◌∙◌, subst, arith, append-nil}
 use Rattle.std.proofs.lemmas.Bool.Decides.{eqb_tells}
 use Rattle.std.proofs.lemmas.List.Elements.{All-nil, All-push}
 use Rattle.std.proofs.lemmas.Option.{slice_get_within}
-use Rattle.std.specs.Prelude.{slice_get, if◌then◌else◌, IsBitSet}
+use Rattle.std.specs.Prelude.{slice_get, if◌then◌else◌}
 use Rattle.gw_base.specs.Fit.{IsSmallest}
 use Rattle.hub_core.proofs.Grouped.{Journals, IsNext, journals-pushed, overflows-pushed}
 use Rattle.hub_core.proofs.Numbered.{own-numbers, taken-clear}
@@ -12,8 +12,8 @@ use Rattle.hub_core.proofs.Streamed.{Streamed, put, asked, published, closed, sa
 use Rattle.hub_core.specs.Core.{HubState, opening, Step, after, May, MayDo, MayTake, MayRefuse, MayFree, Leads, AreJoint, CoreLaw}
 use Rattle.hub_core.specs.Core.{Takes as TakesStep, Refuses, Does, Frees}
 use Rattle.hub_core.specs.Groups.{group_of, place_of, sizes_of, journal_of, changes_in, free_in}
-use Rattle.hub_core.specs.Joint.{replay, IsOverflow, numbered}
-use Rattle.hub_core.specs.View.{View, Change, Taken, Freed, Taking, Refusal, Session, Reading, Event, at_one, session_at, reading_at, reading_new, grow}
+use Rattle.hub_core.specs.Joint.{replay, IsOverflow}
+use Rattle.hub_core.specs.View.{View, Change, Taken, Freed, Taking, Refusal, Session, Event, reading_new, grow}
 use Rattle.hub_core.specs.View.{Took, Refused, Entered, Asked, Put, Published, Joining, Missed, Saw, Read, Closed, Parted}
 
 pub record Lawful (groups : List (List ℕ)) (h : HubState) : Type 0 where

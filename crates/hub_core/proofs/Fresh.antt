@@ -6,7 +6,7 @@ use Rattle.std.proofs.lemmas.Option.{slice_get_cases}
 use Rattle.std.specs.Prelude.{slice_get, if◌then◌else◌, nat_lt}
 use Rattle.gw_base.specs.Cell.{counted}
 use Rattle.hub_core.specs.Alone.{IsRoomOf, IsNextOf, IsSeenOf}
-use Rattle.hub_core.specs.Floors.{Floors, Rise, IsRoomFresh, IsFresh, AreFresh, staying, number_in, has_left, is_for, floors_of}
+use Rattle.hub_core.specs.Floors.{Floors, Rise, IsFresh, AreFresh, staying, number_in, has_left, is_for, floors_of}
 use Rattle.hub_core.specs.Joint.{IsStream, AreStreams, position}
 use Rattle.hub_core.specs.View.{View, Event, Taken, Session, Reading, at_one, at_two, change_at, session_new, reading_new, session_at, reading_at, grow, grows}
 use Rattle.hub_core.specs.View.{Took, Refused, Entered, Asked, Put, Published, Joining, Missed, Saw, Read, Closed, Parted}

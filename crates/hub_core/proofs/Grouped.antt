@@ -9,11 +9,11 @@ use Rattle.hub_core.specs.Joint.{AreInOrder, number_of, numbered, replay, IsLawf
 use Rattle.hub_core.specs.View.{Change, Taken, Freed, Refusal}
 
 -- a buffer of the first group, and one of a later group
-first-group : (sizes : List ℕ) (groups : List (List ℕ)) (buf : ℕ) → buf < length sizes → (group_of (sizes ∷ groups) buf ≡ 0) × (place_of (sizes ∷ groups) buf ≡ buf)
+pub first-group : (sizes : List ℕ) (groups : List (List ℕ)) (buf : ℕ) → buf < length sizes → (group_of (sizes ∷ groups) buf ≡ 0) × (place_of (sizes ∷ groups) buf ≡ buf)
 first-group sizes groups buf below =
     (ap (λ (b : Bool). if b then 0 else suc (group_of groups (buf - length sizes))) (lt-ltb buf (length sizes) below), ap (λ (b : Bool). if b then buf else place_of groups (buf - length sizes)) (lt-ltb buf (length sizes) below))
 
-later-group : (sizes : List ℕ) (groups : List (List ℕ)) (buf : ℕ) → length sizes ≤ buf → (group_of (sizes ∷ groups) buf ≡ suc (group_of groups (buf - length sizes))) × (place_of (sizes ∷ groups) buf ≡ place_of groups (buf - length sizes))
+pub later-group : (sizes : List ℕ) (groups : List (List ℕ)) (buf : ℕ) → length sizes ≤ buf → (group_of (sizes ∷ groups) buf ≡ suc (group_of groups (buf - length sizes))) × (place_of (sizes ∷ groups) buf ≡ place_of groups (buf - length sizes))
 later-group sizes groups buf past =
     (ap (λ (b : Bool). if b then 0 else suc (group_of groups (buf - length sizes))) (le-ltb buf (length sizes) past), ap (λ (b : Bool). if b then buf else place_of groups (buf - length sizes)) (le-ltb buf (length sizes) past))
 

@@ -5,7 +5,8 @@ mod Exact
 mod Grouped
 mod Journal
 mod Keeps
-mod Numbered
+mod Merging
+mod OneGroup
 mod OneView
 mod Owned
 mod Owning
@@ -13,7 +14,9 @@ mod Party
 mod Places
 mod Streamed
 mod Streams
+pub mod Beside
 pub mod Fresh
 pub mod Growing
 pub mod Turns
+pub mod Numbered
 pub mod Whole

@@ -1,17 +1,16 @@
 -- Who has each buffer: as one more change comes, as a session is entered, and as parties go on.
-use Rattle.std.proofs.Common.{◌≡◌, ◌≢◌, ℕ, ◌+◌, ◌<◌, ◌≤◌, ◌⊎◌, inl, inr, Bool, true, false, true≢false, List, [], ◌∷◌, ◌++◌, length, Option, Some, None, refl, ap, sym, ◌∙◌, subst, arith}
+use Rattle.std.proofs.Common.{◌≡◌, ◌≢◌, ℕ, ◌<◌, ◌≤◌, ◌⊎◌, inl, inr, Bool, true, false, true≢false, List, [], ◌∷◌, ◌++◌, length, Option, Some, None, refl, ap, sym, ◌∙◌, subst, arith}
 use Rattle.std.proofs.lemmas.Bool.{cases_lt}
 use Rattle.std.proofs.lemmas.Bool.Decides.{eqb_tells}
 use Rattle.std.proofs.lemmas.Option.{slice_get_past}
 use Rattle.std.specs.Prelude.{◌==◌, slice_get, option_map, if◌then◌else◌, IsBitSet}
-use Rattle.gw_base.specs.Fit.{IsSmallest}
 use Rattle.hub_core.proofs.Grouped.{Journals, IsNext, same-buffer, found-old, found-back, found-new, found-below, buffer-old, buffer-back}
-use Rattle.hub_core.proofs.Numbered.{taken-clear, within}
+use Rattle.hub_core.proofs.Numbered.{taken-clear}
 use Rattle.hub_core.proofs.Places.{mapped, session-now, session-pushed, reading-now, reading-pushed}
 use Rattle.hub_core.specs.Core.{IsSessionOf}
 use Rattle.hub_core.specs.Groups.{group_of, place_of, sizes_of, journal_of}
 use Rattle.hub_core.specs.Joint.{numbered, replay, changed_buf, ChangesBuf, IsNextChange, HasLeft, IsOver}
-use Rattle.hub_core.specs.View.{View, Change, Taken, Freed, Taking, Session, Reading, at_one, at_two, change_at, session_at, reading_at, session_new, reading_new}
+use Rattle.hub_core.specs.View.{View, Change, Taken, Freed, Taking, Session, Reading, at_one, at_two, change_at, session_at, reading_at, session_new}
 
 -- the change of that number took the buffer, which has so many cells
 pub record Takes (groups : List (List ℕ)) (changes : List Change) (buf number size : ℕ) : Type 0 where

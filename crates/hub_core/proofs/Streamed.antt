@@ -1,5 +1,5 @@
 -- Each call of a party that may happen keeps all sessions in order.
-use Rattle.std.proofs.Common.{◌≡◌, ◌≢◌, ℕ, zero, suc, ◌+◌, ◌-◌, ◌<◌, ◌≤◌, ◌⊎◌, inl, inr, Bool, true, false, true≢false, List, [], ◌∷◌, ◌++◌, length, take, drop, get_or, Option, Some, None, refl, ap, sym, ◌∙◌, subst, arith, length-append}
+use Rattle.std.proofs.Common.{◌≡◌, ℕ, ◌+◌, ◌-◌, ◌<◌, ◌≤◌, ◌⊎◌, inl, inr, Bool, true, false, true≢false, List, [], ◌∷◌, ◌++◌, length, take, drop, get_or, Option, Some, None, refl, ap, sym, ◌∙◌, subst, arith, length-append}
 use Rattle.std.proofs.lemmas.List.{take-append-le, take_all}
 use Rattle.std.proofs.lemmas.List.Sums.{sum_by_push}
 use Rattle.std.proofs.lemmas.Option.{slice_get_past}
@@ -7,7 +7,7 @@ use Rattle.std.specs.Prelude.{slice_get, option_map}
 use Rattle.gw_base.specs.Cell.{count_of, counted}
 use Rattle.hub_core.proofs.Places.{mapped, session-now, session-pushed, reading-now, reading-pushed}
 use Rattle.hub_core.specs.Core.{MayDo}
-use Rattle.hub_core.specs.Joint.{IsWritten, IsStream, AreStreams, HasLeft, HasLeftWriter, HasRoom, position}
+use Rattle.hub_core.specs.Joint.{IsWritten, IsStream, AreStreams, HasLeftWriter, HasRoom, position}
 use Rattle.hub_core.specs.View.{View, Session, Reading, at_one, at_two, change_at, session_at, reading_at, session_new, reading_new, grow, Entered, Joining, Put, Published, Asked, Saw, Read, Closed, Parted}
 
 -- the streams of a view, whose destinations join, and what each writer knows of the room and of the destinations

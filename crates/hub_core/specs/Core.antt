@@ -1,9 +1,9 @@
 -- The plain machine of sessions: its steps, when each may happen, and what all views together are after every list of steps.
-use Rattle.std.specs.Prelude.{◌≡◌, ℕ, ◌+◌, ◌<◌, ◌≤◌, ◌⊎◌, true, false, List, [], ◌∷◌, ◌++◌, length, take, slice_get, All, Some, None}
+use Rattle.std.specs.Prelude.{◌≡◌, ℕ, ◌+◌, ◌<◌, ◌≤◌, ◌⊎◌, true, false, List, [], ◌∷◌, ◌++◌, length, take, slice_get, All, Some}
 use Rattle.gw_base.specs.Cell.{IsCell, count_of, counted}
 use Rattle.gw_base.specs.Fit.{IsSmallest, NoneFits}
 use Rattle.hub_core.specs.Groups.{group_of, place_of, sizes_of, changes_in, free_in}
-use Rattle.hub_core.specs.Joint.{AreInOrder, number_of, numbered, replay, IsLawful, IsOverflow, AreStreams, ChangesBuf, IsNextChange, HasLeft, HasLeftWriter, HasNoReaders, HasRoom, IsOver, position}
+use Rattle.hub_core.specs.Joint.{AreInOrder, number_of, numbered, replay, IsLawful, IsOverflow, AreStreams, ChangesBuf, IsNextChange, HasLeft, HasLeftWriter, HasNoReaders, HasRoom, IsOver, Joint, position}
 use Rattle.hub_core.specs.View.{View, Change, Taken, Freed, Refusal, Session, Reading, Event, at_one, session_at, reading_at, grow, empty_view}
 use Rattle.hub_core.specs.View.{Took, Refused, Entered, Asked, Put, Published, Joining, Missed, Saw, Read, Closed, Parted}
 
@@ -198,3 +198,8 @@ pub record AreJoint (groups : List (List ℕ)) (h : HubState) : Type 0 where
 -- after every list of steps, by any parties in any order, over any groups of buffers, paths and destinations
 abbrev pub CoreLaw : Type 0
 CoreLaw = (groups : List (List ℕ)) (steps : List Step) (h : HubState) → Leads groups opening steps h → AreJoint groups h
+
+-- with one group, and where no buffer waits for its free, the view of all ports is joint in the words of a port
+abbrev pub OneGroupLaw : Type 0
+OneGroupLaw = (sizes : List ℕ) (steps : List Step) (h : HubState) → Leads (sizes ∷ []) opening steps h → IsQuiet (sizes ∷ []) h.view →
+    Joint sizes (length h.view.changes) (replay sizes h.view.changes (length h.view.changes)) h.view

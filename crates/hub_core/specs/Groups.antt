@@ -1,5 +1,5 @@
 -- Groups of buffers: buffers are numbered through the groups, and each group has a journal and a free set of its own.
-use Rattle.std.specs.Prelude.{ℕ, ◌-◌, ◌==◌, nat_lt, if◌then◌else◌, zero, suc, List, [], ◌∷◌, length, get_or}
+use Rattle.std.specs.Prelude.{ℕ, ◌-◌, ◌==◌, nat_lt, if◌then◌else◌, suc, List, [], ◌∷◌, length, get_or}
 use Rattle.hub_core.specs.Joint.{changed_buf, replay}
 use Rattle.hub_core.specs.View.{View, Change, Taken, Freed}
 

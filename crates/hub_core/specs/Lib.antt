@@ -5,6 +5,7 @@ pub mod Floors
 pub mod Groups
 pub mod Joint
 pub mod Moves
+pub mod Parts
 pub mod Plain
 pub mod Records
 pub mod Tokens

@@ -1,5 +1,9 @@
-//! Tests of hub_core's public calls; they stand in a crate of their own, so that the hub is proved once.
+//! Tests of hub_core's public calls, and examples of its law; they stand in a crate of their own, so that the hub is
+//! proved once.
 #![tactic(auto)]
 
+mod examples;
 #[cfg(test)]
 mod tests;
+
+pub use examples::{mistakes_are_refused, two_paths_over_two_groups};

@@ -1,11 +1,11 @@
 ghost use Rattle.std.specs.Prelude.{◌≡◌, ◌<◌, ◌≤◌, [], true};
 ghost use Rattle.gw_base.specs.Cell.{IsCell};
 
+use gw_base::{BufNo, ChanNo, DestNo, PathNo, Tick};
 use hub_core::{
     DestRecord, DestResult, End, Left, Move, OpenedAt, PlainHub, Port, Room, Seen, SessionRecord,
     SessionResult, Take,
 };
-use gw_base::{BufNo, ChanNo, DestNo, PathNo, Tick};
 use std::test::Fail;
 
 /// Four full cells, of the bytes 1 to 28.

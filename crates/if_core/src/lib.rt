@@ -7,6 +7,8 @@ mod history;
 mod lanes;
 mod plain;
 mod queue;
+#[cfg(test)]
+mod tests;
 mod unit;
 
 pub use fates::fates_law;

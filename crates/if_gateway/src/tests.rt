@@ -50,8 +50,16 @@ fn kind_of(from: CanId, to: CanId, fd: bool, len: usize, fd_bus: bool) -> Option
 fn every_kind_of_frame_is_readdressed(rt: HostRuntime) -> Result<(), Fail> {
     for (from, to) in IDS {
         for (fd, len, classic) in FRAMES {
-            assert_eq!(rt; kind_of(from, to, fd, len, false), Some(classic), "{fd} {len}");
-            assert_eq!(rt; kind_of(from, to, fd, len, true), Some(Some(fd)), "{fd} {len}");
+            assert_eq!(rt;
+                kind_of(from, to, fd, len, false),
+                Some(classic),
+                "{fd} {len}"
+            );
+            assert_eq!(rt;
+                kind_of(from, to, fd, len, true),
+                Some(Some(fd)),
+                "{fd} {len}"
+            );
         }
     }
     Ok(())

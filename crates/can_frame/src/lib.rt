@@ -4,7 +4,9 @@
 mod frame;
 mod id;
 mod length;
+mod priority;
 
 pub use frame::{Frame, FrameFault};
 pub use id::CanId;
 pub use length::fill_up;
+pub use priority::{Priority, priority_law};

@@ -34,18 +34,18 @@ pub to_before : (a b : Pending) → leaves_before a b ≡ true → LeavesBefore 
 to_before a b h = dite (dec_lt (priority_of a.1.id) (priority_of b.1.id))
     (λ less. inl less)
     (λ no. dite (ℕ_discrete (priority_of a.1.id) (priority_of b.1.id))
-      (λ same. dite (dec_lt a.0 b.0)
-        (λ low. inr (same, low))
-        (λ high. absurd (true≢false (sym h ∙ ap (λ (t : Bool). t || ((priority_of a.1.id == priority_of b.1.id) && nat_lt a.0 b.0)) (le-ltb (priority_of a.1.id) (priority_of b.1.id) (omega (arith, no)))
-          ∙ ap (λ (t : Bool). t && nat_lt a.0 b.0) (same_number (priority_of a.1.id) (priority_of b.1.id) same) ∙ le-ltb a.0 b.0 (omega (arith, high))))))
-      (λ other. absurd (true≢false (sym h ∙ ap (λ (t : Bool). t || ((priority_of a.1.id == priority_of b.1.id) && nat_lt a.0 b.0)) (le-ltb (priority_of a.1.id) (priority_of b.1.id) (omega (arith, no)))
-          ∙ ap (λ (t : Bool). t && nat_lt a.0 b.0) (other_number (priority_of a.1.id) (priority_of b.1.id) other)))))
+    (λ same. dite (dec_lt a.0 b.0)
+    (λ low. inr (same, low))
+    (λ high. absurd (true≢false (sym h ∙ ap (λ (t : Bool). t || ((priority_of a.1.id == priority_of b.1.id) && nat_lt a.0 b.0)) (le-ltb (priority_of a.1.id) (priority_of b.1.id) (omega (arith, no)))
+    ∙ ap (λ (t : Bool). t && nat_lt a.0 b.0) (same_number (priority_of a.1.id) (priority_of b.1.id) same) ∙ le-ltb a.0 b.0 (omega (arith, high))))))
+    (λ other. absurd (true≢false (sym h ∙ ap (λ (t : Bool). t || ((priority_of a.1.id == priority_of b.1.id) && nat_lt a.0 b.0)) (le-ltb (priority_of a.1.id) (priority_of b.1.id) (omega (arith, no)))
+    ∙ ap (λ (t : Bool). t && nat_lt a.0 b.0) (other_number (priority_of a.1.id) (priority_of b.1.id) other)))))
 
 pub from_before : (a b : Pending) → LeavesBefore a b → leaves_before a b ≡ true
 from_before a b h = ⊎_elim
     (λ less. ap (λ (t : Bool). t || ((priority_of a.1.id == priority_of b.1.id) && nat_lt a.0 b.0)) (lt-ltb (priority_of a.1.id) (priority_of b.1.id) less))
     (λ same. ap (λ (t : Bool). t || ((priority_of a.1.id == priority_of b.1.id) && nat_lt a.0 b.0)) (le-ltb (priority_of a.1.id) (priority_of b.1.id) (omega (arith, same.0)))
-      ∙ ap (λ (t : Bool). t && nat_lt a.0 b.0) (same_number (priority_of a.1.id) (priority_of b.1.id) same.0) ∙ lt-ltb a.0 b.0 same.1)
+    ∙ ap (λ (t : Bool). t && nat_lt a.0 b.0) (same_number (priority_of a.1.id) (priority_of b.1.id) same.0) ∙ lt-ltb a.0 b.0 same.1)
     h
 
 pub before_trans : (a b c : Pending) → LeavesBefore a b → LeavesBefore b c → LeavesBefore a c
@@ -58,12 +58,12 @@ turned : (a b : Pending) → leaves_before a b ≡ false → (b.0 == a.0) ≡ fa
 turned a b h apart = from_before b a (dite (dec_lt (priority_of b.1.id) (priority_of a.1.id))
     (λ less. inl less)
     (λ no. dite (dec_lt (priority_of a.1.id) (priority_of b.1.id))
-      (λ less. absurd (true≢false (sym (from_before a b (inl less)) ∙ h)))
-      (λ not. let same : priority_of a.1.id ≡ priority_of b.1.id = omega (arith, no, not) in dite (dec_lt b.0 a.0)
-        (λ low. inr (sym same, low))
-        (λ high. dite (dec_lt a.0 b.0)
-          (λ low. absurd (true≢false (sym (from_before a b (inr (same, low))) ∙ h)))
-          (λ even. absurd (not_same b.0 a.0 apart (omega (arith, high, even))))))))
+    (λ less. absurd (true≢false (sym (from_before a b (inl less)) ∙ h)))
+    (λ not. let same : priority_of a.1.id ≡ priority_of b.1.id = omega (arith, no, not) in dite (dec_lt b.0 a.0)
+    (λ low. inr (sym same, low))
+    (λ high. dite (dec_lt a.0 b.0)
+    (λ low. absurd (true≢false (sym (from_before a b (inr (same, low))) ∙ h)))
+    (λ even. absurd (not_same b.0 a.0 apart (omega (arith, high, even))))))))
 
 -- lists
 
@@ -83,17 +83,17 @@ all_remove P [] (suc i) all = tt
 all_remove P (x ∷ xs) zero all = all.1
 all_remove P (x ∷ xs) (suc i) all = (all.0, all_remove P xs i all.1)
 
-count_while : {A : Type 0} → (A → Bool) → List A → ℕ
+abbrev pub count_while : {A : Type 0} → (A → Bool) → List A → ℕ
 count_while p [] = 0
 count_while p (x ∷ xs) = cond (p x) (suc (count_while p xs)) 0
 
 counted : {A : Type 0} (p : A → Bool) (xs : List A) → prefix_len p xs ≡ count_while p xs
 counted p [] = refl
-counted p (x ∷ xs) = go (p x)
+counted p (x ∷ xs) = go (p x) (counted p xs)
   where
-    go : (t : Bool) → cond t (1 + prefix_len p xs) 0 ≡ cond t (suc (count_while p xs)) 0
-    go true = let h = counted p xs in omega (arith, h)
-    go false = refl
+    go : (t : Bool) → prefix_len p xs ≡ count_while p xs → cond t (1 + prefix_len p xs) 0 ≡ cond t (suc (count_while p xs)) 0
+    go true h = omega (arith, h)
+    go false h = refl
 
 few_counted : {A : Type 0} (p : A → Bool) (xs : List A) → count_while p xs ≤ length xs
 few_counted p [] = omega arith
@@ -165,8 +165,11 @@ in_order_at (x ∷ xs) e order all = go (leaves_before e x) refl (in_order_at xs
   where
     go : (t : Bool) → leaves_before e x ≡ t → AreInOrder (insert xs (count_while (λ other. leaves_before e other) xs) e) →
         AreInOrder (insert (x ∷ xs) (cond t (suc (count_while (λ other. leaves_before e other) xs)) 0) e)
-    go true h rest = (all_insert (λ other. (leaves_before other x ≡ true) × ((other.0 == x.0) ≡ false)) xs (count_while (λ other. leaves_before e other) xs) e order.0
-        (h, other_number e.0 x.0 (λ same. not_same x.0 e.0 all.0 (sym same))), rest)
+    go true h rest = (
+      all_insert (λ other. (leaves_before other x ≡ true) × ((other.0 == x.0) ≡ false)) xs (count_while (λ other. leaves_before e other) xs) e order.0
+          (h, other_number e.0 x.0 (λ same. not_same x.0 e.0 all.0 (sym same))),
+      rest,
+    )
     go false h rest =
         let first = turned e x h all.0 in
         let later : (y : Pending) → (leaves_before y x ≡ true) × ((y.0 == x.0) ≡ false) → leaves_before y e ≡ true = λ y b. from_before y e (before_trans y x e (to_before y x b.0) (to_before x e first)) in
@@ -197,9 +200,6 @@ pending_remove xs i p = record { in_order = in_order_remove xs i p.in_order; box
 
 abbrev pub before : ℕ → List Pending → ℕ
 before number xs = length (take_while (λ other. not (other.0 == number)) xs)
-
-count_before : ℕ → List Pending → ℕ
-count_before number xs = count_while (λ other. not (other.0 == number)) xs
 
 count_hit : (number : ℕ) (x : Pending) (xs : List Pending) → x.0 ≡ number → count_while (λ other. not (other.0 == number)) (x ∷ xs) ≡ 0
 count_hit number x xs e = ap (λ (t : Bool). cond (not t) (suc (count_while (λ other. not (other.0 == number)) xs)) 0) (same_number x.0 number e)
@@ -234,9 +234,9 @@ there_or_not number [] = inl (refl, refl)
 there_or_not number (x ∷ xs) = dite (ℕ_discrete x.0 number)
     (λ e. inr (let z = count_hit number x xs e in omega (arith, z), ap (λ (o : Option CanFrame). is_some o) (hit number x xs e)))
     (λ ne. let c = count_miss number x xs ne in ⊎_elim
-      (λ h. inl (omega (arith, c, h.0), miss number x xs ne ∙ h.1))
-      (λ h. inr (omega (arith, c, h.0), ap (λ (o : Option CanFrame). is_some o) (miss number x xs ne) ∙ h.1))
-      (there_or_not number xs))
+    (λ h. inl (omega (arith, c, h.0), miss number x xs ne ∙ h.1))
+    (λ h. inr (omega (arith, c, h.0), ap (λ (o : Option CanFrame). is_some o) (miss number x xs ne) ∙ h.1))
+    (there_or_not number xs))
 
 pub box_empty : (number : ℕ) (xs : List Pending) → before number xs ≡ length xs → content number xs ≡ None
 box_empty number xs e = let c = count_of (λ other. not (other.0 == number)) xs in ⊎_elim (λ h. h.1) (λ h. absurd (omega (arith, c, e, h.0))) (there_or_not number xs)
@@ -266,49 +266,49 @@ nothing (x ∷ xs) h number = absurd (omega (arith, h))
 
 -- there is room for a frame whose box is empty
 
-one_if : Bool → ℕ
+abbrev one_if : Bool → ℕ
 one_if t = cond t 1 0
 
-below : ℕ → List Pending → ℕ
+abbrev below : ℕ → List Pending → ℕ
 below n [] = 0
-below n (x ∷ xs) = cond (nat_lt x.0 n) 1 0 + below n xs
+below n (x ∷ xs) = one_if (nat_lt x.0 n) + below n xs
 
-times : ℕ → List Pending → ℕ
+abbrev times : ℕ → List Pending → ℕ
 times n [] = 0
-times n (x ∷ xs) = cond (x.0 == n) 1 0 + times n xs
+times n (x ∷ xs) = one_if (x.0 == n) + times n xs
 
 below_next : (n : ℕ) (xs : List Pending) → below (suc n) xs ≡ below n xs + times n xs
 below_next n [] = omega arith
 below_next n (x ∷ xs) = let h = below_next n xs in let one = each x.0 in omega (arith, h, one)
   where
-    each : (a : ℕ) → cond (nat_lt a (suc n)) 1 0 ≡ cond (nat_lt a n) 1 0 + cond (a == n) 1 0
+    each : (a : ℕ) → one_if (nat_lt a (suc n)) ≡ one_if (nat_lt a n) + one_if (a == n)
     each a = dite (dec_lt a n)
-        (λ low. let p = ap (λ (t : Bool). cond t 1 0) (lt-ltb a (suc n) (omega (arith, low))) in let q = ap (λ (t : Bool). cond t 1 0) (lt-ltb a n low) in let r = ap (λ (t : Bool). cond t 1 0) (other_number a n (λ e. omega (arith, e, low))) in omega (arith, p, q, r))
-        (λ not. let q = ap (λ (t : Bool). cond t 1 0) (le-ltb a n (omega (arith, not))) in dite (ℕ_discrete a n)
-          (λ e. let p = ap (λ (t : Bool). cond t 1 0) (lt-ltb a (suc n) (omega (arith, e))) in let r = ap (λ (t : Bool). cond t 1 0) (same_number a n e) in omega (arith, p, q, r))
-          (λ ne. let p = ap (λ (t : Bool). cond t 1 0) (le-ltb a (suc n) (omega (arith, ne, not))) in let r = ap (λ (t : Bool). cond t 1 0) (other_number a n ne) in omega (arith, p, q, r)))
+        (λ low. let p = ap one_if (lt-ltb a (suc n) (omega (arith, low))) in let q = ap one_if (lt-ltb a n low) in let r = ap one_if (other_number a n (λ e. omega (arith, e, low))) in omega (arith, p, q, r))
+        (λ not. let q = ap one_if (le-ltb a n (omega (arith, not))) in dite (ℕ_discrete a n)
+        (λ e. let p = ap one_if (lt-ltb a (suc n) (omega (arith, e))) in let r = ap one_if (same_number a n e) in omega (arith, p, q, r))
+        (λ ne. let p = ap one_if (le-ltb a (suc n) (omega (arith, ne, not))) in let r = ap one_if (other_number a n ne) in omega (arith, p, q, r)))
 
 times_none : (n : ℕ) (xs : List Pending) → Absent n xs → times n xs ≡ 0
 times_none n [] all = refl
-times_none n (x ∷ xs) all = let h = times_none n xs all.1 in let z = ap (λ (t : Bool). cond t 1 0) all.0 in omega (arith, h, z)
+times_none n (x ∷ xs) all = let h = times_none n xs all.1 in let z = ap one_if all.0 in omega (arith, h, z)
 
 times_once : (n : ℕ) (xs : List Pending) → AreInOrder xs → times n xs ≤ 1
 times_once n [] h = omega arith
 times_once n (x ∷ xs) h = dite (ℕ_discrete x.0 n)
-    (λ e. let none = subst (λ (m : ℕ). times m xs ≡ 0) e (times_none x.0 xs (others x xs h.0)) in let one = ap (λ (t : Bool). cond t 1 0) (same_number x.0 n e) in omega (arith, none, one))
-    (λ ne. let rest = times_once n xs h.1 in let zero = ap (λ (t : Bool). cond t 1 0) (other_number x.0 n ne) in omega (arith, rest, zero))
+    (λ e. let none = subst (λ (m : ℕ). times m xs ≡ 0) e (times_none x.0 xs (others x xs h.0)) in let one = ap one_if (same_number x.0 n e) in omega (arith, none, one))
+    (λ ne. let rest = times_once n xs h.1 in let zero = ap one_if (other_number x.0 n ne) in omega (arith, rest, zero))
 
 below_few : (n : ℕ) (xs : List Pending) → AreInOrder xs → below n xs ≤ n
 below_few zero xs h = none xs
   where
     none : (xs : List Pending) → below 0 xs ≤ 0
     none [] = omega arith
-    none (x ∷ xs) = let r = none xs in let z = ap (λ (t : Bool). cond t 1 0) (le-ltb x.0 0 (omega arith)) in omega (arith, r, z)
+    none (x ∷ xs) = let r = none xs in let z = ap one_if (le-ltb x.0 0 (omega arith)) in omega (arith, r, z)
 below_few (suc n) xs h = let r = below_few n xs h in let one = times_once n xs h in let e = below_next n xs in omega (arith, r, one, e)
 
 below_all : (n : ℕ) (xs : List Pending) → AllByRecursion (λ x. x.0 < n) xs → below n xs ≡ length xs
 below_all n [] all = refl
-below_all n (x ∷ xs) all = let r = below_all n xs all.1 in let one = ap (λ (t : Bool). cond t 1 0) (lt-ltb x.0 n all.0) in omega (arith, r, one)
+below_all n (x ∷ xs) all = let r = below_all n xs all.1 in let one = ap one_if (lt-ltb x.0 n all.0) in omega (arith, r, one)
 
 pub pending_few : (xs : List Pending) → IsPending xs → length xs ≤ 176
 pending_few xs p = let few = below_few 176 xs p.in_order in let all = below_all 176 xs p.boxes in omega (arith, few, all)
@@ -321,3 +321,14 @@ length_insert (x ∷ xs) (suc i) e = let h = length_insert xs i e in omega (arit
 
 pub pending_room : (xs : List Pending) (e : Pending) → IsPending xs → content e.0 xs ≡ None → e.0 < 176 → length xs < 176
 pending_room xs e p none small = let few = pending_few (insert xs (place e xs) e) (pending_insert xs e p none small) in let more = length_insert xs (place e xs) e in omega (arith, few, more)
+
+-- a box after its frame was taken out
+
+pub emptied : (number : ℕ) (old new : List Pending) → ((m : ℕ) → content m new ≡ with_content number None old m) → content number new ≡ None
+emptied number old new all = all number ∙ ap (λ (t : Bool). if t then None else content number old) (same_number number number refl)
+
+pub with_other : (number : ℕ) (lies : Option CanFrame) (old new : List Pending) → ((m : ℕ) → content m new ≡ with_content number None old m) → (m : ℕ) → with_content number lies new m ≡ with_content number lies old m
+with_other number lies old new all m = dite (ℕ_discrete m number)
+    (λ same. ap (λ (t : Bool). if t then lies else content m new) (same_number m number same) ∙ sym (ap (λ (t : Bool). if t then lies else content m old) (same_number m number same)))
+    (λ ne. ap (λ (t : Bool). if t then lies else content m new) (other_number m number ne) ∙ all m ∙ ap (λ (t : Bool). if t then None else content m old) (other_number m number ne)
+    ∙ sym (ap (λ (t : Bool). if t then lies else content m old) (other_number m number ne)))

@@ -109,10 +109,7 @@ fn place_of(pending: &[(u8, Frame)], entry: &(u8, Frame)) -> usize
 fn before_box(pending: &[(u8, Frame)], number: u8) -> usize
     ensures { result ≡ length (take_while (λ other. not (other.0 == number)) pending.now) }
 {
-    pending
-        .iter()
-        .take_while(|other| other.0 != number)
-        .count()
+    pending.iter().take_while(|other| other.0 != number).count()
 }
 
 /// Moves the last frames, so many of them, to the end of another list, the last one first.

@@ -2,5 +2,7 @@
 #![tactic(auto)]
 
 mod boxes;
+#[cfg(test)]
+mod tests;
 
 pub use boxes::Boxes;

@@ -3,14 +3,9 @@ ghost use Rattle.can_frame.specs.Id.{id_fits};
 ghost use Rattle.can_frame.specs.Length.{length_fits};
 
 use crate::CanId;
+use crate::length::{MAX_CLASSIC, MAX_FD};
 use arrayvec::ArrayVec;
 use std::marker::Model;
-
-/// The most data bytes of a classic frame.
-const MAX_CLASSIC: usize = 8;
-
-/// The most data bytes of an FD frame.
-const MAX_FD: usize = 64;
 
 /// A CAN frame whose identifier is in range and whose length is lawful for its kind.
 ///

@@ -10,10 +10,10 @@ pub enum CanId {
 }
 
 /// The greatest identifier of 11 bits.
-pub(crate) const MAX_STD: u16 = 0x7FF;
+pub const MAX_STD: u16 = 0x7FF;
 
 /// The greatest identifier of 29 bits.
-pub(crate) const MAX_EXT: u32 = 0x1FFF_FFFF;
+pub const MAX_EXT: u32 = 0x1FFF_FFFF;
 
 impl CanId {
     ghost use Rattle.std.specs.Prelude.{◌≡◌};

@@ -7,6 +7,6 @@ mod length;
 mod priority;
 
 pub use frame::{Frame, FrameFault};
-pub use id::CanId;
-pub use length::fill_up;
+pub use id::{CanId, MAX_EXT, MAX_STD};
+pub use length::{MAX_CLASSIC, MAX_FD, fill_up};
 pub use priority::{Priority, priority_law};

@@ -1,2 +1,4 @@
 pub mod Line
 pub mod Plain
+pub mod Fault
+pub mod Reading

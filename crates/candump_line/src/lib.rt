@@ -1,11 +1,21 @@
 //! Lines of a log, after candump's log format: a stamp, an interface and a frame.
 #![tactic(auto)]
 
+mod data;
+mod fault;
+mod fields;
+mod id;
+mod line;
 mod plain;
+mod read;
 mod spell;
+mod stamp;
 mod write;
 
+pub use fault::{LineFault, LineKind};
+pub use line::Line;
 pub use plain::plain_line;
+pub use read::read_line;
 pub use write::write_line;
 
 #[cfg(test)]

@@ -10,8 +10,6 @@ mod print;
 mod read;
 mod repeated;
 mod rows;
-#[cfg(test)]
-mod tests;
 mod words;
 
 pub use config::{

@@ -11,8 +11,6 @@ mod out_sink;
 mod outside;
 mod piece;
 mod plan;
-#[cfg(test)]
-mod tests;
 
 pub use folder_depot::FolderDepot;
 pub use mem_depot::MemDepot;

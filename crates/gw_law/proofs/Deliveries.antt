@@ -1,5 +1,8 @@
 -- The law of delivery: the laws of the source and of the destination meet in what the hub says of their sessions.
 use Rattle.std.proofs.Common.{◌≡◌, ℕ, ◌+◌, ◌≤◌, zero, suc, Bool, true, false, cond, Option, Some, None, option_map, List, [], ◌∷◌, ◌++◌, length, take, drop, refl, ap, sym, ◌∙◌, subst, arith, append-nil, length-append}
+use Rattle.tp_receiver.specs.State.{RxTurn}
+use Rattle.hub_core.specs.Turns.{calls_by, came_by, records_by}
+use Rattle.tp_receiver.specs.Runs.{put_in, frames_in}
 use Rattle.std.specs.Prelude.{filter, option_to_list, slice_get}
 use Rattle.std.specs.List.{AllByRecursion, AllZip}
 use Rattle.std.proofs.lemmas.List.{length-take-le, take-append-drop, take-append-le, take-take}
@@ -14,17 +17,17 @@ use Rattle.tp_attempts.specs.Attempts.{attempts_in}
 use Rattle.tp_attempts.specs.Cuts.{Cut}
 use Rattle.tp_attempts.specs.Seen.{Seen, len_of}
 use Rattle.tp_attempts.specs.Walk.{reassembled}
-use Rattle.tp_receiver.specs.Running.{RxTurn, calls_by as received_calls, put_in, seen_by, told_by}
 use Rattle.tp_receiver.specs.declared.set.RxSet.{RxSet}
 use Rattle.tp_sender.specs.Sending.{Moment, calls_by as sent_calls, cells_in as cells_read, lens_in}
 use Rattle.tp_sender.specs.State.{Sending}
 use Rattle.tp_sender.specs.declared.set.TxSet.{TxSet}
 use Rattle.gw_law.specs.Delivery.{AreWholeRuns, Delivers, Delivery, DeliveryLaw, IsNamed, Names, delivery_of}
-use Rattle.gw_law.specs.Source.{CountsFrom, SourceLaw, Tells as SourceTells, sessions_in}
+use Rattle.gw_law.specs.Source.{CountsFrom, sessions_in}
 use Rattle.gw_law.specs.Transfer.{GoesOnWith, SendsFor, Tells, Transfer, TransferLaw, has_sent, transfer_of}
 use Rattle.gw_law.proofs.Openings.{Entry, entries-are, entries_told, entry_told, openings, writing}
 use Rattle.gw_law.proofs.Sides.{cells_at-there}
-use Rattle.gw_law.proofs.SourceLaws.{source_law_of}
+use Rattle.gw_law.proofs.SourceLaws.{idle-of, source_law_of}
+use Rattle.gw_law.proofs.Tellings.{TellsPut}
 use Rattle.gw_law.proofs.TxLaw.{law}
 use Rattle.gw_law.proofs.TxReadings.{readings}
 use Rattle.gw_law.proofs.Lists.{all-weaker, mapped-at, zip-all}
@@ -111,25 +114,25 @@ joins rx turns tx moments v seq len runs is =
     let r : Reading = at.0 in
     let known = runs.streams.joined tx.path.0 tx.dest.0 seq r (ap (λ l. slice_get l seq) runs.readings ∙ at.1) in
     let s : Session = known.0 in
-    let session : slice_get ((grows (received_calls turns) empty_view).sessions path) seq ≡ Some s =
+    let session : slice_get ((grows (calls_by turns) empty_view).sessions path) seq ≡ Some s =
     sym (ap (λ l. slice_get l seq) runs.sessions) ∙ ap (λ (p : ℕ). slice_get (v.sessions p) seq) (sym (ap (λ p. p.0) runs.path)) ∙ known.1 in
     let entry : Entry = (writing path).fixed s in
-    let told : slice_get (entries_told (told_by turns)) seq ≡ Some entry =
+    let told : slice_get (entries_told (records_by turns)) seq ≡ Some entry =
     ap (λ l. slice_get l seq) (sym (entries-are rx turns v runs.received runs.idle runs.sessions)) ∙ slice_get-map (writing path).fixed (v.sessions path) seq ∙ ap (option_map (writing path).fixed) (ap (λ l. slice_get l seq) runs.sessions ∙ session) in
-    let source : SourceLaw rx.chan.0 rx.a rx.functional stored (seen_by turns) (told_by turns) = source_law_of rx turns runs.received runs.idle in
-    let found = find (SourceTells rx.chan.0 rx.a stored) (attempts_in rx.functional (seen_by turns)) (told_by turns) 0 seq entry source.tells source.sessions told in
-    let cells : s.cells ≡ put_in rx turns seq = sym (cells_at-there (λ (x : Session). x.cells) seq ((grows (received_calls turns) empty_view).sessions path) s session) ∙ puts.cells seq in
+    let source = idle-of rx turns runs.received runs.idle in
+    let found = find (TellsPut rx.chan.0 rx.a stored) (attempts_in rx.functional (came_by frames_in turns)) (records_by turns) 0 seq entry source.told.tells source.told.sessions told in
+    let cells : s.cells ≡ put_in rx turns seq = sym (cells_at-there (λ (x : Session). x.cells) seq ((grows (calls_by turns) empty_view).sessions path) s session) ∙ puts.cells seq in
     let cells_were : r.cells ≡ cells_read seq (sent_calls moments) = sym (cells_at-there (λ (x : Reading). x.cells) seq ((grows (sent_calls moments) empty_view).readings tx.path.0 tx.dest.0) r at.1) ∙ read.cells seq in
     let front : t.read seq ≡ bytes_of (take (length r.cells) (put_in rx turns seq)) = ap bytes_of (sym cells_were ∙ known.2.prefix) ∙ ap (λ c. bytes_of (take (length r.cells) c)) cells in
     let numbered : found.opened.seq ≡ seq = omega (arith, found.seq_is) in
-    let puts_are : stored seq ≡ take found.session.bytes (reassembled rx.a found.unit) = ap stored (sym numbered) ∙ found.tells.puts found.opened found.opened_is in
+    let puts_are : stored seq ≡ take found.session.bytes (reassembled rx.a found.unit) = ap stored (sym numbered) ∙ found.tells.1 found.opened found.opened_is in
     let most : length (t.read seq) ≤ found.session.bytes =
     omega (arith, (front-bytes (put_in rx turns seq) (t.read seq) (length r.cells) 0 front (omega arith)).0, ap length puts_are, length-take-le found.session.bytes (reassembled rx.a found.unit)) in
     record {
       unit = found.unit;
       session = found.session;
       named = record { place = found.place; unit_is = found.unit_is; session_is = found.session_is; opened = found.opened; opened_is = found.opened_is; seq_is = numbered };
-      len_is = omega (arith, found.tells.len, ap (λ (e : Entry). e.len) found.entry_is, known.2.len, at.2);
+      len_is = omega (arith, found.tells.0.len, ap (λ (e : Entry). e.len) found.entry_is, known.2.len, at.2);
       most = most;
       bytes = λ sent within.
           (front-bytes (put_in rx turns seq) (t.read seq) (length r.cells) sent front within).1 ∙ ap (take sent) puts_are ∙ take-take sent found.session.bytes (reassembled rx.a found.unit) (omega (arith, within, most));

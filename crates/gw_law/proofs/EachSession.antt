@@ -1,5 +1,7 @@
 -- Each session that was opened has one record of a destination that joined them all.
 use Rattle.std.proofs.Common.{◌≡◌, ℕ, ◌+◌, ◌≤◌, zero, suc, Option, Some, None, option_map, List, [], ◌∷◌, length, map, refl, ap, sym, ◌∙◌, arith}
+use Rattle.tp_receiver.specs.State.{RxTurn}
+use Rattle.hub_core.specs.Turns.{records_by}
 use Rattle.std.specs.Prelude.{option_to_list, slice_get}
 use Rattle.std.proofs.lemmas.List.{length-append, length-map}
 use Rattle.std.proofs.lemmas.Option.{slice_get-get_or, slice_get_within}
@@ -7,7 +9,6 @@ use Rattle.hub_core.specs.View.{View, Session, Reading, empty_view, grows, readi
 use Rattle.hub_core.specs.declared.record.DestRecord.{DestRecord}
 use Rattle.hub_core.specs.declared.record.OpenedAt.{OpenedAt}
 use Rattle.hub_core.specs.declared.record.SessionRecord.{SessionRecord}
-use Rattle.tp_receiver.specs.Running.{RxTurn, told_by as received_by}
 use Rattle.tp_receiver.specs.declared.set.RxSet.{RxSet}
 use Rattle.tp_sender.specs.Sending.{Moment, calls_by as sent_calls, state_from, told_by as sent_by}
 use Rattle.tp_sender.specs.declared.set.TxSet.{TxSet}
@@ -48,7 +49,7 @@ at-most tx v known (suc last) is long joined =
     let s = joined last _ (ap (λ l. slice_get l last) is ∙ r) in
     omega (arith, slice_get_within (v.sessions tx.path.0) last s.0 s.1)
 
-pub each_session_of : (rx : RxSet) (turns : List RxTurn) (tx : TxSet) (moments : List Moment) (v : View) → AreWholeRuns rx turns tx moments v → length (v.sessions rx.path.0) ≤ (state_from moments).next → AreOfEach (received_by turns) (sent_by moments)
+pub each_session_of : (rx : RxSet) (turns : List RxTurn) (tx : TxSet) (moments : List Moment) (v : View) → AreWholeRuns rx turns tx moments v → length (v.sessions rx.path.0) ≤ (state_from moments).next → AreOfEach (records_by turns) (sent_by moments)
 each_session_of rx turns tx moments v runs all =
     let so : SoFar tx.shape (world_of tx moments) = so-far tx moments runs.shape runs.sent in
     let source = source_law_of rx turns runs.received runs.idle in
@@ -59,5 +60,5 @@ each_session_of rx turns tx moments v runs all =
     let entries = entries-are rx turns v runs.received runs.idle runs.sessions in
     let most : (state_from moments).next ≤ length (v.sessions tx.path.0) =
     at-most tx v known (state_from moments).next runs.readings joined (λ seq r is. let s = runs.streams.joined tx.path.0 tx.dest.0 seq r is in (s.0, s.1)) in
-    same-numbers 0 (sent_by moments) (sessions_in (received_by turns)) so.numbered source.sessions
-    (omega (arith, (lives-none tx.shape (world_of tx moments) (state_from moments).live so.going runs.ended so.lives).1, all, most, ap (λ p. length (v.sessions p)) path, entries-long (received_by turns), ap length entries, length-map (v.sessions rx.path.0) (writing rx.path.0).fixed))
+    same-numbers 0 (sent_by moments) (sessions_in (records_by turns)) so.numbered source.sessions
+    (omega (arith, (lives-none tx.shape (world_of tx moments) (state_from moments).live so.going runs.ended so.lives).1, all, most, ap (λ p. length (v.sessions p)) path, entries-long (records_by turns), ap length entries, length-map (v.sessions rx.path.0) (writing rx.path.0).fixed))

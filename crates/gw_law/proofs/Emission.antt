@@ -1,10 +1,11 @@
 -- What the buses write in each tick, by the works of a run.
 use Rattle.std.proofs.Common.{◌≡◌, inl, inr, ℕ, ◌+◌, ◌<◌, ◌≤◌, Option, None, Some, List, [], ◌∷◌, ◌++◌, length, refl, ap, sym, ◌∙◌, subst, arith, append-nil, append_assoc}
+use Rattle.tp_receiver.specs.State.{RxEvent, Came, Timer, FcLeft, RunEnd, RxTurn, rx_new}
+use Rattle.tp_receiver.specs.Runs.{HasReceived}
+use Rattle.hub_core.specs.Turns.{state_after}
 use Rattle.std.specs.List.{AllByRecursion}
 use Rattle.std.proofs.lemmas.Bool.Decides.{eqb_tells}
 use Rattle.tp_receiver.specs.declared.set.RxSet.{RxSet}
-use Rattle.tp_receiver.specs.Receiving.{RxInput, Came, TimerTurn, FlowControlLeft, RunEnds}
-use Rattle.tp_receiver.specs.Running.{Happened, RxTurn, state_of}
 use Rattle.tp_sender.specs.Sending.{Moment, OtherLeft, Stepped, Written, box_after, box_then, left_by, written_at, written_of}
 use Rattle.tp_sender.specs.declared.event.TxEvent.{TxEvent}
 use Rattle.tp_sender.specs.declared.event.TxEvent.TheVariants.{Turn, Fc, Left, RunEnd}
@@ -106,15 +107,15 @@ frames-rise shape sizes (work ∷ earlier) ticks =
     rw sent.1 (rise-written shape 0 (tick_after earlier) work.tick (left_by shape (moments_of earlier)) sent.0 ticks.0.later (frames-rise shape sizes earlier ticks.1))
 
 -- a frame that came for the receiver writes nothing
-came-silent : (shape : Shape) (tick at : ℕ) (event : RxInput) (lies : Option Meaning) → CameIn tick event at → control_at shape event at lies ≡ []
+came-silent : (shape : Shape) (tick at : ℕ) (event : RxEvent) (lies : Option Meaning) → CameIn tick event at → control_at shape event at lies ≡ []
 came-silent shape tick at (Came size meaning) lies is = refl
-came-silent shape tick at TimerTurn lies is = absurd is
-came-silent shape tick at FlowControlLeft lies is = absurd is
-came-silent shape tick at RunEnds lies is = absurd is
+came-silent shape tick at Timer lies is = absurd is
+came-silent shape tick at FcLeft lies is = absurd is
+came-silent shape tick at RunEnd lies is = absurd is
 
-all-came-silent : (shape : Shape) (tick : ℕ) (came earlier : List RxTurn) → AllByRecursion (λ (turn : RxTurn). CameIn tick turn.event turn.move.tick) came → controls_by shape (came ++ earlier) ≡ controls_by shape earlier
+all-came-silent : (shape : Shape) (tick : ℕ) (came earlier : List RxTurn) → AllByRecursion (λ (turn : RxTurn). CameIn tick turn.event turn.did.tick) came → controls_by shape (came ++ earlier) ≡ controls_by shape earlier
 all-came-silent shape tick [] earlier all = refl
-all-came-silent shape tick (turn ∷ came) earlier all = rw (came-silent shape tick turn.move.tick turn.event (control_after (came ++ earlier)) all.0, append-nil) (all-came-silent shape tick came earlier all.1)
+all-came-silent shape tick (turn ∷ came) earlier all = rw (came-silent shape tick turn.did.tick turn.event (control_after (came ++ earlier)) all.0, append-nil) (all-came-silent shape tick came earlier all.1)
 
 control-leaves : (shape : Shape) (tick : ℕ) (lies : Option Meaning) (left before : List RxTurn) → control_after before ≡ lies → ControlLeaves tick lies left → controls_by shape (left ++ before) ≡ controls_by shape before ++ written_of shape tick lies
 control-leaves shape tick None left before is row = rw (row, append-nil) refl
@@ -164,29 +165,29 @@ lies-then set Keeps lies is so = so
 lies-then set (Offers meaning) lies is so = is
 lies-then set Revokes lies is so = tt
 
-lies-once : (set : RxSet) (event : RxInput) (lies : Option Meaning) → IsControlIn set lies → IsControlIn set (control_once event lies)
+lies-once : (set : RxSet) (event : RxEvent) (lies : Option Meaning) → IsControlIn set lies → IsControlIn set (control_once event lies)
 lies-once set (Came size meaning) lies so = so
-lies-once set TimerTurn lies so = so
-lies-once set FlowControlLeft lies so = tt
-lies-once set RunEnds lies so = so
+lies-once set Timer lies so = so
+lies-once set FcLeft lies so = tt
+lies-once set RunEnd lies so = so
 
-pub lies-control : (set : RxSet) (turns : List RxTurn) → Happened set turns → IsControlIn set (control_after turns)
+pub lies-control : (set : RxSet) (turns : List RxTurn) → HasReceived set turns → IsControlIn set (control_after turns)
 lies-control set [] happened = tt
 lies-control set (turn ∷ earlier) happened =
-    lies-then set turn.move.act (control_once turn.event (control_after earlier)) (control-act set (state_of earlier) turn.event turn.move happened.1) (lies-once set turn.event (control_after earlier) (lies-control set earlier happened.2))
+    lies-then set turn.did.act (control_once turn.event (control_after earlier)) (control-act set (state_after rx_new earlier) turn.event turn.did happened.1) (lies-once set turn.event (control_after earlier) (lies-control set earlier happened.2))
 
-written-control : (set : RxSet) (shape : Shape) (event : RxInput) (tick : ℕ) (lies : Option Meaning) → IsControlIn set lies → AllByRecursion (WritesControl set shape) (control_at shape event tick lies)
+written-control : (set : RxSet) (shape : Shape) (event : RxEvent) (tick : ℕ) (lies : Option Meaning) → IsControlIn set lies → AllByRecursion (WritesControl set shape) (control_at shape event tick lies)
 written-control set shape (Came size meaning) tick lies so = tt
-written-control set shape TimerTurn tick lies so = tt
-written-control set shape FlowControlLeft tick None so = tt
-written-control set shape FlowControlLeft tick (Some meaning) so = (record { meaning = meaning; either = so; fits = control-fits set shape meaning so; frame = refl }, tt)
-written-control set shape RunEnds tick lies so = tt
+written-control set shape Timer tick lies so = tt
+written-control set shape FcLeft tick None so = tt
+written-control set shape FcLeft tick (Some meaning) so = (record { meaning = meaning; either = so; fits = control-fits set shape meaning so; frame = refl }, tt)
+written-control set shape RunEnd tick lies so = tt
 
-pub are-controls : (set : RxSet) (shape : Shape) (turns : List RxTurn) → Happened set turns → AllByRecursion (WritesControl set shape) (controls_by shape turns)
+pub are-controls : (set : RxSet) (shape : Shape) (turns : List RxTurn) → HasReceived set turns → AllByRecursion (WritesControl set shape) (controls_by shape turns)
 are-controls set shape [] happened = tt
 are-controls set shape (turn ∷ earlier) happened =
-    all-join (WritesControl set shape) (controls_by shape earlier) (control_at shape turn.event turn.move.tick (control_after earlier)) (are-controls set shape earlier happened.2)
-    (written-control set shape turn.event turn.move.tick (control_after earlier) (lies-control set earlier happened.2))
+    all-join (WritesControl set shape) (controls_by shape earlier) (control_at shape turn.event turn.did.tick (control_after earlier)) (are-controls set shape earlier happened.2)
+    (written-control set shape turn.event turn.did.tick (control_after earlier) (lies-control set earlier happened.2))
 
 -- only the sender's own frames leave on the destination's bus
 steps-answers : (tick : ℕ) (answers earlier : List Moment) → AllByRecursion (IsAnswerIn tick) answers → AreSteps earlier → AreSteps (answers ++ earlier)

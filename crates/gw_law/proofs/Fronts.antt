@@ -1,13 +1,14 @@
 -- A run's works up to a tick: what came and what left up to then is a front of all that came and left.
 use Rattle.std.proofs.Common.{◌≡◌, ℕ, ◌+◌, ◌<◌, ◌≤◌, inl, inr, Option, Some, None, List, [], ◌∷◌, ◌++◌, refl, ap, sym, ◌∙◌, subst, arith, append-nil, append_assoc}
+use Rattle.tp_receiver.specs.State.{RxEvent, Came, Timer, FcLeft, RunEnd, RxTurn}
+use Rattle.hub_core.specs.Turns.{came_by, records_by}
+use Rattle.tp_receiver.specs.Runs.{frames_in}
 use Rattle.std.specs.List.{AllByRecursion}
 use Rattle.std.proofs.lemmas.Bool.{cases_lt}
 use Rattle.hub_core.specs.declared.record.SessionRecord.{SessionRecord}
 use Rattle.hub_core.specs.declared.record.DestRecord.{DestRecord}
 use Rattle.std.specs.Prelude.{option_to_list}
 use Rattle.tp_attempts.specs.Seen.{Seen}
-use Rattle.tp_receiver.specs.Receiving.{RxInput, Came, TimerTurn, FlowControlLeft, RunEnds}
-use Rattle.tp_receiver.specs.Running.{RxTurn, seen_by, seen_in, told_by as received_by}
 use Rattle.tp_receiver.specs.declared.set.RxSet.{RxSet}
 use Rattle.tp_sender.specs.Sending.{Moment, OtherLeft, Stepped, Written, box_after, left_by, told_by as sent_by, written_at}
 use Rattle.tp_sender.specs.declared.event.TxEvent.{TxEvent}
@@ -22,18 +23,18 @@ use Rattle.gw_law.proofs.Lists.{all-join, all-weaker}
 
 -- each turn is of such a tick
 abbrev pub TurnIn : (ℕ → Type 0) → RxTurn → Type 0
-TurnIn P turn = P turn.move.tick
+TurnIn P turn = P turn.did.tick
 
 -- the turns and moments of a work are of its tick
 pub record IsTimed (work : Work) : Type 0 where
   pub turns : AllByRecursion (TurnIn (λ (t : ℕ). t ≡ work.tick)) work.turns
   pub moments : AllByRecursion (InTicks (λ (t : ℕ). t ≡ work.tick)) work.moments
 
-came-in : (tick : ℕ) (event : RxInput) (at : ℕ) → CameIn tick event at → at ≡ tick
+came-in : (tick : ℕ) (event : RxEvent) (at : ℕ) → CameIn tick event at → at ≡ tick
 came-in tick (Came size meaning) at is = is
-came-in tick TimerTurn at is = absurd is
-came-in tick FlowControlLeft at is = absurd is
-came-in tick RunEnds at is = absurd is
+came-in tick Timer at is = absurd is
+came-in tick FcLeft at is = absurd is
+came-in tick RunEnd at is = absurd is
 
 control-in : (tick : ℕ) (box : Option Meaning) (turns : List RxTurn) → ControlLeaves tick box turns → AllByRecursion (TurnIn (λ (t : ℕ). t ≡ tick)) turns
 control-in tick None turns is = rw is tt
@@ -43,7 +44,7 @@ control-in tick (Some meaning) (turn ∷ more) is = (is.1, rw is.2 tt)
 turns-timed : (tick : ℕ) (earlier turns : List RxTurn) → ReceivesIn tick earlier turns → AllByRecursion (TurnIn (λ (t : ℕ). t ≡ tick)) turns
 turns-timed tick earlier turns row =
     rw row.turns_are (all-join (TurnIn (λ (t : ℕ). t ≡ tick)) row.left (row.timer ∷ row.came) (control-in tick (control_after (row.timer ∷ (row.came ++ earlier))) row.left row.left_is)
-    (row.timer_tick, all-weaker (λ (turn : RxTurn). CameIn tick turn.event turn.move.tick) (TurnIn (λ (t : ℕ). t ≡ tick)) row.came (λ turn is. came-in tick turn.event turn.move.tick is) row.came_only))
+    (row.timer_tick, all-weaker (λ (turn : RxTurn). CameIn tick turn.event turn.did.tick) (TurnIn (λ (t : ℕ). t ≡ tick)) row.came (λ turn is. came-in tick turn.event turn.did.tick is) row.came_only))
 
 answers-in : (tick : ℕ) (event : TxEvent) (at : ℕ) → AnswersIn tick event at → at ≡ tick
 answers-in tick (Fc status block_size separation) at is = is
@@ -131,20 +132,20 @@ any : {A : Type 0} (xs : List A) → AllByRecursion (λ (x : A). Unit {0}) xs
 any [] = tt
 any (x ∷ xs) = (tt, any xs)
 
-seen-in : (P : ℕ → Type 0) (tick : ℕ) (event : RxInput) → P tick → AllByRecursion (λ (s : Seen). P s.at) (seen_in tick event)
+seen-in : (P : ℕ → Type 0) (tick : ℕ) (event : RxEvent) → P tick → AllByRecursion (λ (s : Seen). P s.at) (frames_in tick event)
 seen-in P tick (Came size meaning) at = (at, tt)
-seen-in P tick TimerTurn at = tt
-seen-in P tick FlowControlLeft at = tt
-seen-in P tick RunEnds at = tt
+seen-in P tick Timer at = tt
+seen-in P tick FcLeft at = tt
+seen-in P tick RunEnd at = tt
 
-pub seen-more : (P : ℕ → Type 0) (turns earlier : List RxTurn) → AllByRecursion (TurnIn P) turns → More (λ (s : Seen). P s.at) (seen_by earlier) (seen_by (turns ++ earlier))
-seen-more P [] earlier all = none-more (λ (s : Seen). P s.at) (seen_by earlier)
+pub seen-more : (P : ℕ → Type 0) (turns earlier : List RxTurn) → AllByRecursion (TurnIn P) turns → More (λ (s : Seen). P s.at) (came_by frames_in earlier) (came_by frames_in (turns ++ earlier))
+seen-more P [] earlier all = none-more (λ (s : Seen). P s.at) (came_by frames_in earlier)
 seen-more P (turn ∷ turns) earlier all =
-    next-more (λ (s : Seen). P s.at) (seen_by earlier) (seen_by (turns ++ earlier)) (seen_in turn.move.tick turn.event) (seen-more P turns earlier all.1) (seen-in P turn.move.tick turn.event all.0)
+    next-more (λ (s : Seen). P s.at) (came_by frames_in earlier) (came_by frames_in (turns ++ earlier)) (frames_in turn.did.tick turn.event) (seen-more P turns earlier all.1) (seen-in P turn.did.tick turn.event all.0)
 
-pub received-more : (turns earlier : List RxTurn) → More (λ (s : SessionRecord). Unit {0}) (received_by earlier) (received_by (turns ++ earlier))
-received-more [] earlier = none-more (λ (s : SessionRecord). Unit {0}) (received_by earlier)
-received-more (turn ∷ turns) earlier = next-more (λ (s : SessionRecord). Unit {0}) (received_by earlier) (received_by (turns ++ earlier)) turn.move.records (received-more turns earlier) (any turn.move.records)
+pub received-more : (turns earlier : List RxTurn) → More (λ (s : SessionRecord). Unit {0}) (records_by earlier) (records_by (turns ++ earlier))
+received-more [] earlier = none-more (λ (s : SessionRecord). Unit {0}) (records_by earlier)
+received-more (turn ∷ turns) earlier = next-more (λ (s : SessionRecord). Unit {0}) (records_by earlier) (records_by (turns ++ earlier)) turn.did.records (received-more turns earlier) (any turn.did.records)
 
 written-in : (P : ℕ → Type 0) (shape : Shape) (tick : ℕ) (event : TxEvent) (lies : Option Meaning) → P tick → AllByRecursion (λ (w : Written). P w.tick) (written_at shape event tick lies)
 written-in P shape tick Turn lies at = tt

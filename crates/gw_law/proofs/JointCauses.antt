@@ -1,5 +1,9 @@
 -- The causes of records that need both parties and the hub's law.
 use Rattle.std.proofs.Common.{◌≡◌, ◌≢◌, ℕ, ◌+◌, ◌*◌, ◌<◌, ◌≤◌, Bool, true, false, Option, Some, None, List, [], ◌∷◌, ◌++◌, length, take, zero, suc, refl, ap, sym, ◌∙◌, subst, arith, take_all}
+use Rattle.tp_receiver.specs.Table.{RxStep, cells_of}
+use Rattle.tp_receiver.specs.State.{RxTurn, rx_new}
+use Rattle.tp_receiver.specs.Runs.{HasReceived}
+use Rattle.hub_core.specs.Turns.{calls_by, state_after, records_by}
 use Rattle.std.specs.Prelude.{not, is_some, slice_get}
 use Rattle.std.specs.List.{AllByRecursion}
 use Rattle.std.proofs.lemmas.Bool.Decides.{nat_tests}
@@ -17,8 +21,6 @@ use Rattle.hub_core.specs.declared.record.SessionResult.TheVariants.{Whole, NoRe
 use Rattle.tp_attempts.specs.Attempts.{attempts_in}
 use Rattle.tp_attempts.specs.Cuts.{Cut}
 use Rattle.tp_attempts.specs.Seen.{Seen}
-use Rattle.tp_receiver.specs.Rows.{RxStep, cells_of}
-use Rattle.tp_receiver.specs.Running.{RxTurn, Happened as Received, calls_by as received_calls, state_of, told_by as received_by}
 use Rattle.tp_receiver.specs.declared.set.RxSet.{RxSet}
 use Rattle.tp_sender.specs.Frame.{part_after}
 use Rattle.tp_sender.specs.Sending.{calls_by as sent_calls, told_by as sent_by}
@@ -73,12 +75,12 @@ streams-so tx session sent how ended readers s r written stream put shows =
       cells = λ left. omega (arith, put.told, put.full, put.shown, (stream.gone left).1);
     }
 
-meets : (rx : RxSet) (tx : TxSet) (sizes : List ℕ) (works : List Work) (p k : ℕ) (session : SessionRecord) (opened : OpenedAt) (told : DestRecord) → AsFar rx tx sizes works → slice_get (received_by (turns_of works)) p ≡ Some session → session.opened ≡ Some opened →
+meets : (rx : RxSet) (tx : TxSet) (sizes : List ℕ) (works : List Work) (p k : ℕ) (session : SessionRecord) (opened : OpenedAt) (told : DestRecord) → AsFar rx tx sizes works → slice_get (records_by (turns_of works)) p ≡ Some session → session.opened ≡ Some opened →
     slice_get (sent_by (moments_of works)) k ≡ Some told → told.seq ≡ opened.seq → Meets tx session told.sent told.result (has_ended (moments_of works))
 meets rx tx sizes works p k session opened told far is opened_is told_is seq =
     let known = known-sessions rx (turns_of works) far.received in
     let reads = known-readings tx (moments_of works) far.sent in
-    let left : IsLeft rx ((grows (received_calls (turns_of works)) empty_view).sessions rx.path.0) session opened = all-at _ (received_by (turns_of works)) p session known.told is opened opened_is in
+    let left : IsLeft rx ((grows (calls_by (turns_of works)) empty_view).sessions rx.path.0) session opened = all-at _ (records_by (turns_of works)) p session known.told is opened opened_is in
     let parted : IsParted tx (has_ended (moments_of works)) _ told = all-at (IsParted tx (has_ended (moments_of works)) _) (sent_by (moments_of works)) k told reads.told told_is in
     let path : tx.path.0 ≡ rx.path.0 = ap (λ p. p.0) far.path in
     let stream = far.joint.2.streams.joined tx.path.0 tx.dest.0 told.seq parted.reading (ap (λ l. slice_get l told.seq) far.readings ∙ parted.there) in
@@ -107,10 +109,10 @@ record IsTold (functional : Bool) (seen : List Seen) (p : ℕ) (session : Sessio
   whole : session.bytes ≡ session.len → session.result ≡ Whole
   all : session.result ≡ Whole → session.bytes ≡ session.len
 
-told-so : (chan address : ℕ) (functional : Bool) (stored : ℕ → List ℕ) (seen : List Seen) (records : List SessionRecord) (p : ℕ) (session : SessionRecord) (opened : OpenedAt) → SourceLaw chan address functional stored seen records → slice_get records p ≡ Some session →
+told-so : (chan address : ℕ) (functional : Bool) (seen : List Seen) (records : List SessionRecord) (p : ℕ) (session : SessionRecord) (opened : OpenedAt) → SourceLaw chan address functional seen records → slice_get records p ≡ Some session →
     session.opened ≡ Some opened → IsTold functional seen p session
-told-so chan address functional stored seen records p session opened law is opened_is =
-    let at = zip-back (Tells chan address stored) (attempts_in functional seen) records p session law.tells is in
+told-so chan address functional seen records p session opened law is opened_is =
+    let at = zip-back (Tells chan address) (attempts_in functional seen) records p session law.tells is in
     let no : is_overflow session.result ≡ false = opens-so (is_overflow session.result) session.opened opened at.2.opens opened_is in
     record { unit = at.0; unit_is = at.1; whole = (at.2.whole no).1; all = (at.2.whole no).0 }
 
@@ -132,13 +134,13 @@ source-lost rx tx shape source_budget budget sizes last count free ticks end run
     let works : List Work = end ∷ ticks in
     let r : Route = route_of rx tx shape source_budget budget sizes last count free ticks end in
     let far : AsFar rx tx sizes works = as-far-whole rx tx sizes last count free ticks end run in
-    let has : Has (IsOpenedBy told) (received_by (turns_of works)) =
+    let has : Has (IsOpenedBy told) (records_by (turns_of works)) =
     source-ended rx tx sizes works (λ later front same. as-far-up-to rx tx sizes last count free ticks end later front same run) (run-timed rx tx sizes last count free ticks end run) (run-rising rx tx sizes last count free ticks end run) k told is how in
     let opened : OpenedAt = has.holds.0.0 in
     let P : DestResult → Type 0 = λ h. Meets tx has.item told.sent h (has_ended (moments_of works)) in
     let m : Meets tx has.item told.sent SourceEnded (has_ended (moments_of works)) = subst P how (meets rx tx sizes works has.place k has.item opened told far has.there has.holds.0.1 is (sym has.holds.0.2)) in
     let source = route-source rx tx shape source_budget budget sizes last count free ticks end run in
-    let so : IsTold rx.functional r.seen has.place has.item = told-so rx.chan.0 rx.a rx.functional source.0 r.seen r.sessions has.place has.item opened source.1 has.there has.holds.0.1 in
+    let so : IsTold rx.functional r.seen has.place has.item = told-so rx.chan.0 rx.a rx.functional r.seen r.sessions has.place has.item opened source has.there has.holds.0.1 in
     let lacks : Lacks r has.item told.sent × (has.item.bytes ≢ has.item.len) = lost-by r has.item told.sent (has_ended (moments_of works)) m run.shape m.shows.0 m.shows.1 in
     record {
       unit = so.unit;
@@ -198,32 +200,32 @@ numbered-at first (one ∷ records) (suc p) told numbered is = omega (arith, num
 -- at the run's end no record tells that no destination reads
 record EndsSo (earlier : List RxTurn) (whole : List SessionRecord) : Type 0 where
   more : List SessionRecord
-  is : whole ≡ received_by earlier ++ more
+  is : whole ≡ records_by earlier ++ more
   none : AllByRecursion (λ (session : SessionRecord). session.result ≡ NoReaders → ⊥) more
 
-end-so : (rx : RxSet) (last : ℕ) (turns earlier : List RxTurn) → EndsReceiving last turns → Received rx (turns ++ earlier) → EndsSo earlier (received_by (turns ++ earlier))
+end-so : (rx : RxSet) (last : ℕ) (turns earlier : List RxTurn) → EndsReceiving last turns → HasReceived rx (turns ++ earlier) → EndsSo earlier (records_by (turns ++ earlier))
 end-so rx last [] earlier is happened = absurd is
 end-so rx last (turn ∷ []) earlier is happened =
-    record { more = turn.move.records; is = refl; none = end-tells rx (state_of earlier).next (state_of earlier).seq (state_of earlier).busy turn.move (subst (λ e. RxStep rx (state_of earlier) e turn.move) is.0 happened.1) }
+    record { more = turn.did.records; is = refl; none = end-tells rx (state_after rx_new earlier).next (state_after rx_new earlier).seq (state_after rx_new earlier).busy turn.did (subst (λ e. RxStep rx (state_after rx_new earlier) e turn.did) is.0 happened.1) }
 end-so rx last (turn ∷ next ∷ more) earlier is happened = let no : next ∷ more ≡ [] = is.2 in cc
 
-in-ticks : (turns : List RxTurn) (more : List SessionRecord) (k : ℕ) (session : SessionRecord) → session.result ≡ NoReaders → AllByRecursion (λ (s : SessionRecord). s.result ≡ NoReaders → ⊥) more → Joined (received_by turns) more k session → slice_get (received_by turns) k ≡ Some session
+in-ticks : (turns : List RxTurn) (more : List SessionRecord) (k : ℕ) (session : SessionRecord) → session.result ≡ NoReaders → AllByRecursion (λ (s : SessionRecord). s.result ≡ NoReaders → ⊥) more → Joined (records_by turns) more k session → slice_get (records_by turns) k ≡ Some session
 in-ticks turns more k session how none (InFirst there) = there
 in-ticks turns more k session how none (InNext j there past) = absurd (all-at (λ (s : SessionRecord). s.result ≡ NoReaders → ⊥) more j session none there how)
 
 -- a destination of a run is one of its path's
 has-dest : (rx : RxSet) (tx : TxSet) (sizes : List ℕ) (last count free : ℕ) (ticks : List Work) (end : Work) → IsRun rx tx sizes last count free ticks end → (k : ℕ) (session : SessionRecord) (opened : OpenedAt) →
-    slice_get (received_by (turns_of (end ∷ ticks))) k ≡ Some session → session.opened ≡ Some opened → tx.dest.0 < rx.readers
+    slice_get (records_by (turns_of (end ∷ ticks))) k ≡ Some session → session.opened ≡ Some opened → tx.dest.0 < rx.readers
 has-dest rx tx sizes last count free ticks end run k session opened is opened_is =
     let works : List Work = end ∷ ticks in
     let far : AsFar rx tx sizes works = as-far-whole rx tx sizes last count free ticks end run in
     let known = known-sessions rx (turns_of works) far.received in
     let reads = known-readings tx (moments_of works) far.sent in
-    let left : IsLeft rx ((grows (received_calls (turns_of works)) empty_view).sessions rx.path.0) session opened = all-at _ (received_by (turns_of works)) k session known.told is opened opened_is in
+    let left : IsLeft rx ((grows (calls_by (turns_of works)) empty_view).sessions rx.path.0) session opened = all-at _ (records_by (turns_of works)) k session known.told is opened opened_is in
     let path : tx.path.0 ≡ rx.path.0 = ap (λ p. p.0) far.path in
     let readings : List Reading = (grows (sent_calls (moments_of works)) empty_view).readings tx.path.0 tx.dest.0 in
     let inside : opened.seq < length readings =
-    omega (arith, slice_get_within ((grows (received_calls (turns_of works)) empty_view).sessions rx.path.0) opened.seq left.session left.there, run.ends.joined, ap length far.sessions, reads.number) in
+    omega (arith, slice_get_within ((grows (calls_by (turns_of works)) empty_view).sessions rx.path.0) opened.seq left.session left.there, run.ends.joined, ap length far.sessions, reads.number) in
     let r = slice_get-get_or readings opened.seq (reading_new 0 0) inside in
     let reading = ap (λ p. slice_get ((view_of works).readings p tx.dest.0) opened.seq) (sym path) ∙ ap (λ l. slice_get l opened.seq) far.readings ∙ r in
     omega (arith, far.joint.2.owned.joined rx.path.0 tx.dest.0 opened.seq left.session _ (ap (λ l. slice_get l opened.seq) far.sessions ∙ left.there) reading, left.put.dests)
@@ -241,13 +243,13 @@ own-end tx session sent Cancelled ended m other is = tt
 own-end tx session sent (RunEnd wait since) ended m other is = is
 
 unread-opened : (rx : RxSet) (tx : TxSet) (shape : Shape) (source_budget budget : ℕ) (sizes : List ℕ) (last count free : ℕ) (ticks : List Work) (end : Work) (run : IsRun rx tx sizes last count free ticks end) (k : ℕ) (session : SessionRecord) (opened : OpenedAt) →
-    slice_get (received_by (turns_of (end ∷ ticks))) k ≡ Some session → session.result ≡ NoReaders → session.opened ≡ Some opened → IsUnread (route_of rx tx shape source_budget budget sizes last count free ticks end) session
+    slice_get (records_by (turns_of (end ∷ ticks))) k ≡ Some session → session.result ≡ NoReaders → session.opened ≡ Some opened → IsUnread (route_of rx tx shape source_budget budget sizes last count free ticks end) session
 unread-opened rx tx shape source_budget budget sizes last count free ticks end run k session opened is how opened_is =
     let works : List Work = end ∷ ticks in
     let r : Route = route_of rx tx shape source_budget budget sizes last count free ticks end in
     let far : AsFar rx tx sizes works = as-far-whole rx tx sizes last count free ticks end run in
-    let ends : EndsSo (turns_of ticks) (received_by (turns_of works)) = end-so rx last end.turns (turns_of ticks) run.ends.receives far.received in
-    let there : slice_get (received_by (turns_of ticks)) k ≡ Some session = in-ticks (turns_of ticks) ends.more k session how ends.none (joined (received_by (turns_of ticks)) ends.more k session (ap (λ l. slice_get l k) (sym ends.is) ∙ is)) in
+    let ends : EndsSo (turns_of ticks) (records_by (turns_of works)) = end-so rx last end.turns (turns_of ticks) run.ends.receives far.received in
+    let there : slice_get (records_by (turns_of ticks)) k ≡ Some session = in-ticks (turns_of ticks) ends.more k session how ends.none (joined (records_by (turns_of ticks)) ends.more k session (ap (λ l. slice_get l k) (sym ends.is) ∙ is)) in
     let has : Has (LeftBefore session opened) (sent_by (moments_of ticks)) =
     left-before rx tx sizes ticks (λ later front same. as-far rx tx sizes last count free ticks end later front same run) (λ later earlier work same. as-far-within rx tx sizes last count free ticks end later earlier work same run) run.ticks_are
     (run-timed rx tx sizes last count free ticks end run).1 (run-rising rx tx sizes last count free ticks end run).1 (has-dest rx tx sizes last count free ticks end run k session opened is opened_is) k session opened there how opened_is in
@@ -256,7 +258,7 @@ unread-opened rx tx shape source_budget budget sizes last count free ticks end r
     let place : has.item.seq ≡ 0 + has.place = numbered-at 0 (sent_by (moments_of works)) has.place has.item (route-delivers rx tx shape source_budget budget sizes last count free ticks end run).numbered told_is in
     let here : has.place ≡ opened.seq = omega (arith, place, has.holds.seq_is) in
     let source = route-source rx tx shape source_budget budget sizes last count free ticks end run in
-    let so : IsTold rx.functional r.seen k session = told-so rx.chan.0 rx.a rx.functional source.0 r.seen r.sessions k session opened source.1 is opened_is in
+    let so : IsTold rx.functional r.seen k session = told-so rx.chan.0 rx.a rx.functional r.seen r.sessions k session opened source is opened_is in
     record {
       opened = opened;
       opened_is = opened_is;
@@ -269,7 +271,7 @@ unread-opened rx tx shape source_budget budget sizes last count free ticks end r
     }
 
 unread-by : (rx : RxSet) (tx : TxSet) (shape : Shape) (source_budget budget : ℕ) (sizes : List ℕ) (last count free : ℕ) (ticks : List Work) (end : Work) (run : IsRun rx tx sizes last count free ticks end) (k : ℕ) (session : SessionRecord) (was : Option OpenedAt) →
-    slice_get (received_by (turns_of (end ∷ ticks))) k ≡ Some session → session.result ≡ NoReaders → session.opened ≡ was → is_some was ≡ true → IsUnread (route_of rx tx shape source_budget budget sizes last count free ticks end) session
+    slice_get (records_by (turns_of (end ∷ ticks))) k ≡ Some session → session.result ≡ NoReaders → session.opened ≡ was → is_some was ≡ true → IsUnread (route_of rx tx shape source_budget budget sizes last count free ticks end) session
 unread-by rx tx shape source_budget budget sizes last count free ticks end run k session None is how opened_is some = cc
 unread-by rx tx shape source_budget budget sizes last count free ticks end run k session (Some opened) is how opened_is some = unread-opened rx tx shape source_budget budget sizes last count free ticks end run k session opened is how opened_is
 
@@ -281,7 +283,7 @@ route-unread rx tx shape source_budget budget sizes last count free ticks end ru
     let source = route-source rx tx shape source_budget budget sizes last count free ticks end run in
     all-by (λ (session : SessionRecord). session.result ≡ NoReaders → IsUnread r session) r.sessions
     (λ k session is how.
-    let at = zip-back (Tells rx.chan.0 rx.a source.0) (attempts_in rx.functional r.seen) r.sessions k session source.1.tells is in
+    let at = zip-back (Tells rx.chan.0 rx.a) (attempts_in rx.functional r.seen) r.sessions k session source.tells is in
     unread-by rx tx shape source_budget budget sizes last count free ticks end run k session session.opened is how refl (at.2.opens ∙ ap (λ h. not (is_overflow h)) how))
 
 -- all of them
@@ -292,6 +294,6 @@ joint_causes rx tx shape source_budget budget sizes last count free ticks end so
     record {
       unread = route-unread rx tx shape source_budget budget sizes last count free ticks end run;
       short = route-short rx tx shape source_budget budget sizes last count free ticks end run;
-      in_time = none-waits (route_of rx tx shape source_budget budget sizes last count free ticks end) source.0 run.shape source.1 (causes rx tx shape source_budget budget sizes last count free ticks end some run)
+      in_time = none-waits (route_of rx tx shape source_budget budget sizes last count free ticks end) run.shape source (causes rx tx shape source_budget budget sizes last count free ticks end some run)
           (timely rx tx shape source_budget budget sizes last count free ticks end run) (route-delivers rx tx shape source_budget budget sizes last count free ticks end run);
     }

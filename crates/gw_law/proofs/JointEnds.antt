@@ -1,5 +1,8 @@
 -- Which of a session's and its destination's records comes first, tick by tick.
 use Rattle.std.proofs.Common.{◌≡◌, ℕ, ◌+◌, ◌<◌, ◌≤◌, zero, suc, Bool, true, false, Option, Some, None, option_map, List, [], ◌∷◌, ◌++◌, length, refl, ap, sym, ◌∙◌, subst, arith, append-nil}
+use Rattle.tp_receiver.specs.State.{Reception, RxTurn, rx_new}
+use Rattle.tp_receiver.specs.Runs.{HasReceived, frames_in}
+use Rattle.hub_core.specs.Turns.{calls_by, now_of, came_by, state_after, records_by}
 use Rattle.std.specs.Prelude.{option_to_list, slice_get}
 use Rattle.std.specs.List.{AllByRecursion}
 use Rattle.std.proofs.lemmas.Option.{slice_get_within}
@@ -10,8 +13,6 @@ use Rattle.hub_core.specs.declared.record.DestResult.TheVariants.{Sent, SourceEn
 use Rattle.hub_core.specs.declared.record.OpenedAt.{OpenedAt}
 use Rattle.hub_core.specs.declared.record.SessionRecord.{SessionRecord}
 use Rattle.hub_core.specs.declared.record.SessionResult.TheVariants.{NoReaders}
-use Rattle.tp_receiver.specs.Receiving.{Busy}
-use Rattle.tp_receiver.specs.Running.{RxTurn, Happened as Received, calls_by as received_calls, now_of, seen_by, state_of, told_by as received_by}
 use Rattle.tp_receiver.specs.declared.set.RxSet.{RxSet}
 use Rattle.tp_sender.specs.Sending.{Moment, OtherLeft, Stepped, Happened as WasSent, box_after, calls_by as sent_calls, told_by as sent_by}
 use Rattle.tp_sender.specs.declared.event.TxEvent.{TxEvent}
@@ -66,26 +67,26 @@ once first (told ∷ records) (suc i) (suc j) a b o p counts is other opened als
     ap suc (once rest.0 records i j a b o p rest.2 is other opened also same)
 
 -- the sessions of a receiver's records are numbered from 0, and the records end by its last tick
-sessions-by : (set : RxSet) (next seq now : ℕ) (busy : Option Busy) (turns : List RxTurn) (records : List SessionRecord) → HoldsBy set next seq busy (received_calls turns) now (seen_by turns) records → CountsFrom 0 (sessions_in records) × AllByRecursion (IsOver now (length (sessions_in records))) records
+sessions-by : (set : RxSet) (next seq now : ℕ) (busy : Option Reception) (turns : List RxTurn) (records : List SessionRecord) → HoldsBy set next seq busy (calls_by turns) now (came_by frames_in turns) records → CountsFrom 0 (sessions_in records) × AllByRecursion (IsOver now (length (sessions_in records))) records
 sessions-by set next seq now None turns records so = (so.told.sessions, so.told.over)
 sessions-by set next seq now (Some busy) turns records so = (so.0.told.sessions, so.0.told.over)
 
-pub sessions-so : (set : RxSet) (turns : List RxTurn) → Received set turns → CountsFrom 0 (sessions_in (received_by turns)) × AllByRecursion (IsOver (now_of turns) (length (sessions_in (received_by turns)))) (received_by turns)
-sessions-so set turns happened = sessions-by set (state_of turns).next (state_of turns).seq (now_of turns) (state_of turns).busy turns (received_by turns) (holds set turns happened)
+pub sessions-so : (set : RxSet) (turns : List RxTurn) → HasReceived set turns → CountsFrom 0 (sessions_in (records_by turns)) × AllByRecursion (IsOver (now_of turns) (length (sessions_in (records_by turns)))) (records_by turns)
+sessions-so set turns happened = sessions-by set (state_after rx_new turns).next (state_after rx_new turns).seq (now_of turns) (state_after rx_new turns).busy turns (records_by turns) (holds set turns happened)
 
 now-by : (P : ℕ → Type 0) (turns : List RxTurn) → P 0 → AllByRecursion (TurnIn P) turns → P (now_of turns)
 now-by P [] none all = none
 now-by P (turn ∷ turns) none all = all.0
 
 -- a session whose writer a destination saw gone is told by then
-source-gone : (rx : RxSet) (tx : TxSet) (sizes : List ℕ) (works : List Work) (k : ℕ) (told : DestRecord) → AsFar rx tx sizes works → slice_get (sent_by (moments_of works)) k ≡ Some told → told.result ≡ SourceEnded → Has (IsOpenedAs told.seq) (received_by (turns_of works))
+source-gone : (rx : RxSet) (tx : TxSet) (sizes : List ℕ) (works : List Work) (k : ℕ) (told : DestRecord) → AsFar rx tx sizes works → slice_get (sent_by (moments_of works)) k ≡ Some told → told.result ≡ SourceEnded → Has (IsOpenedAs told.seq) (records_by (turns_of works))
 source-gone rx tx sizes works k told far is ended =
     let reads = known-readings tx (moments_of works) far.sent in
     let parted : IsParted tx (has_ended (moments_of works)) _ told = all-at (IsParted tx (has_ended (moments_of works)) _) (sent_by (moments_of works)) k told reads.told is in
     let P : DestResult → Type 0 = λ how. ShowsBy tx (has_ended (moments_of works)) told.sent parted.reading how in
     let gone : parted.reading.writer ≡ false = (subst P ended parted.shows).0 in
     let stream = far.joint.2.streams.joined tx.path.0 tx.dest.0 told.seq parted.reading (ap (λ l. slice_get l told.seq) far.readings ∙ parted.there) in
-    let session : slice_get ((grows (received_calls (turns_of works)) empty_view).sessions rx.path.0) told.seq ≡ Some stream.0 =
+    let session : slice_get ((grows (calls_by (turns_of works)) empty_view).sessions rx.path.0) told.seq ≡ Some stream.0 =
     sym (ap (λ l. slice_get l told.seq) far.sessions) ∙ ap (λ (p : ℕ). slice_get ((view_of works).sessions p) told.seq) (sym (ap (λ p. p.0) far.path)) ∙ stream.1 in
     (known-sessions rx (turns_of works) far.received).left told.seq stream.0 session (stream.2.gone gone).0
 
@@ -105,26 +106,26 @@ abbrev pub IsOpenedBy : DestRecord → SessionRecord → Type 0
 IsOpenedBy told session = IsOpenedAs told.seq session × (session.end.0 ≤ told.end.0)
 
 ended-here : (rx : RxSet) (tx : TxSet) (sizes : List ℕ) (earlier : List Work) (work : Work) (k : ℕ) (told : DestRecord) → AsFar rx tx sizes (work ∷ earlier) → AllByRecursion IsTimed (work ∷ earlier) → AreRising (work ∷ earlier) →
-    slice_get (sent_by (moments_of (work ∷ earlier))) k ≡ Some told → told.result ≡ SourceEnded → told.end.0 ≡ work.tick → Has (IsOpenedBy told) (received_by (turns_of (work ∷ earlier)))
+    slice_get (sent_by (moments_of (work ∷ earlier))) k ≡ Some told → told.result ≡ SourceEnded → told.end.0 ≡ work.tick → Has (IsOpenedBy told) (records_by (turns_of (work ∷ earlier)))
 ended-here rx tx sizes earlier work k told far timed rising is how at =
     let has = source-gone rx tx sizes (work ∷ earlier) k told far is how in
     let now : now_of (turns_of (work ∷ earlier)) ≤ work.tick =
     now-by (λ (t : ℕ). t ≤ work.tick) (turns_of (work ∷ earlier)) (omega arith) (turns-in (λ (t : ℕ). t ≤ work.tick) (work ∷ earlier) timed (up-to-first work earlier rising)) in
-    let over : IsOver _ _ has.item = all-at (IsOver _ _) (received_by (turns_of (work ∷ earlier))) has.place has.item (sessions-so rx (turns_of (work ∷ earlier)) far.received).1 has.there in
+    let over : IsOver _ _ has.item = all-at (IsOver _ _) (records_by (turns_of (work ∷ earlier))) has.place has.item (sessions-so rx (turns_of (work ∷ earlier)) far.received).1 has.there in
     record { place = has.place; item = has.item; there = has.there; holds = (has.holds, omega (arith, over.ended, now, at)) }
 
 ended-in : (rx : RxSet) (tx : TxSet) (sizes : List ℕ) (earlier : List Work) (work : Work) (k : ℕ) (told : DestRecord) (more : List DestRecord) → AsFar rx tx sizes (work ∷ earlier) → AllByRecursion IsTimed (work ∷ earlier) → AreRising (work ∷ earlier) →
-    slice_get (sent_by (moments_of (work ∷ earlier))) k ≡ Some told → told.result ≡ SourceEnded → AllByRecursion (λ (t : DestRecord). t.end.0 ≡ work.tick) more → (slice_get (sent_by (moments_of earlier)) k ≡ Some told → Has (IsOpenedBy told) (received_by (turns_of earlier))) →
-    Joined (sent_by (moments_of earlier)) more k told → Has (IsOpenedBy told) (received_by (turns_of (work ∷ earlier)))
+    slice_get (sent_by (moments_of (work ∷ earlier))) k ≡ Some told → told.result ≡ SourceEnded → AllByRecursion (λ (t : DestRecord). t.end.0 ≡ work.tick) more → (slice_get (sent_by (moments_of earlier)) k ≡ Some told → Has (IsOpenedBy told) (records_by (turns_of earlier))) →
+    Joined (sent_by (moments_of earlier)) more k told → Has (IsOpenedBy told) (records_by (turns_of (work ∷ earlier)))
 ended-in rx tx sizes earlier work k told more far timed rising is how all before (InFirst there) =
     let grown = turns-told (λ (t : ℕ). t ≡ work.tick) rx work.turns (turns_of earlier) far.received timed.0.turns in
     let P : List SessionRecord → Type 0 = λ l. Has (IsOpenedBy told) l in
-    subst P (sym grown.is) (has-more (IsOpenedBy told) (received_by (turns_of earlier)) grown.more (before there))
+    subst P (sym grown.is) (has-more (IsOpenedBy told) (records_by (turns_of earlier)) grown.more (before there))
 ended-in rx tx sizes earlier work k told more far timed rising is how all before (InNext j there past) =
     ended-here rx tx sizes earlier work k told far timed rising is how (all-at (λ (t : DestRecord). t.end.0 ≡ work.tick) more j told all there)
 
 pub source-ended : (rx : RxSet) (tx : TxSet) (sizes : List ℕ) (works : List Work) → FarUpTo rx tx sizes works → AllByRecursion IsTimed works → AreRising works → (k : ℕ) (told : DestRecord) → slice_get (sent_by (moments_of works)) k ≡ Some told → told.result ≡ SourceEnded →
-    Has (IsOpenedBy told) (received_by (turns_of works))
+    Has (IsOpenedBy told) (records_by (turns_of works))
 source-ended rx tx sizes [] far timed rising k told is how = cc
 source-ended rx tx sizes (work ∷ earlier) far timed rising k told is how =
     let here : AsFar rx tx sizes (work ∷ earlier) = far [] (work ∷ earlier) refl in
@@ -202,11 +203,11 @@ pub record LeftBefore (session : SessionRecord) (opened : OpenedAt) (told : Dest
 
 -- in the tick of the session's record
 left-here : (rx : RxSet) (tx : TxSet) (sizes : List ℕ) (earlier : List Work) (work : Work) (k : ℕ) (session : SessionRecord) (opened : OpenedAt) → AsFarWithin rx tx sizes earlier work → tx.dest.0 < rx.readers → has_ended (moments_of earlier) ≡ false →
-    AllByRecursion (λ (t : DestRecord). t.end.0 < work.tick) (sent_by (moments_of earlier)) → slice_get (received_by (turns_of (work ∷ earlier))) k ≡ Some session → session.result ≡ NoReaders → session.opened ≡ Some opened → session.end.0 ≡ work.tick →
-    ((j : ℕ) (a : SessionRecord) → slice_get (received_by (turns_of earlier)) j ≡ Some a → (slice_get (received_by (turns_of (work ∷ earlier))) j ≡ Some a) × (j < k)) → Has (LeftBefore session opened) (sent_by (moments_of earlier))
+    AllByRecursion (λ (t : DestRecord). t.end.0 < work.tick) (sent_by (moments_of earlier)) → slice_get (records_by (turns_of (work ∷ earlier))) k ≡ Some session → session.result ≡ NoReaders → session.opened ≡ Some opened → session.end.0 ≡ work.tick →
+    ((j : ℕ) (a : SessionRecord) → slice_get (records_by (turns_of earlier)) j ≡ Some a → (slice_get (records_by (turns_of (work ∷ earlier))) j ≡ Some a) × (j < k)) → Has (LeftBefore session opened) (sent_by (moments_of earlier))
 left-here rx tx sizes earlier work k session opened far below none past is how opened_is at new =
     let known = known-sessions rx (turns_of (work ∷ earlier)) far.received in
-    let left : IsLeft rx ((grows (received_calls (turns_of (work ∷ earlier))) empty_view).sessions rx.path.0) session opened = all-at _ (received_by (turns_of (work ∷ earlier))) k session known.told is opened opened_is in
+    let left : IsLeft rx ((grows (calls_by (turns_of (work ∷ earlier))) empty_view).sessions rx.path.0) session opened = all-at _ (records_by (turns_of (work ∷ earlier))) k session known.told is opened opened_is in
     let path : tx.path.0 ≡ rx.path.0 = ap (λ p. p.0) far.before.path in
     let there : slice_get ((view_between earlier work).sessions rx.path.0) opened.seq ≡ Some left.session = ap (λ l. slice_get l opened.seq) far.sessions ∙ left.there in
     let gone = far.joint.2.owned.no_readers rx.path.0 opened.seq left.session there (left.none how) tx.dest.0 (omega (arith, below, left.put.dests)) in
@@ -225,7 +226,7 @@ left-here rx tx sizes earlier work k session opened far below none past is how o
         other = is-other tx (has_ended (moments_of earlier)) has.item.sent parted.reading has.item.result none (λ ended.
             let source = source-gone rx tx sizes earlier has.place has.item far.before has.there ended in
             let same = new source.place source.item source.there in
-            omega (arith, same.1, once 0 (received_by (turns_of (work ∷ earlier))) source.place k source.item session source.holds.0 opened (sessions-so rx (turns_of (work ∷ earlier)) far.received).0 same.0 is source.holds.1 opened_is (source.holds.2 ∙ has.holds))) parted.shows;
+            omega (arith, same.1, once 0 (records_by (turns_of (work ∷ earlier))) source.place k source.item session source.holds.0 opened (sessions-so rx (turns_of (work ∷ earlier)) far.received).0 same.0 is source.holds.1 opened_is (source.holds.2 ∙ has.holds))) parted.shows;
       };
     }
 
@@ -242,9 +243,9 @@ told-before tx bound works sent timed below rising =
     subst Q (sym all.is ∙ ap sent_by (append-nil (moments_of works))) all.all
 
 left-in : (rx : RxSet) (tx : TxSet) (sizes : List ℕ) (earlier : List Work) (work : Work) (k : ℕ) (session : SessionRecord) (opened : OpenedAt) (more : List SessionRecord) (later : List DestRecord) → AsFarWithin rx tx sizes earlier work → tx.dest.0 < rx.readers →
-    has_ended (moments_of earlier) ≡ false → AllByRecursion (λ (t : DestRecord). t.end.0 < work.tick) (sent_by (moments_of earlier)) → slice_get (received_by (turns_of (work ∷ earlier))) k ≡ Some session → session.result ≡ NoReaders → session.opened ≡ Some opened →
-    AllByRecursion (λ (t : SessionRecord). t.end.0 ≡ work.tick) more → received_by (turns_of (work ∷ earlier)) ≡ received_by (turns_of earlier) ++ more → sent_by (moments_of (work ∷ earlier)) ≡ sent_by (moments_of earlier) ++ later →
-    (slice_get (received_by (turns_of earlier)) k ≡ Some session → Has (LeftBefore session opened) (sent_by (moments_of earlier))) → Joined (received_by (turns_of earlier)) more k session → Has (LeftBefore session opened) (sent_by (moments_of (work ∷ earlier)))
+    has_ended (moments_of earlier) ≡ false → AllByRecursion (λ (t : DestRecord). t.end.0 < work.tick) (sent_by (moments_of earlier)) → slice_get (records_by (turns_of (work ∷ earlier))) k ≡ Some session → session.result ≡ NoReaders → session.opened ≡ Some opened →
+    AllByRecursion (λ (t : SessionRecord). t.end.0 ≡ work.tick) more → records_by (turns_of (work ∷ earlier)) ≡ records_by (turns_of earlier) ++ more → sent_by (moments_of (work ∷ earlier)) ≡ sent_by (moments_of earlier) ++ later →
+    (slice_get (records_by (turns_of earlier)) k ≡ Some session → Has (LeftBefore session opened) (sent_by (moments_of earlier))) → Joined (records_by (turns_of earlier)) more k session → Has (LeftBefore session opened) (sent_by (moments_of (work ∷ earlier)))
 left-in rx tx sizes earlier work k session opened more later far below none past is how opened_is all grown sent before (InFirst there) =
     let P : List DestRecord → Type 0 = λ l. Has (LeftBefore session opened) l in
     subst P (sym sent) (has-more (LeftBefore session opened) (sent_by (moments_of earlier)) later (before there))
@@ -252,11 +253,11 @@ left-in rx tx sizes earlier work k session opened more later far below none past
     let P : List DestRecord → Type 0 = λ l. Has (LeftBefore session opened) l in
     subst P (sym sent) (has-more (LeftBefore session opened) (sent_by (moments_of earlier)) later
     (left-here rx tx sizes earlier work k session opened far below none past is how opened_is (all-at (λ (t : SessionRecord). t.end.0 ≡ work.tick) more j session all there)
-    (λ i a at. (ap (λ l. slice_get l i) grown ∙ slice_get-more (received_by (turns_of earlier)) more i a at, omega (arith, beyond, slice_get_within (received_by (turns_of earlier)) i a at)))))
+    (λ i a at. (ap (λ l. slice_get l i) grown ∙ slice_get-more (records_by (turns_of earlier)) more i a at, omega (arith, beyond, slice_get_within (records_by (turns_of earlier)) i a at)))))
 
 -- each session that no destination reads
 pub left-before : (rx : RxSet) (tx : TxSet) (sizes : List ℕ) (works : List Work) → FarUpTo rx tx sizes works → FarWithin rx tx sizes works → AreTicks sizes works → AllByRecursion IsTimed works → AreRising works → tx.dest.0 < rx.readers → (k : ℕ) (session : SessionRecord)
-    (opened : OpenedAt) → slice_get (received_by (turns_of works)) k ≡ Some session → session.result ≡ NoReaders → session.opened ≡ Some opened → Has (LeftBefore session opened) (sent_by (moments_of works))
+    (opened : OpenedAt) → slice_get (records_by (turns_of works)) k ≡ Some session → session.result ≡ NoReaders → session.opened ≡ Some opened → Has (LeftBefore session opened) (sent_by (moments_of works))
 left-before rx tx sizes [] far within ticks timed rising below k session opened is how opened_is = cc
 left-before rx tx sizes (work ∷ earlier) far within ticks timed rising below k session opened is how opened_is =
     let here : AsFar rx tx sizes (work ∷ earlier) = far [] (work ∷ earlier) refl in
@@ -265,4 +266,4 @@ left-before rx tx sizes (work ∷ earlier) far within ticks timed rising below k
     let sent = moments-told (λ (t : ℕ). t ≡ work.tick) tx work.moments (moments_of earlier) here.sent timed.0.moments in
     left-in rx tx sizes earlier work k session opened grown.more sent.more (within [] earlier work refl) below (ticks-go sizes earlier ticks.1) (told-before tx work.tick earlier before.sent timed.1 ticks.0.later rising.1) is how opened_is grown.all grown.is sent.is
     (λ there. left-before rx tx sizes earlier (λ later front same. far (work ∷ later) front (ap (λ l. work ∷ l) same)) (λ later first next same. within (work ∷ later) first next (ap (λ l. work ∷ l) same)) ticks.1 timed.1 rising.1 below k session opened there how opened_is)
-    (joined (received_by (turns_of earlier)) grown.more k session (ap (λ l. slice_get l k) (sym grown.is) ∙ is))
+    (joined (records_by (turns_of earlier)) grown.more k session (ap (λ l. slice_get l k) (sym grown.is) ∙ is))

@@ -1,5 +1,9 @@
 -- The sessions of a view after each row of a receiver's steps.
 use Rattle.std.proofs.Common.{◌≡◌, ℕ, ◌+◌, ◌*◌, ◌≤◌, Bool, true, false, Option, Some, None, option_map, List, [], ◌∷◌, ◌++◌, length, All, zero, suc, refl, ap, sym, ◌∙◌, subst, arith, append-nil, append_assoc}
+use Rattle.tp_receiver.specs.State.{Reception, RxState, RxEvent, RxDid, Came, Timer, FcLeft, RunEnd, RxTurn, rx_new}
+use Rattle.tp_receiver.specs.Table.{begun, due, gone_on, After, Begins, BeginsFirst, BeginsSingle, Carries, Continues, Ends, FirstRow, Grants, Interrupts, Opens, Overflows, Quiet, RxStep, Starts, asks, overflow, puts, NoneReads, All as GrantsAll, NoBuffer, Completes, NoBufferFirst, Opened, NoneReadsOn, TooLittleRoom, Adds, Fills, TooLong, TooShort, WrongNumber, RightNumber, InTime, TooLate, FromBox, NotAwaited}
+use Rattle.tp_receiver.specs.Runs.{HasReceived}
+use Rattle.hub_core.specs.Turns.{calls_by, state_after, records_by}
 use Rattle.std.specs.Prelude.{◌-◌, map, slice_get, take}
 use Rattle.std.proofs.lemmas.List.{length-append}
 use Rattle.std.proofs.lemmas.List.Elements.{All-head, All-tail}
@@ -16,14 +20,10 @@ use Rattle.hub_core.specs.declared.record.SessionRecord.{SessionRecord}
 use Rattle.hub_core.specs.declared.record.SessionResult.{SessionResult}
 use Rattle.hub_core.specs.declared.record.SessionResult.TheVariants.{Whole, WrongSn, RxTimeout, Restarted, NoRoom, NoReaders, RunEnd}
 use Rattle.tp_receiver.specs.declared.set.RxSet.{RxSet}
-use Rattle.tp_receiver.specs.Receiving.{Busy, RxState, RxInput, RxMove, Came, TimerTurn, FlowControlLeft, RunEnds, begun, due, gone_on}
-use Rattle.tp_receiver.specs.Rows.{After, Begins, BeginsFirst, BeginsSingle, Carries, Continues, Ends, FirstRow, Grants, Interrupts, Opens, Overflows, Quiet, RxStep, Starts, asks, overflow, puts}
-use Rattle.tp_receiver.specs.Rows.{NoneReads, All as GrantsAll, NoBuffer, Completes, NoBufferFirst, Opened, NoneReadsOn, TooLittleRoom, Adds, Fills, TooLong, TooShort, WrongNumber, RightNumber, InTime, TooLate, FromBox, NotAwaited}
-use Rattle.tp_receiver.specs.Running.{Happened, RxTurn, calls_by, state_of, told_by}
 use Rattle.tp_unit.specs.Unit.{BoxMeaning, Keeps, Offers, Meaning, SingleFrame, FirstFrame, ConsecutiveFrame, FlowControl, NoUnit}
 use Rattle.gw_law.proofs.JointSessions.{Filling, Known, filling_of, known-changed, known-closed, known-entered, known-refused}
 
-abbrev pub KnownIn : RxSet → View → List SessionRecord → ℕ → Option Busy → Type 0
+abbrev pub KnownIn : RxSet → View → List SessionRecord → ℕ → Option Reception → Type 0
 KnownIn set v records seq busy = Known set (v.sessions set.path.0) records seq (option_map filling_of busy)
 
 abbrev pub KnownBy : RxSet → View → List SessionRecord → RxState → Type 0
@@ -93,7 +93,7 @@ grow-asked : (path seq room readers : ℕ) (v : View) → (grow (Asked path seq 
 unfolding grow
 grow-asked path seq room readers v = at_one-same path _ v.sessions
 
-asked : (set : RxSet) (v : View) (records : List SessionRecord) (seq room readers : ℕ) (busy : Busy) → KnownIn set v records seq (Some busy) → KnownIn set (grows (asks set busy room readers) v) records seq (Some busy)
+asked : (set : RxSet) (v : View) (records : List SessionRecord) (seq room readers : ℕ) (busy : Reception) → KnownIn set v records seq (Some busy) → KnownIn set (grows (asks set busy room readers) v) records seq (Some busy)
 asked set v records seq room readers busy known =
     rw (grow-asked set.path.0 busy.opened.seq room readers v) (known-changed set (v.sessions set.path.0) records seq busy.bytes (filling_of busy) (λ s. record s { room = room; readers = readers }) (λ s. refl)
     (λ s put. record { len_is = put.len_is; told = put.told; shown = put.shown; full = put.full; dests = put.dests }) known)
@@ -103,27 +103,27 @@ grow-closed : (path seq : ℕ) (freed : List Change) (v : View) → (grow (Close
 unfolding grow
 grow-closed path seq freed v = at_one-same path _ v.sessions
 
-ends : (set : RxSet) (next seq : ℕ) (busy : Busy) (how : SessionResult) (m : RxMove) (v : View) (records : List SessionRecord) → ((s : Session) → slice_get (v.sessions set.path.0) busy.opened.seq ≡ Some s → how ≡ NoReaders → s.readers ≡ 0) →
+ends : (set : RxSet) (next seq : ℕ) (busy : Reception) (how : SessionResult) (m : RxDid) (v : View) (records : List SessionRecord) → ((s : Session) → slice_get (v.sessions set.path.0) busy.opened.seq ≡ Some s → how ≡ NoReaders → s.readers ≡ 0) →
     Ends set next seq busy how m → KnownIn set v records seq (Some busy) → KnownBy set (grows m.calls v) (records ++ m.records) m.new
 ends set next seq busy how m v records none row known =
     rw (row.calls, row.records, row.new, grow-closed set.path.0 busy.opened.seq (freed_by row.left) v)
     (known-closed set (v.sessions set.path.0) records seq (filling_of busy) _ busy.opened refl refl refl refl none known)
 
-ends-so : (set : RxSet) (next seq : ℕ) (busy : Busy) (how : SessionResult) (m : RxMove) (v : View) (records : List SessionRecord) → (how ≡ NoReaders → ⊥) → Ends set next seq busy how m → KnownIn set v records seq (Some busy) → KnownBy set (grows m.calls v) (records ++ m.records) m.new
+ends-so : (set : RxSet) (next seq : ℕ) (busy : Reception) (how : SessionResult) (m : RxDid) (v : View) (records : List SessionRecord) → (how ≡ NoReaders → ⊥) → Ends set next seq busy how m → KnownIn set v records seq (Some busy) → KnownBy set (grows m.calls v) (records ++ m.records) m.new
 ends-so set next seq busy how m v records other row known = ends set next seq busy how m v records (λ s is how_is. absurd (other how_is)) row known
 
 -- a row that calls nothing and tells nothing
-silent : (set : RxSet) (m : RxMove) (state : RxState) (v : View) (records : List SessionRecord) → m.calls ≡ [] → m.records ≡ [] → m.new ≡ state → KnownBy set v records state → KnownBy set (grows m.calls v) (records ++ m.records) m.new
+silent : (set : RxSet) (m : RxDid) (state : RxState) (v : View) (records : List SessionRecord) → m.calls ≡ [] → m.records ≡ [] → m.new ≡ state → KnownBy set v records state → KnownBy set (grows m.calls v) (records ++ m.records) m.new
 silent set m state v records calls told new known = rw (calls, told, new, append-nil) known
 
-quiet : (set : RxSet) (m : RxMove) (state : RxState) (v : View) (records : List SessionRecord) → Quiet state m → KnownBy set v records state → KnownBy set (grows m.calls v) (records ++ m.records) m.new
+quiet : (set : RxSet) (m : RxDid) (state : RxState) (v : View) (records : List SessionRecord) → Quiet state m → KnownBy set v records state → KnownBy set (grows m.calls v) (records ++ m.records) m.new
 quiet set m state v records row known = silent set m state v records row.calls row.records row.new known
 
 -- after first calls, the rest
-after : (set : RxSet) (m : RxMove) (v : View) (records : List SessionRecord) (before rest : List Event) → m.calls ≡ before ++ rest → KnownBy set (grows rest (grows before v)) (records ++ m.records) m.new → KnownBy set (grows m.calls v) (records ++ m.records) m.new
+after : (set : RxSet) (m : RxDid) (v : View) (records : List SessionRecord) (before rest : List Event) → m.calls ≡ before ++ rest → KnownBy set (grows rest (grows before v)) (records ++ m.records) m.new → KnownBy set (grows m.calls v) (records ++ m.records) m.new
 after set m v records before rest is known = rw (is, grows-append before rest v) known
 
-none-reads : (set : RxSet) (next seq room readers : ℕ) (busy : Busy) (m : RxMove) (v : View) (records : List SessionRecord) → readers ≡ 0 → (row : After (asks set busy room readers) m (Ends set next seq busy NoReaders)) → KnownIn set v records seq (Some busy) →
+none-reads : (set : RxSet) (next seq room readers : ℕ) (busy : Reception) (m : RxDid) (v : View) (records : List SessionRecord) → readers ≡ 0 → (row : After (asks set busy room readers) m (Ends set next seq busy NoReaders)) → KnownIn set v records seq (Some busy) →
     KnownBy set (grows m.calls v) (records ++ m.records) m.new
 none-reads set next seq room readers busy m v records none row known =
     let f : Session → Session = λ s. record s { room = room; readers = readers } in
@@ -153,48 +153,48 @@ opens-so set next seq len size tick bytes opened opening v records row known =
     let two : Known set ((grows (puts path seq row.cells) w).sessions path) records (seq + 1) (Some (record { at = seq; len = len; bytes = length bytes })) = known-puts set w records (seq + 1) (length bytes) (record { at = seq; len = len; bytes = 0 }) bytes row.cells (omega arith) row.packed one in
     rw (row.calls_are, row.seq_is) two
 
-overflows : (set : RxSet) (next seq len : ℕ) (bytes : List ℕ) (act : BoxMeaning) (m : RxMove) (v : View) (records : List SessionRecord) → Overflows set next seq len bytes act m → KnownIn set v records seq None → KnownBy set (grows m.calls v) (records ++ m.records) m.new
+overflows : (set : RxSet) (next seq len : ℕ) (bytes : List ℕ) (act : BoxMeaning) (m : RxDid) (v : View) (records : List SessionRecord) → Overflows set next seq len bytes act m → KnownIn set v records seq None → KnownBy set (grows m.calls v) (records ++ m.records) m.new
 unfolding grow
 overflows set next seq len bytes act m v records row known = rw (row.calls, row.records, row.new) (known-refused set (v.sessions set.path.0) records seq None _ refl known)
 
-grants : (set : RxSet) (next seq : ℕ) (busy : Busy) (m : RxMove) (v : View) (records : List SessionRecord) → Grants set next seq busy m → KnownIn set v records seq (Some busy) → KnownBy set (grows m.calls v) (records ++ m.records) m.new
+grants : (set : RxSet) (next seq : ℕ) (busy : Reception) (m : RxDid) (v : View) (records : List SessionRecord) → Grants set next seq busy m → KnownIn set v records seq (Some busy) → KnownBy set (grows m.calls v) (records ++ m.records) m.new
 grants set next seq busy m v records (NoneReads room readers none row) known = none-reads set next seq room readers busy m v records none row known
 grants set next seq busy m v records (GrantsAll room readers some row) known =
     after set m v records (asks set busy room readers) row.rest row.calls (silent set (record m { calls = row.rest }) _ (grows (asks set busy room readers) v) records row.row.calls row.row.records row.row.new (asked set v records seq room readers busy known))
 
-begins-single : (set : RxSet) (next seq size : ℕ) (bytes : List ℕ) (m : RxMove) (v : View) (records : List SessionRecord) → BeginsSingle set next seq size bytes m → KnownIn set v records seq None → KnownBy set (grows m.calls v) (records ++ m.records) m.new
+begins-single : (set : RxSet) (next seq size : ℕ) (bytes : List ℕ) (m : RxDid) (v : View) (records : List SessionRecord) → BeginsSingle set next seq size bytes m → KnownIn set v records seq None → KnownBy set (grows m.calls v) (records ++ m.records) m.new
 begins-single set next seq size bytes m v records (NoBuffer row) known = overflows set next seq (length bytes) bytes Keeps m v records row known
 begins-single set next seq size bytes m v records (Completes opened opening opens row) known =
     after set m v records opening row.rest row.calls (ends-so set (next + 1) (seq + 1) (begun next (length bytes) size (length bytes) m.tick opened) Whole (record m { calls = row.rest }) (grows opening v) records (λ is. cc) row.row
     (opens-so set next seq (length bytes) size m.tick bytes opened opening v records opens known))
 
-begins-first : (set : RxSet) (next seq size len : ℕ) (bytes : List ℕ) (m : RxMove) (v : View) (records : List SessionRecord) → BeginsFirst set next seq size len bytes m → KnownIn set v records seq None → KnownBy set (grows m.calls v) (records ++ m.records) m.new
+begins-first : (set : RxSet) (next seq size len : ℕ) (bytes : List ℕ) (m : RxDid) (v : View) (records : List SessionRecord) → BeginsFirst set next seq size len bytes m → KnownIn set v records seq None → KnownBy set (grows m.calls v) (records ++ m.records) m.new
 begins-first set next seq size len bytes m v records (NoBufferFirst more row) known = overflows set next seq len bytes (Offers overflow) m v records row known
 begins-first set next seq size len bytes m v records (Opened more opened opening opens row) known =
     after set m v records opening row.rest row.calls (grants set (next + 1) (seq + 1) (begun next len size (length bytes) m.tick opened) (record m { calls = row.rest }) (grows opening v) records row.row
     (opens-so set next seq len size m.tick bytes opened opening v records opens known))
 
-begins : (set : RxSet) (next seq size : ℕ) (meaning : Meaning) (m : RxMove) (v : View) (records : List SessionRecord) → Begins set next seq size meaning m → KnownIn set v records seq None → KnownBy set (grows m.calls v) (records ++ m.records) m.new
+begins : (set : RxSet) (next seq size : ℕ) (meaning : Meaning) (m : RxDid) (v : View) (records : List SessionRecord) → Begins set next seq size meaning m → KnownIn set v records seq None → KnownBy set (grows m.calls v) (records ++ m.records) m.new
 begins set next seq size (SingleFrame bytes) m v records row known = begins-single set next seq size bytes m v records row known
 begins set next seq size (FirstFrame len bytes) m v records row known = begins-first set next seq size len bytes m v records row known
 begins set next seq size (ConsecutiveFrame number bytes) m v records row known = absurd row
 begins set next seq size (FlowControl status block_size separation) m v records row known = absurd row
 begins set next seq size (NoUnit why) m v records row known = absurd row
 
-interrupts : (set : RxSet) (next seq : ℕ) (busy : Option Busy) (m : RxMove) (v : View) (records : List SessionRecord) → Interrupts set next seq busy m → KnownIn set v records seq busy → KnownIn set (grows m.calls v) (records ++ m.records) seq None
+interrupts : (set : RxSet) (next seq : ℕ) (busy : Option Reception) (m : RxDid) (v : View) (records : List SessionRecord) → Interrupts set next seq busy m → KnownIn set v records seq busy → KnownIn set (grows m.calls v) (records ++ m.records) seq None
 interrupts set next seq None m v records row known = rw (row.calls, row.records, append-nil) known
 interrupts set next seq (Some busy) m v records row known =
     let P : RxState → Type 0 = λ s. KnownBy set (grows m.calls v) (records ++ m.records) s in
     subst P row.new (ends-so set next seq busy Restarted m v records (λ is. cc) row known)
 
-starts : (set : RxSet) (next seq size : ℕ) (busy : Option Busy) (meaning : Meaning) (m : RxMove) (v : View) (records : List SessionRecord) → Starts set (record { next = next; seq = seq; busy = busy }) size meaning m → KnownIn set v records seq busy →
+starts : (set : RxSet) (next seq size : ℕ) (busy : Option Reception) (meaning : Meaning) (m : RxDid) (v : View) (records : List SessionRecord) → Starts set (record { next = next; seq = seq; busy = busy }) size meaning m → KnownIn set v records seq busy →
     KnownBy set (grows m.calls v) (records ++ m.records) m.new
 starts set next seq size busy meaning m v records row known =
     let one = interrupts set next seq busy row.earlier v records row.interrupts known in
     let two = begins set next seq size meaning row.later (grows row.earlier.calls v) (records ++ row.earlier.records) row.begins one in
     rw (row.calls, row.records, row.new, grows-append row.earlier.calls row.later.calls v, ← append_assoc records row.earlier.records row.later.records) two
 
-carries : (set : RxSet) (next seq : ℕ) (busy : Busy) (bytes : List ℕ) (m : RxMove) (v : View) (records : List SessionRecord) → Carries set next seq busy bytes m → KnownIn set v records seq (Some busy) → KnownBy set (grows m.calls v) (records ++ m.records) m.new
+carries : (set : RxSet) (next seq : ℕ) (busy : Reception) (bytes : List ℕ) (m : RxDid) (v : View) (records : List SessionRecord) → Carries set next seq busy bytes m → KnownIn set v records seq (Some busy) → KnownBy set (grows m.calls v) (records ++ m.records) m.new
 carries set next seq busy bytes m v records (NoneReadsOn room readers none row) known = none-reads set next seq room readers busy m v records none row known
 carries set next seq busy bytes m v records (TooLittleRoom room readers need some need_is little row) known =
     after set m v records (asks set busy room readers) row.rest row.calls (ends-so set next seq busy (NoRoom room need) (record m { calls = row.rest }) (grows (asks set busy room readers) v) records (λ is. cc) row.row (asked set v records seq room readers busy known))
@@ -209,19 +209,19 @@ carries set next seq busy bytes m v records (Fills room readers cells some fits 
     (ends-so set next seq (gone_on busy (length bytes) m.tick) Whole (record m { calls = row.row.rest }) (grows (puts set.path.0 busy.opened.seq cells) (grows (asks set busy room readers) v)) records (λ is. cc) row.row.row
     (known-puts set (grows (asks set busy room readers) v) records seq (busy.bytes + length bytes) (filling_of busy) bytes cells refl packed (asked set v records seq room readers busy known))))
 
-continues : (set : RxSet) (next seq : ℕ) (busy : Busy) (size number : ℕ) (bytes : List ℕ) (m : RxMove) (v : View) (records : List SessionRecord) → Continues set next seq busy size number bytes m → KnownIn set v records seq (Some busy) →
+continues : (set : RxSet) (next seq : ℕ) (busy : Reception) (size number : ℕ) (bytes : List ℕ) (m : RxDid) (v : View) (records : List SessionRecord) → Continues set next seq busy size number bytes m → KnownIn set v records seq (Some busy) →
     KnownBy set (grows m.calls v) (records ++ m.records) m.new
 continues set next seq busy size number bytes m v records (TooLong long row) known = quiet set m _ v records row known
 continues set next seq busy size number bytes m v records (TooShort short row) known = quiet set m _ v records row known
 continues set next seq busy size number bytes m v records (WrongNumber looked other row) known = ends-so set next seq busy (WrongSn busy.number number) m v records (λ is. cc) row known
 continues set next seq busy size number bytes m v records (RightNumber looked right row) known = carries set next seq busy (take (due set.a busy) bytes) m v records row known
 
-first : (set : RxSet) (next seq : ℕ) (busy : Option Busy) (size : ℕ) (meaning : Meaning) (functional : Bool) (m : RxMove) (v : View) (records : List SessionRecord) → FirstRow set (record { next = next; seq = seq; busy = busy }) size meaning functional m →
+first : (set : RxSet) (next seq : ℕ) (busy : Option Reception) (size : ℕ) (meaning : Meaning) (functional : Bool) (m : RxDid) (v : View) (records : List SessionRecord) → FirstRow set (record { next = next; seq = seq; busy = busy }) size meaning functional m →
     KnownIn set v records seq busy → KnownBy set (grows m.calls v) (records ++ m.records) m.new
 first set next seq busy size meaning true m v records row known = quiet set m _ v records row known
 first set next seq busy size meaning false m v records row known = starts set next seq size busy meaning m v records row known
 
-step : (set : RxSet) (next seq : ℕ) (busy : Option Busy) (event : RxInput) (m : RxMove) (v : View) (records : List SessionRecord) → RxStep set (record { next = next; seq = seq; busy = busy }) event m → KnownIn set v records seq busy →
+step : (set : RxSet) (next seq : ℕ) (busy : Option Reception) (event : RxEvent) (m : RxDid) (v : View) (records : List SessionRecord) → RxStep set (record { next = next; seq = seq; busy = busy }) event m → KnownIn set v records seq busy →
     KnownBy set (grows m.calls v) (records ++ m.records) m.new
 step set next seq busy (Came size (SingleFrame bytes)) m v records row known = starts set next seq size busy (SingleFrame bytes) m v records row known
 step set next seq busy (Came size (FirstFrame len bytes)) m v records row known = first set next seq busy size (FirstFrame len bytes) set.functional m v records row known
@@ -229,18 +229,18 @@ step set next seq None (Came size (ConsecutiveFrame number bytes)) m v records r
 step set next seq (Some busy) (Came size (ConsecutiveFrame number bytes)) m v records row known = continues set next seq busy size number bytes m v records row known
 step set next seq busy (Came size (FlowControl status block_size separation)) m v records row known = quiet set m _ v records row known
 step set next seq busy (Came size (NoUnit why)) m v records row known = quiet set m _ v records row known
-step set next seq None TimerTurn m v records row known = quiet set m _ v records row known
-step set next seq None FlowControlLeft m v records row known = quiet set m _ v records row known
-step set next seq None RunEnds m v records row known = quiet set m _ v records row known
-step set next seq (Some busy) TimerTurn m v records (InTime early row) known = quiet set m _ v records row known
-step set next seq (Some busy) TimerTurn m v records (TooLate late row) known = ends-so set next seq busy (RxTimeout CfLimit) m v records (λ is. cc) row known
-step set next seq (Some busy) FlowControlLeft m v records (FromBox waits row) known = silent set m _ v records row.calls row.records row.new known
-step set next seq (Some busy) FlowControlLeft m v records (NotAwaited waits row) known = quiet set m _ v records row known
-step set next seq (Some busy) RunEnds m v records row known = ends-so set next seq busy (RunEnd busy.wait (record { 0 = busy.since })) m v records (λ is. cc) row known
+step set next seq None Timer m v records row known = quiet set m _ v records row known
+step set next seq None FcLeft m v records row known = quiet set m _ v records row known
+step set next seq None RunEnd m v records row known = quiet set m _ v records row known
+step set next seq (Some busy) Timer m v records (InTime early row) known = quiet set m _ v records row known
+step set next seq (Some busy) Timer m v records (TooLate late row) known = ends-so set next seq busy (RxTimeout CfLimit) m v records (λ is. cc) row known
+step set next seq (Some busy) FcLeft m v records (FromBox waits row) known = silent set m _ v records row.calls row.records row.new known
+step set next seq (Some busy) FcLeft m v records (NotAwaited waits row) known = quiet set m _ v records row known
+step set next seq (Some busy) RunEnd m v records row known = ends-so set next seq busy (RunEnd busy.wait (record { 0 = busy.since })) m v records (λ is. cc) row known
 
 -- a whole run
-pub known-sessions : (set : RxSet) (turns : List RxTurn) → Happened set turns → KnownBy set (grows (calls_by turns) empty_view) (told_by turns) (state_of turns)
+pub known-sessions : (set : RxSet) (turns : List RxTurn) → HasReceived set turns → KnownBy set (grows (calls_by turns) empty_view) (records_by turns) (state_after rx_new turns)
 known-sessions set [] happened = record { number = refl; told = tt; left = λ k s is left. cc; going = tt }
 known-sessions set (turn ∷ earlier) happened =
-    rw (grows-append (calls_by earlier) turn.move.calls empty_view)
-    (step set (state_of earlier).next (state_of earlier).seq (state_of earlier).busy turn.event turn.move (grows (calls_by earlier) empty_view) (told_by earlier) happened.1 (known-sessions set earlier happened.2))
+    rw (grows-append (calls_by earlier) turn.did.calls empty_view)
+    (step set (state_after rx_new earlier).next (state_after rx_new earlier).seq (state_after rx_new earlier).busy turn.event turn.did (grows (calls_by earlier) empty_view) (records_by earlier) happened.1 (known-sessions set earlier happened.2))

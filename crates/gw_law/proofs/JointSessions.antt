@@ -1,5 +1,6 @@
 -- What a view has of the sessions that a receiver's records tell: the writer left them, with all their bytes published.
 use Rattle.std.proofs.Common.{◌≡◌, ◌≢◌, ℕ, ◌+◌, ◌*◌, ◌≤◌, true, false, Option, Some, None, List, [], ◌∷◌, ◌++◌, length, refl, ap, sym, ◌∙◌, arith, inl, inr}
+use Rattle.tp_receiver.specs.State.{Reception}
 use Rattle.std.specs.Prelude.{slice_get}
 use Rattle.std.specs.List.{AllByRecursion}
 use Rattle.std.proofs.lemmas.Bool.{cases_eq}
@@ -10,7 +11,6 @@ use Rattle.hub_core.specs.declared.record.OpenedAt.{OpenedAt}
 use Rattle.hub_core.specs.declared.record.SessionRecord.{SessionRecord}
 use Rattle.hub_core.specs.declared.record.SessionResult.TheVariants.{NoReaders}
 use Rattle.tp_receiver.specs.declared.set.RxSet.{RxSet}
-use Rattle.tp_receiver.specs.Receiving.{Busy}
 use Rattle.gw_law.proofs.JointLists.{Before, Has, Last, Pushed, has-last, has-more, other-place, pushed}
 use Rattle.gw_law.proofs.Lists.{all-push, all-weaker, slice_get-more}
 
@@ -43,7 +43,7 @@ pub record Filling : Type 0 where
   pub len : ℕ
   pub bytes : ℕ
 
-abbrev pub filling_of : Busy → Filling
+abbrev pub filling_of : Reception → Filling
 filling_of busy = record { at = busy.opened.seq; len = busy.len; bytes = busy.bytes }
 
 pub record IsFilling (set : RxSet) (sessions : List Session) (f : Filling) : Type 0 where

@@ -309,12 +309,12 @@ named-once r seq unit other session also law one two =
     let sessions : Some session ≡ Some also = sym one.session_is ∙ ap (slice_get r.sessions) same ∙ two.session_is in
     (cc, cc)
 
-len-named : (r : Route) (stored : ℕ → List ℕ) (seq : ℕ) (unit : Cut Seen) (session : SessionRecord) → SourceLaw r.rx.chan.0 r.rx.a r.rx.functional stored r.seen r.sessions → IsNamed (delivery_of_route r) seq unit session → session.len ≡ len_of unit.start.meaning
-len-named r stored seq unit session law named = (zip-pair (Tells r.rx.chan.0 r.rx.a stored) (attempts_in r.rx.functional r.seen) r.sessions named.place unit session law.tells named.unit_is named.session_is).len
+len-named : (r : Route) (seq : ℕ) (unit : Cut Seen) (session : SessionRecord) → SourceLaw r.rx.chan.0 r.rx.a r.rx.functional r.seen r.sessions → IsNamed (delivery_of_route r) seq unit session → session.len ≡ len_of unit.start.meaning
+len-named r seq unit session law named = (zip-pair (Tells r.rx.chan.0 r.rx.a) (attempts_in r.rx.functional r.seen) r.sessions named.place unit session law.tells named.unit_is named.session_is).len
 
 -- by the laws of the source, of a destination's ends, of time and of delivery
-pub none-waits : (r : Route) (stored : ℕ → List ℕ) → IsShape r.tx.shape → SourceLaw r.rx.chan.0 r.rx.a r.rx.functional stored r.seen r.sessions → TransmissionCauses r → TimelyLaw r → DeliveryLaw (delivery_of_route r) → NoneWaitsTooLong r
-none-waits r stored sound source causes timely law =
+pub none-waits : (r : Route) → IsShape r.tx.shape → SourceLaw r.rx.chan.0 r.rx.a r.rx.functional r.seen r.sessions → TransmissionCauses r → TimelyLaw r → DeliveryLaw (delivery_of_route r) → NoneWaitsTooLong r
+none-waits r sound source causes timely law =
     let frames : List Seen = (delivery_of_route r).frames in
     let starts = cuts-in (IsStartOf r.tx.shape) (λ (s : Seen). is_start false s.meaning) frames (all-map (IsStartOf r.tx.shape) (seen_of (address_size r.tx.shape)) r.frames (all-weaker (IsOfChannel r.tx.shape) (λ w. IsStartOf r.tx.shape (seen_of (address_size r.tx.shape) w)) r.frames (λ w own. start-of r.tx.shape w sound own) timely.own)) in
     let begin = cuts-starts (λ (s : Seen). is_start false s.meaning) frames in
@@ -330,7 +330,7 @@ none-waits r stored sound source causes timely law =
       caused = caused;
       timely = time unit session named;
       start = start.0 is_so;
-      len = delivers.len ∙ ap (λ (c : Cut Seen). len_of c.start.meaning) same.0 ∙ sym (len-named r stored told.seq unit session source named);
+      len = delivers.len ∙ ap (λ (c : Cut Seen). len_of c.start.meaning) same.0 ∙ sym (len-named r told.seq unit session source named);
       put = omega (arith, ap length delivers.bytes, length-take told.sent (reassembled r.rx.a delivers.names.unit), delivers.within, ap (λ (s : SessionRecord). s.bytes) same.1);
       ordered = ordered;
       begins = all-weaker (λ (p : Piece). (told.begin.0 ≤ p.at) × (p.at ≤ told.end.0)) (λ (p : Piece). told.begin.0 ≤ p.at) (walk_of (address_size r.tx.shape) cut).pieces (λ p both. both.0) delivers.ticks;

@@ -7,6 +7,7 @@ use Rattle.gw_law.proofs.Emission.{bus_law_of}
 use Rattle.gw_law.proofs.FlowControls.{flow_control_law_of}
 use Rattle.gw_law.proofs.JointCauses.{joint_causes}
 use Rattle.gw_law.proofs.PoolRuns.{pool_of}
+use Rattle.gw_law.proofs.Records.{records_law_of}
 use Rattle.gw_law.proofs.ReceptionCauses.{reception_causes}
 use Rattle.gw_law.proofs.Timely.{timely}
 use Rattle.gw_law.proofs.TransmissionCauses.{causes}
@@ -19,11 +20,10 @@ pub laws : (rx : RxSet) (tx : TxSet) (shape : Shape) (source_budget budget : ℕ
     HasLawfulLimits rx tx shape source_budget budget → IsSmall (route_of rx tx shape source_budget budget sizes last count free ticks end) →
     IsRun rx tx sizes last count free ticks end → Lawful (route_of rx tx shape source_budget budget sizes last count free ticks end)
 laws rx tx shape source_budget budget sizes last count free ticks end limits small run =
-    let source = route-source rx tx shape source_budget budget sizes last count free ticks end run in
     let received = reception_causes rx tx shape source_budget budget sizes last count free ticks end limits.shape_is limits.n_cr small run in
     record {
-      stored = source.0;
-      source = source.1;
+      records = records_law_of rx tx shape source_budget budget sizes last count free ticks end run;
+      source = route-source rx tx shape source_budget budget sizes last count free ticks end run;
       delivery = route-delivers rx tx shape source_budget budget sizes last count free ticks end run;
       each = route-each rx tx shape source_budget budget sizes last count free ticks end run;
       timely = timely rx tx shape source_budget budget sizes last count free ticks end run;

@@ -58,6 +58,7 @@ pub mod RxRooms
 pub mod RxLooks
 pub mod ReceptionCauses
 pub mod ShortStarts
+mod Records
 pub mod Laws
 mod JointLists
 mod JointSessions

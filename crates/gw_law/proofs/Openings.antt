@@ -1,5 +1,9 @@
 -- The sessions that a receiver's calls make: their cells are what was put, and its records tell their lengths and buffers.
 use Rattle.std.proofs.Common.{◌≡◌, ℕ, ◌+◌, ◌<◌, Bool, true, false, Option, Some, None, option_map, if◌then◌else◌, not, List, [], ◌∷◌, ◌++◌, length, map, refl, ap, sym, ◌∙◌, subst, arith, append-nil, append_assoc, eq-eqb}
+use Rattle.tp_receiver.specs.State.{Reception, RxState, RxEvent, RxDid, Came, Timer, FcLeft, RunEnd, RxTurn, rx_new}
+use Rattle.tp_receiver.specs.Table.{begun, gone_on, Begins, BeginsFirst, BeginsSingle, Carries, Continues, ConsecutiveRow, Ends, FirstRow, Grants, Interrupts, Opens, Overflows, Quiet, RxStep, Starts, asks, cells_of, overflow, puts, NoneReads, All, NoBuffer, Completes, NoBufferFirst, Opened, NoneReadsOn, TooLittleRoom, Adds, Fills as FillsRow, TooLong, TooShort, WrongNumber, RightNumber, InTime, TooLate, FromBox, NotAwaited}
+use Rattle.tp_receiver.specs.Runs.{HasReceived, cell_in}
+use Rattle.hub_core.specs.Turns.{calls_by, state_after, records_by}
 use Rattle.std.specs.Prelude.{◌-◌, option_to_list}
 use Rattle.std.specs.List.{flat_map}
 use Rattle.std.proofs.lemmas.List.{length-append, map-append}
@@ -15,10 +19,6 @@ use Rattle.hub_core.specs.declared.record.SessionResult.{SessionResult}
 use Rattle.hub_core.specs.declared.record.SessionResult.TheVariants.{Whole, Overflow, WrongSn, RxTimeout, Restarted, NoRoom, WaitOver, NoReaders, Cancelled, RunEnd}
 use Rattle.tp_attempts.specs.Seen.{bytes_of, is_start}
 use Rattle.tp_receiver.specs.declared.set.RxSet.{RxSet}
-use Rattle.tp_receiver.specs.Receiving.{Busy, RxState, RxInput, RxMove, Came, TimerTurn, FlowControlLeft, RunEnds, begun, gone_on}
-use Rattle.tp_receiver.specs.Rows.{Begins, BeginsFirst, BeginsSingle, Carries, Continues, ConsecutiveRow, Ends, FirstRow, Grants, Interrupts, Opens, Overflows, Quiet, RxStep, Starts, asks, cells_of, overflow, puts}
-use Rattle.tp_receiver.specs.Rows.{NoneReads, All, NoBuffer, Completes, NoBufferFirst, Opened, NoneReadsOn, TooLittleRoom, Adds, Fills as FillsRow, TooLong, TooShort, WrongNumber, RightNumber, InTime, TooLate, FromBox, NotAwaited}
-use Rattle.tp_receiver.specs.Running.{Happened, RxTurn, calls_by, cell_in, state_of, told_by}
 use Rattle.tp_unit.specs.Unit.{BoxMeaning, Keeps, Offers, Meaning, SingleFrame, FirstFrame, ConsecutiveFrame, FlowControl, NoUnit}
 use Rattle.gw_law.proofs.Sides.{Fill, Side, added, fill-adds, fill-changes, fill-join, fill-none, fill-pushes, fill-same}
 
@@ -56,7 +56,7 @@ entry_in told = option_to_list (option_map (entry_told told) told.opened)
 abbrev pub entries_told : List SessionRecord → List Entry
 entries_told records = flat_map entry_in records
 
-abbrev pub entry_going : Option Busy → List Entry
+abbrev pub entry_going : Option Reception → List Entry
 entry_going None = []
 entry_going (Some busy) = record { len = busy.len; change = busy.opened.change; buf = busy.opened.buf.0 } ∷ []
 
@@ -113,7 +113,7 @@ outcome_told result (Some opened) = Granted opened.change opened.buf.0
 abbrev pub outcome_of : SessionRecord → Outcome
 outcome_of told = outcome_told told.result told.opened
 
-abbrev pub outcome_going : Option Busy → List Outcome
+abbrev pub outcome_going : Option Reception → List Outcome
 outcome_going None = []
 outcome_going (Some busy) = Granted busy.opened.change busy.opened.buf.0 ∷ []
 
@@ -121,24 +121,24 @@ outcome_going (Some busy) = Granted busy.opened.change busy.opened.buf.0 ∷ []
 abbrev pub need_at : Meaning → ℕ
 need_at meaning = cells_of (length (bytes_of meaning))
 
-abbrev pub need_in : Bool → RxInput → List ℕ
+abbrev pub need_in : Bool → RxEvent → List ℕ
 need_in functional (Came size meaning) = if is_start functional meaning then need_at meaning ∷ [] else []
-need_in functional TimerTurn = []
-need_in functional FlowControlLeft = []
-need_in functional RunEnds = []
+need_in functional Timer = []
+need_in functional FcLeft = []
+need_in functional RunEnd = []
 
 abbrev pub needs_by : Bool → List RxTurn → List ℕ
 needs_by functional [] = []
 needs_by functional (turn ∷ earlier) = needs_by functional earlier ++ need_in functional turn.event
 
 -- the reception in progress is of one of the sessions
-abbrev pub IsBelow : ℕ → Option Busy → Type 0
+abbrev pub IsBelow : ℕ → Option Reception → Type 0
 IsBelow n None = Unit {0}
 IsBelow n (Some busy) = busy.opened.seq < n
 
 -- calls of a receiver with so many sessions: they fill the path's sessions, each session is told or going on, and so is what
 -- became of the needs of the starts
-pub record Enters (path n : ℕ) (needs : List ℕ) (busy : Option Busy) (calls : List Event) (records : List SessionRecord) (m : ℕ) (new : Option Busy) : Type 0 where
+pub record Enters (path n : ℕ) (needs : List ℕ) (busy : Option Reception) (calls : List Event) (records : List SessionRecord) (m : ℕ) (new : Option Reception) : Type 0 where
   pub fill : Fill (writing path) n calls
   pub count : m ≡ n + added (writing path) calls
   pub entries : entry_going busy ++ flat_map entry_by calls ≡ entries_told records ++ entry_going new
@@ -146,10 +146,10 @@ pub record Enters (path n : ℕ) (needs : List ℕ) (busy : Option Busy) (calls 
   pub needs_are : flat_map need_by calls ≡ needs
   pub below : IsBelow m new
 
-abbrev pub EntersBy : ℕ → ℕ → List ℕ → Option Busy → RxMove → Type 0
+abbrev pub EntersBy : ℕ → ℕ → List ℕ → Option Reception → RxDid → Type 0
 EntersBy path n needs busy m = Enters path n needs busy m.calls m.records m.new.seq m.new.busy
 
-enters-none : (path n : ℕ) (busy : Option Busy) → IsBelow n busy → Enters path n [] busy [] [] n busy
+enters-none : (path n : ℕ) (busy : Option Reception) → IsBelow n busy → Enters path n [] busy [] [] n busy
 enters-none path n busy below = record { fill = fill-none (writing path) n; count = omega arith; entries = append-nil (entry_going busy); outcomes = append-nil (outcome_going busy); needs_are = refl; below = below }
 
 -- what was going on, and what is added, is told or going on
@@ -157,7 +157,7 @@ join-lists : {A : Type 0} (a b c x y told later : List A) → a ++ x ≡ told ++
 join-lists a b c x y told later first second =
     sym (append_assoc a x y) ∙ ap (λ l. l ++ y) first ∙ append_assoc told b y ∙ ap (λ l. told ++ l) second ∙ sym (append_assoc told later c)
 
-enters-join : (path n m k : ℕ) (needs after : List ℕ) (a b c : Option Busy) (calls more : List Event) (records later : List SessionRecord) → Enters path n needs a calls records m b → Enters path m after b more later k c → Enters path n (needs ++ after) a (calls ++ more) (records ++ later) k c
+enters-join : (path n m k : ℕ) (needs after : List ℕ) (a b c : Option Reception) (calls more : List Event) (records later : List SessionRecord) → Enters path n needs a calls records m b → Enters path m after b more later k c → Enters path n (needs ++ after) a (calls ++ more) (records ++ later) k c
 enters-join path n m k needs after a b c calls more records later first second = record {
   fill = fill-join (writing path) n m calls more first.count first.fill second.fill;
   count = omega (arith, first.count, second.count, ap length (flat_map-append entry_by calls more), length-append (flat_map entry_by calls) (flat_map entry_by more));
@@ -209,24 +209,24 @@ none-puts by path seq count [] put none = rw none refl
 none-puts by path seq count (cell ∷ cells) put none = rw (put cell) (none-puts by path seq count cells put none)
 
 -- the rows
-quiet : (path : ℕ) (state : RxState) (m : RxMove) → IsBelow state.seq state.busy → Quiet state m → EntersBy path state.seq [] state.busy m
+quiet : (path : ℕ) (state : RxState) (m : RxDid) → IsBelow state.seq state.busy → Quiet state m → EntersBy path state.seq [] state.busy m
 quiet path state m below row = rw (row.calls, row.records, row.new) (enters-none path state.seq state.busy below)
 
-ends-idle : (set : RxSet) (next seq : ℕ) (busy : Busy) (how : SessionResult) (m : RxMove) → Ends set next seq busy how m → Enters set.path.0 seq [] (Some busy) m.calls m.records seq None
+ends-idle : (set : RxSet) (next seq : ℕ) (busy : Reception) (how : SessionResult) (m : RxDid) → Ends set next seq busy how m → Enters set.path.0 seq [] (Some busy) m.calls m.records seq None
 ends-idle set next seq busy how m row = rw (row.calls, row.records) (record { fill = fill-closed set.path.0 seq busy.opened.seq (freed_by row.left); count = omega arith; entries = refl; outcomes = refl; needs_are = refl; below = tt })
 
-ends : (set : RxSet) (next seq : ℕ) (busy : Busy) (how : SessionResult) (m : RxMove) → Ends set next seq busy how m → EntersBy set.path.0 seq [] (Some busy) m
+ends : (set : RxSet) (next seq : ℕ) (busy : Reception) (how : SessionResult) (m : RxDid) → Ends set next seq busy how m → EntersBy set.path.0 seq [] (Some busy) m
 ends set next seq busy how m row = rw row.new (ends-idle set next seq busy how m row)
 
-after : (path n k : ℕ) (needs : List ℕ) (busy mid : Option Busy) (before rest : List Event) (m : RxMove) → m.calls ≡ before ++ rest → Enters path n needs busy before [] k mid → EntersBy path k [] mid (record m { calls = rest }) → EntersBy path n needs busy m
+after : (path n k : ℕ) (needs : List ℕ) (busy mid : Option Reception) (before rest : List Event) (m : RxDid) → m.calls ≡ before ++ rest → Enters path n needs busy before [] k mid → EntersBy path k [] mid (record m { calls = rest }) → EntersBy path n needs busy m
 after path n k needs busy mid before rest m is first second =
     let P : List ℕ → Type 0 = λ l. Enters path n l busy m.calls m.records m.new.seq m.new.busy in
     subst P (append-nil needs) (rw is (enters-join path n k m.new.seq needs [] busy mid m.new.busy before rest [] m.records first second))
 
-looks : (set : RxSet) (seq : ℕ) (busy : Busy) (room readers : ℕ) → busy.opened.seq < seq → Enters set.path.0 seq [] (Some busy) (asks set busy room readers) [] seq (Some busy)
+looks : (set : RxSet) (seq : ℕ) (busy : Reception) (room readers : ℕ) → busy.opened.seq < seq → Enters set.path.0 seq [] (Some busy) (asks set busy room readers) [] seq (Some busy)
 looks set seq busy room readers below = record { fill = fill-asked set.path.0 seq busy.opened.seq room readers; count = omega arith; entries = refl; outcomes = refl; needs_are = refl; below = below }
 
-adds : (set : RxSet) (seq more tick : ℕ) (busy : Busy) (cells : List ℕ) → busy.opened.seq < seq → Enters set.path.0 seq [] (Some busy) (puts set.path.0 busy.opened.seq cells) [] seq (Some (gone_on busy more tick))
+adds : (set : RxSet) (seq more tick : ℕ) (busy : Reception) (cells : List ℕ) → busy.opened.seq < seq → Enters set.path.0 seq [] (Some busy) (puts set.path.0 busy.opened.seq cells) [] seq (Some (gone_on busy more tick))
 adds set seq more tick busy cells below = record {
   fill = fill-cells set.path.0 seq busy.opened.seq (counted cells) cells below;
   count = rw (none-puts entry_by set.path.0 busy.opened.seq (counted cells) cells (λ cell. refl) refl) (omega arith);
@@ -252,100 +252,100 @@ opens-so set next seq len size count tick bytes opened opening row =
       below = omega (arith, row.seq_is);
     })
 
-overflows : (set : RxSet) (next seq len : ℕ) (bytes : List ℕ) (act : BoxMeaning) (m : RxMove) → Overflows set next seq len bytes act m → EntersBy set.path.0 seq (cells_of (length bytes) ∷ []) None m
+overflows : (set : RxSet) (next seq len : ℕ) (bytes : List ℕ) (act : BoxMeaning) (m : RxDid) → Overflows set next seq len bytes act m → EntersBy set.path.0 seq (cells_of (length bytes) ∷ []) None m
 overflows set next seq len bytes act m row = rw (row.calls, row.records, row.new) (record { fill = fill-refused set.path.0 seq row.number row.free row.need; count = omega arith; entries = refl; outcomes = refl; needs_are = rw row.need_is refl; below = tt })
 
-grants : (set : RxSet) (next seq : ℕ) (busy : Busy) (m : RxMove) → busy.opened.seq < seq → Grants set next seq busy m → EntersBy set.path.0 seq [] (Some busy) m
+grants : (set : RxSet) (next seq : ℕ) (busy : Reception) (m : RxDid) → busy.opened.seq < seq → Grants set next seq busy m → EntersBy set.path.0 seq [] (Some busy) m
 grants set next seq busy m below (NoneReads room readers none row) =
     after set.path.0 seq seq [] (Some busy) (Some busy) (asks set busy room readers) row.rest m row.calls (looks set seq busy room readers below) (ends set next seq busy NoReaders (record m { calls = row.rest }) row.row)
 grants set next seq busy m below (All room readers some row) =
     after set.path.0 seq seq [] (Some busy) (Some busy) (asks set busy room readers) row.rest m row.calls (looks set seq busy room readers below)
     (rw (row.row.calls, row.row.records, row.row.new) (record { fill = fill-none (writing set.path.0) seq; count = omega arith; entries = refl; outcomes = refl; needs_are = refl; below = below }))
 
-begins-single : (set : RxSet) (next seq size : ℕ) (bytes : List ℕ) (m : RxMove) → BeginsSingle set next seq size bytes m → EntersBy set.path.0 seq (cells_of (length bytes) ∷ []) None m
+begins-single : (set : RxSet) (next seq size : ℕ) (bytes : List ℕ) (m : RxDid) → BeginsSingle set next seq size bytes m → EntersBy set.path.0 seq (cells_of (length bytes) ∷ []) None m
 begins-single set next seq size bytes m (NoBuffer row) = overflows set next seq (length bytes) bytes Keeps m row
 begins-single set next seq size bytes m (Completes opened opening opens row) =
-    let busy : Busy = begun next (length bytes) size (length bytes) m.tick opened in
+    let busy : Reception = begun next (length bytes) size (length bytes) m.tick opened in
     after set.path.0 seq (seq + 1) (cells_of (length bytes) ∷ []) None (Some busy) opening row.rest m row.calls (opens-so set next seq (length bytes) size (length bytes) m.tick bytes opened opening opens) (ends set (next + 1) (seq + 1) busy Whole (record m { calls = row.rest }) row.row)
 
-begins-first : (set : RxSet) (next seq size len : ℕ) (bytes : List ℕ) (m : RxMove) → BeginsFirst set next seq size len bytes m → EntersBy set.path.0 seq (cells_of (length bytes) ∷ []) None m
+begins-first : (set : RxSet) (next seq size len : ℕ) (bytes : List ℕ) (m : RxDid) → BeginsFirst set next seq size len bytes m → EntersBy set.path.0 seq (cells_of (length bytes) ∷ []) None m
 begins-first set next seq size len bytes m (NoBufferFirst more row) = overflows set next seq len bytes (Offers overflow) m row
 begins-first set next seq size len bytes m (Opened more opened opening opens row) =
-    let busy : Busy = begun next len size (length bytes) m.tick opened in
+    let busy : Reception = begun next len size (length bytes) m.tick opened in
     after set.path.0 seq (seq + 1) (cells_of (length bytes) ∷ []) None (Some busy) opening row.rest m row.calls (opens-so set next seq len size (length bytes) m.tick bytes opened opening opens)
     (grants set (next + 1) (seq + 1) busy (record m { calls = row.rest }) (omega (arith, opens.seq_is)) row.row)
 
-begins : (set : RxSet) (next seq size : ℕ) (meaning : Meaning) (m : RxMove) → Begins set next seq size meaning m → EntersBy set.path.0 seq (need_at meaning ∷ []) None m
+begins : (set : RxSet) (next seq size : ℕ) (meaning : Meaning) (m : RxDid) → Begins set next seq size meaning m → EntersBy set.path.0 seq (need_at meaning ∷ []) None m
 begins set next seq size (SingleFrame bytes) m row = begins-single set next seq size bytes m row
 begins set next seq size (FirstFrame len bytes) m row = begins-first set next seq size len bytes m row
 begins set next seq size (ConsecutiveFrame number bytes) m row = absurd row
 begins set next seq size (FlowControl status block_size separation) m row = absurd row
 begins set next seq size (NoUnit why) m row = absurd row
 
-interrupts : (set : RxSet) (next seq : ℕ) (busy : Option Busy) (m : RxMove) → Interrupts set next seq busy m → Enters set.path.0 seq [] busy m.calls m.records seq None
+interrupts : (set : RxSet) (next seq : ℕ) (busy : Option Reception) (m : RxDid) → Interrupts set next seq busy m → Enters set.path.0 seq [] busy m.calls m.records seq None
 interrupts set next seq None m row = rw (row.calls, row.records) (enters-none set.path.0 seq None tt)
 interrupts set next seq (Some busy) m row = ends-idle set next seq busy Restarted m row
 
-starts : (set : RxSet) (next seq size : ℕ) (busy : Option Busy) (meaning : Meaning) (m : RxMove) → Starts set (record { next = next; seq = seq; busy = busy }) size meaning m → EntersBy set.path.0 seq (need_at meaning ∷ []) busy m
+starts : (set : RxSet) (next seq size : ℕ) (busy : Option Reception) (meaning : Meaning) (m : RxDid) → Starts set (record { next = next; seq = seq; busy = busy }) size meaning m → EntersBy set.path.0 seq (need_at meaning ∷ []) busy m
 starts set next seq size busy meaning m row =
     rw (row.calls, row.records, row.new) (enters-join set.path.0 seq seq row.later.new.seq [] (need_at meaning ∷ []) busy None row.later.new.busy row.earlier.calls row.later.calls row.earlier.records row.later.records
     (interrupts set next seq busy row.earlier row.interrupts) (begins set next seq size meaning row.later row.begins))
 
-carries : (set : RxSet) (next seq : ℕ) (busy : Busy) (bytes : List ℕ) (m : RxMove) → busy.opened.seq < seq → Carries set next seq busy bytes m → EntersBy set.path.0 seq [] (Some busy) m
+carries : (set : RxSet) (next seq : ℕ) (busy : Reception) (bytes : List ℕ) (m : RxDid) → busy.opened.seq < seq → Carries set next seq busy bytes m → EntersBy set.path.0 seq [] (Some busy) m
 carries set next seq busy bytes m below (NoneReadsOn room readers none row) =
     after set.path.0 seq seq [] (Some busy) (Some busy) (asks set busy room readers) row.rest m row.calls (looks set seq busy room readers below) (ends set next seq busy NoReaders (record m { calls = row.rest }) row.row)
 carries set next seq busy bytes m below (TooLittleRoom room readers need some need_is little row) =
     after set.path.0 seq seq [] (Some busy) (Some busy) (asks set busy room readers) row.rest m row.calls (looks set seq busy room readers below) (ends set next seq busy (NoRoom room need) (record m { calls = row.rest }) row.row)
 carries set next seq busy bytes m below (Adds room readers cells some fits packed row) =
-    let on : Busy = gone_on busy (length bytes) m.tick in
+    let on : Reception = gone_on busy (length bytes) m.tick in
     after set.path.0 seq seq [] (Some busy) (Some busy) (asks set busy room readers) row.rest m row.calls (looks set seq busy room readers below)
     (after set.path.0 seq seq [] (Some busy) (Some on) (puts set.path.0 busy.opened.seq cells) row.row.rest (record m { calls = row.rest }) row.row.calls (adds set seq (length bytes) m.tick busy cells below)
     (rw (row.row.row.calls, row.row.row.records, row.row.row.new) (enters-none set.path.0 seq (Some on) below)))
 carries set next seq busy bytes m below (FillsRow room readers cells some fits packed full row) =
-    let on : Busy = gone_on busy (length bytes) m.tick in
+    let on : Reception = gone_on busy (length bytes) m.tick in
     after set.path.0 seq seq [] (Some busy) (Some busy) (asks set busy room readers) row.rest m row.calls (looks set seq busy room readers below)
     (after set.path.0 seq seq [] (Some busy) (Some on) (puts set.path.0 busy.opened.seq cells) row.row.rest (record m { calls = row.rest }) row.row.calls (adds set seq (length bytes) m.tick busy cells below)
     (ends set next seq on Whole (record m { calls = row.row.rest }) row.row.row))
 
-continues : (set : RxSet) (next seq : ℕ) (busy : Busy) (size number : ℕ) (bytes : List ℕ) (m : RxMove) → busy.opened.seq < seq → Continues set next seq busy size number bytes m → EntersBy set.path.0 seq [] (Some busy) m
+continues : (set : RxSet) (next seq : ℕ) (busy : Reception) (size number : ℕ) (bytes : List ℕ) (m : RxDid) → busy.opened.seq < seq → Continues set next seq busy size number bytes m → EntersBy set.path.0 seq [] (Some busy) m
 continues set next seq busy size number bytes m below (TooLong long row) = quiet set.path.0 (record { next = next; seq = seq; busy = Some busy }) m below row
 continues set next seq busy size number bytes m below (TooShort short row) = quiet set.path.0 (record { next = next; seq = seq; busy = Some busy }) m below row
 continues set next seq busy size number bytes m below (WrongNumber looked other row) = ends set next seq busy (WrongSn busy.number number) m row
 continues set next seq busy size number bytes m below (RightNumber looked right row) = carries set next seq busy _ m below row
 
-consecutive : (set : RxSet) (next seq : ℕ) (busy : Option Busy) (size number : ℕ) (bytes : List ℕ) (m : RxMove) → IsBelow seq busy → ConsecutiveRow set (record { next = next; seq = seq; busy = busy }) size number bytes busy m → EntersBy set.path.0 seq [] busy m
+consecutive : (set : RxSet) (next seq : ℕ) (busy : Option Reception) (size number : ℕ) (bytes : List ℕ) (m : RxDid) → IsBelow seq busy → ConsecutiveRow set (record { next = next; seq = seq; busy = busy }) size number bytes busy m → EntersBy set.path.0 seq [] busy m
 consecutive set next seq None size number bytes m below row = quiet set.path.0 (record { next = next; seq = seq; busy = None }) m below row
 consecutive set next seq (Some busy) size number bytes m below row = continues set next seq busy size number bytes m below row
 
-first : (set : RxSet) (next seq : ℕ) (busy : Option Busy) (size : ℕ) (meaning : Meaning) (functional : Bool) (m : RxMove) → IsBelow seq busy → FirstRow set (record { next = next; seq = seq; busy = busy }) size meaning functional m → EntersBy set.path.0 seq (if not functional then need_at meaning ∷ [] else []) busy m
+first : (set : RxSet) (next seq : ℕ) (busy : Option Reception) (size : ℕ) (meaning : Meaning) (functional : Bool) (m : RxDid) → IsBelow seq busy → FirstRow set (record { next = next; seq = seq; busy = busy }) size meaning functional m → EntersBy set.path.0 seq (if not functional then need_at meaning ∷ [] else []) busy m
 first set next seq busy size meaning true m below row = quiet set.path.0 (record { next = next; seq = seq; busy = busy }) m below row
 first set next seq busy size meaning false m below row = starts set next seq size busy meaning m row
 
-step : (set : RxSet) (next seq : ℕ) (busy : Option Busy) (event : RxInput) (m : RxMove) → IsBelow seq busy → RxStep set (record { next = next; seq = seq; busy = busy }) event m → EntersBy set.path.0 seq (need_in set.functional event) busy m
+step : (set : RxSet) (next seq : ℕ) (busy : Option Reception) (event : RxEvent) (m : RxDid) → IsBelow seq busy → RxStep set (record { next = next; seq = seq; busy = busy }) event m → EntersBy set.path.0 seq (need_in set.functional event) busy m
 step set next seq busy (Came size (SingleFrame bytes)) m below row = starts set next seq size busy (SingleFrame bytes) m row
 step set next seq busy (Came size (FirstFrame len bytes)) m below row = first set next seq busy size (FirstFrame len bytes) set.functional m below row
 step set next seq busy (Came size (ConsecutiveFrame number bytes)) m below row = consecutive set next seq busy size number bytes m below row
 step set next seq busy (Came size (FlowControl status block_size separation)) m below row = quiet set.path.0 (record { next = next; seq = seq; busy = busy }) m below row
 step set next seq busy (Came size (NoUnit why)) m below row = quiet set.path.0 (record { next = next; seq = seq; busy = busy }) m below row
-step set next seq None TimerTurn m below row = quiet set.path.0 (record { next = next; seq = seq; busy = None }) m below row
-step set next seq None FlowControlLeft m below row = quiet set.path.0 (record { next = next; seq = seq; busy = None }) m below row
-step set next seq None RunEnds m below row = quiet set.path.0 (record { next = next; seq = seq; busy = None }) m below row
-step set next seq (Some busy) TimerTurn m below (InTime early row) = quiet set.path.0 (record { next = next; seq = seq; busy = Some busy }) m below row
-step set next seq (Some busy) TimerTurn m below (TooLate late row) = ends set next seq busy (RxTimeout CfLimit) m row
-step set next seq (Some busy) FlowControlLeft m below (FromBox waits row) = rw (row.calls, row.records, row.new) (record { fill = fill-none (writing set.path.0) seq; count = omega arith; entries = refl; outcomes = refl; needs_are = refl; below = below })
-step set next seq (Some busy) FlowControlLeft m below (NotAwaited waits row) = quiet set.path.0 (record { next = next; seq = seq; busy = Some busy }) m below row
-step set next seq (Some busy) RunEnds m below row = ends set next seq busy (RunEnd busy.wait (record { 0 = busy.since })) m row
+step set next seq None Timer m below row = quiet set.path.0 (record { next = next; seq = seq; busy = None }) m below row
+step set next seq None FcLeft m below row = quiet set.path.0 (record { next = next; seq = seq; busy = None }) m below row
+step set next seq None RunEnd m below row = quiet set.path.0 (record { next = next; seq = seq; busy = None }) m below row
+step set next seq (Some busy) Timer m below (InTime early row) = quiet set.path.0 (record { next = next; seq = seq; busy = Some busy }) m below row
+step set next seq (Some busy) Timer m below (TooLate late row) = ends set next seq busy (RxTimeout CfLimit) m row
+step set next seq (Some busy) FcLeft m below (FromBox waits row) = rw (row.calls, row.records, row.new) (record { fill = fill-none (writing set.path.0) seq; count = omega arith; entries = refl; outcomes = refl; needs_are = refl; below = below })
+step set next seq (Some busy) FcLeft m below (NotAwaited waits row) = quiet set.path.0 (record { next = next; seq = seq; busy = Some busy }) m below row
+step set next seq (Some busy) RunEnd m below row = ends set next seq busy (RunEnd busy.wait (record { 0 = busy.since })) m row
 
 -- a whole run
-pub openings : (set : RxSet) (turns : List RxTurn) → Happened set turns → Enters set.path.0 0 (needs_by set.functional turns) None (calls_by turns) (told_by turns) (state_of turns).seq (state_of turns).busy
+pub openings : (set : RxSet) (turns : List RxTurn) → HasReceived set turns → Enters set.path.0 0 (needs_by set.functional turns) None (calls_by turns) (records_by turns) (state_after rx_new turns).seq (state_after rx_new turns).busy
 openings set [] happened = enters-none set.path.0 0 None tt
 openings set (turn ∷ earlier) happened =
     let so = openings set earlier happened.2 in
-    enters-join set.path.0 0 (state_of earlier).seq turn.move.new.seq (needs_by set.functional earlier) (need_in set.functional turn.event) None (state_of earlier).busy turn.move.new.busy (calls_by earlier) turn.move.calls (told_by earlier) turn.move.records so
-    (step set (state_of earlier).next (state_of earlier).seq (state_of earlier).busy turn.event turn.move so.below happened.1)
+    enters-join set.path.0 0 (state_after rx_new earlier).seq turn.did.new.seq (needs_by set.functional earlier) (need_in set.functional turn.event) None (state_after rx_new earlier).busy turn.did.new.busy (calls_by earlier) turn.did.calls (records_by earlier) turn.did.records so
+    (step set (state_after rx_new earlier).next (state_after rx_new earlier).seq (state_after rx_new earlier).busy turn.event turn.did so.below happened.1)
 
 -- the sessions of a view that has these calls' sessions are those that the records tell
-pub entries-are : (set : RxSet) (turns : List RxTurn) (v : View) → Happened set turns → (state_of turns).busy ≡ None → v.sessions set.path.0 ≡ (grows (calls_by turns) empty_view).sessions set.path.0 → map (writing set.path.0).fixed (v.sessions set.path.0) ≡ entries_told (told_by turns)
+pub entries-are : (set : RxSet) (turns : List RxTurn) (v : View) → HasReceived set turns → (state_after rx_new turns).busy ≡ None → v.sessions set.path.0 ≡ (grows (calls_by turns) empty_view).sessions set.path.0 → map (writing set.path.0).fixed (v.sessions set.path.0) ≡ entries_told (records_by turns)
 entries-are set turns v happened idle sessions =
     let put = openings set turns happened in
-    ap (map (writing set.path.0).fixed) sessions ∙ (put.fill empty_view refl).fixed ∙ put.entries ∙ ap (λ b. entries_told (told_by turns) ++ entry_going b) idle ∙ append-nil (entries_told (told_by turns))
+    ap (map (writing set.path.0).fixed) sessions ∙ (put.fill empty_view refl).fixed ∙ put.entries ∙ ap (λ b. entries_told (records_by turns) ++ entry_going b) idle ∙ append-nil (entries_told (records_by turns))

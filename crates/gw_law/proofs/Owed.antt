@@ -1,5 +1,7 @@
 -- What the flow controls of a source channel answer so far, and how each part of a step changes it.
 use Rattle.std.proofs.Common.{◌≡◌, ◌⊎◌, inl, inr, ℕ, suc, ◌+◌, ◌<◌, ◌≤◌, true, false, Option, Some, None, List, [], ◌∷◌, ◌++◌, length, refl, ap, sym, ◌∙◌, subst, arith, append-nil}
+use Rattle.tp_receiver.specs.State.{Reception}
+use Rattle.tp_receiver.specs.Table.{revoking, continue_to_send, overflow}
 use Rattle.std.specs.Prelude.{slice_get}
 use Rattle.std.specs.List.{AllByRecursion}
 use Rattle.std.proofs.lemmas.List.{length-append}
@@ -8,8 +10,6 @@ use Rattle.hub_core.specs.declared.record.RxWait.TheVariants.{Box, Cf}
 use Rattle.hub_core.specs.declared.record.SessionRecord.{SessionRecord}
 use Rattle.tp_attempts.specs.Seen.{Seen}
 use Rattle.tp_receiver.specs.declared.set.RxSet.{RxSet}
-use Rattle.tp_receiver.specs.Receiving.{Busy, revoking}
-use Rattle.tp_receiver.specs.Rows.{continue_to_send, overflow}
 use Rattle.tp_sender.specs.Sending.{Written, box_then}
 use Rattle.tp_unit.specs.declared.shape.Shape.{Shape}
 use Rattle.tp_unit.specs.Unit.{Meaning}
@@ -90,7 +90,7 @@ LiesIdle story None = Unit {0}
 LiesIdle story (Some meaning) = (meaning ≡ overflow) × IsRefusal story.starts story.records story.now
 
 -- the box, where one is: its flow control lies there since its start's tick, or has left in it
-pub data LiesBusy (set : RxSet) (shape : Shape) (story : Story) (busy : Busy) : Type 0 where
+pub data LiesBusy (set : RxSet) (shape : Shape) (story : Story) (busy : Reception) : Type 0 where
   Waits : busy.wait ≡ Box → story.lies ≡ Some (continue_to_send set) → busy.begin ≡ story.now → LiesBusy set shape story busy
   Went : busy.wait ≡ Cf → story.lies ≡ None → HasLeft shape (continue_to_send set) busy.begin story.controls → LiesBusy set shape story busy
 
@@ -99,7 +99,7 @@ pub record IdleSo (set : RxSet) (shape : Shape) (story : Story) : Type 0 where
   pub all_told : length story.starts ≡ length story.records
   pub lies : LiesIdle story story.lies
 
-pub record BusySo (set : RxSet) (shape : Shape) (story : Story) (busy : Busy) : Type 0 where
+pub record BusySo (set : RxSet) (shape : Shape) (story : Story) (busy : Reception) : Type 0 where
   pub facts : Facts set shape story
   pub one_more : length story.starts ≡ length story.records + 1
   pub start : Seen
@@ -108,7 +108,7 @@ pub record BusySo (set : RxSet) (shape : Shape) (story : Story) (busy : Busy) : 
   pub begin : start.at ≡ busy.begin
   pub lies : LiesBusy set shape story busy
 
-abbrev pub SoFar : RxSet → Shape → Story → Option Busy → Type 0
+abbrev pub SoFar : RxSet → Shape → Story → Option Reception → Type 0
 SoFar set shape story None = IdleSo set shape story
 SoFar set shape story (Some busy) = BusySo set shape story busy
 
@@ -210,7 +210,7 @@ facts-told set shape story start told one_more there at other opened refused so 
 }
 
 -- what a reception's flow control in the box comes to, once the reception is over
-lies-over : (set : RxSet) (shape : Shape) (story : Story) (busy : Busy) → LiesBusy set shape story busy → box_then (revoking busy.wait) story.lies ≡ None
+lies-over : (set : RxSet) (shape : Shape) (story : Story) (busy : Reception) → LiesBusy set shape story busy → box_then (revoking busy.wait) story.lies ≡ None
 lies-over set shape story busy (Waits box lies at) = rw box refl
 lies-over set shape story busy (Went cf none left) = rw (cf, none) refl
 
@@ -218,7 +218,7 @@ other-control : (set : RxSet) → Some (continue_to_send set) ≡ Some overflow 
 other-control set same = cc
 
 -- an overflow's flow control doesn't lie there where a reception is in progress
-none-lies : (set : RxSet) (shape : Shape) (story : Story) (busy : Busy) → LiesBusy set shape story busy → story.lies ≡ Some overflow → ⊥
+none-lies : (set : RxSet) (shape : Shape) (story : Story) (busy : Reception) → LiesBusy set shape story busy → story.lies ≡ Some overflow → ⊥
 none-lies set shape story busy (Waits box lies at) is = other-control set (sym lies ∙ is)
 none-lies set shape story busy (Went cf none left) is = absurd cc
 
@@ -239,12 +239,12 @@ facts-lies set shape story lies other so = record {
 }
 
 -- the reception ends, in its start's tick before its flow control left, or after that
-opened-over : (set : RxSet) (shape : Shape) (story : Story) (busy : Busy) (start : Seen) (told : SessionRecord) → start.at ≡ busy.begin → told.end.0 ≡ story.now → (busy.wait ≡ Box → is_run_end told.result ≡ false) → LiesBusy set shape story busy →
+opened-over : (set : RxSet) (shape : Shape) (story : Story) (busy : Reception) (start : Seen) (told : SessionRecord) → start.at ≡ busy.begin → told.end.0 ≡ story.now → (busy.wait ≡ Box → is_run_end told.result ≡ false) → LiesBusy set shape story busy →
     IsOpened set shape start told story.controls
 opened-over set shape story busy start told is at early (Waits box lies same) = inl (is ∙ same ∙ sym at, early box)
 opened-over set shape story busy start told is at early (Went cf none left) = inr (subst (λ (t : ℕ). HasLeft shape (continue_to_send set) t story.controls) (sym is) left)
 
-pub over : (set : RxSet) (shape : Shape) (story : Story) (busy : Busy) (told : SessionRecord) → told.end.0 ≡ story.now → is_overflow told.result ≡ false → (busy.wait ≡ Box → is_run_end told.result ≡ false) → BusySo set shape story busy →
+pub over : (set : RxSet) (shape : Shape) (story : Story) (busy : Reception) (told : SessionRecord) → told.end.0 ≡ story.now → is_overflow told.result ≡ false → (busy.wait ≡ Box → is_run_end told.result ≡ false) → BusySo set shape story busy →
     IdleSo set shape (record story { lies = box_then (revoking busy.wait) story.lies; records = story.records ++ told ∷ [] })
 over set shape story busy told at other early so =
     let P : Option Meaning → Type 0 = λ l. IdleSo set shape (record story { lies = l; records = story.records ++ told ∷ [] }) in
@@ -302,7 +302,7 @@ refused set shape story start told at ends bound first is so = record {
 }
 
 -- a start whose reception begins
-pub begins : (set : RxSet) (shape : Shape) (story : Story) (start : Seen) (busy : Busy) → start.at ≡ story.now → story.bound ≤ story.now → IsFirst start.meaning → busy.begin ≡ story.now → busy.wait ≡ Box → IdleSo set shape story →
+pub begins : (set : RxSet) (shape : Shape) (story : Story) (start : Seen) (busy : Reception) → start.at ≡ story.now → story.bound ≤ story.now → IsFirst start.meaning → busy.begin ≡ story.now → busy.wait ≡ Box → IdleSo set shape story →
     BusySo set shape (record story { lies = Some (continue_to_send set); starts = story.starts ++ start ∷ [] }) busy
 begins set shape story start busy at bound first begin box so = record {
   facts = facts-start set shape story start (Some (continue_to_send set)) at bound so.all_told so.facts;
@@ -342,7 +342,7 @@ no-room-leaves set shape story lies bound so = record {
   lies = tt;
 }
 
-pub leaves : (set : RxSet) (shape : Shape) (story : Story) (busy new : Busy) → story.lies ≡ Some (continue_to_send set) → story.bound ≤ story.now → busy.begin ≡ story.now → new.begin ≡ busy.begin → new.wait ≡ Cf → BusySo set shape story busy →
+pub leaves : (set : RxSet) (shape : Shape) (story : Story) (busy new : Reception) → story.lies ≡ Some (continue_to_send set) → story.bound ≤ story.now → busy.begin ≡ story.now → new.begin ≡ busy.begin → new.wait ≡ Cf → BusySo set shape story busy →
     BusySo set shape (record story { bound = story.now + 1; lies = None; controls = story.controls ++ record { tick = story.now; frame = frame_of shape (continue_to_send set) } ∷ [] }) new
 leaves set shape story busy new lies bound begin same cf so =
     let w : Written = record { tick = story.now; frame = frame_of shape (continue_to_send set) } in
@@ -381,11 +381,11 @@ facts-later set shape story now bound later up none so = record {
   refused = λ k s told there here first refused. answered-later shape story now bound k s.at none (so.refused k s told there here first refused);
 }
 
-lies-later : (set : RxSet) (shape : Shape) (story : Story) (now bound : ℕ) (busy : Busy) → story.lies ≡ None → LiesBusy set shape story busy → LiesBusy set shape (record story { now = now; bound = bound }) busy
+lies-later : (set : RxSet) (shape : Shape) (story : Story) (now bound : ℕ) (busy : Reception) → story.lies ≡ None → LiesBusy set shape story busy → LiesBusy set shape (record story { now = now; bound = bound }) busy
 lies-later set shape story now bound busy none (Waits box lies at) = absurd cc
 lies-later set shape story now bound busy none (Went cf gone left) = Went cf gone left
 
-pub later : (set : RxSet) (shape : Shape) (story : Story) (now bound : ℕ) (busy : Option Busy) → story.now ≤ now → story.bound ≤ bound → story.lies ≡ None → SoFar set shape story busy → SoFar set shape (record story { now = now; bound = bound }) busy
+pub later : (set : RxSet) (shape : Shape) (story : Story) (now bound : ℕ) (busy : Option Reception) → story.now ≤ now → story.bound ≤ bound → story.lies ≡ None → SoFar set shape story busy → SoFar set shape (record story { now = now; bound = bound }) busy
 later set shape story now bound None le up none so = record { facts = facts-later set shape story now bound le up none so.facts; all_told = so.all_told; lies = subst (LiesIdle (record story { now = now; bound = bound })) (sym none) tt }
 later set shape story now bound (Some busy) le up none so = record {
   facts = facts-later set shape story now bound le up none so.facts;

@@ -1,5 +1,9 @@
 -- Whose calls a receiver's and a sender's steps make: those of its path's writer and of its destination, and no others.
 use Rattle.std.proofs.Common.{◌≡◌, ℕ, ◌+◌, Bool, true, false, length, Option, Some, None, List, [], ◌∷◌, ◌++◌, refl, ap, sym, ◌∙◌, append-nil, append_assoc}
+use Rattle.tp_receiver.specs.State.{Reception, RxState, RxEvent, RxDid, Came, Timer, FcLeft, RunEnd, RxTurn, rx_new}
+use Rattle.tp_receiver.specs.Table.{begun, gone_on, Begins, Carries, ConsecutiveRow, Ends, FirstRow, Grants, Interrupts, Opens, RxStep, Starts, asks, NoneReads, All, NoBuffer, Completes, NoBufferFirst, Opened, NoneReadsOn, TooLittleRoom, Adds, Fills, TooLong, TooShort, WrongNumber, RightNumber, InTime, TooLate as CameTooLate, FromBox, NotAwaited}
+use Rattle.tp_receiver.specs.Runs.{HasReceived}
+use Rattle.hub_core.specs.Turns.{calls_by, state_after}
 use Rattle.std.specs.Prelude.{map}
 use Rattle.std.specs.List.{AllByRecursion}
 use Rattle.hub_core.specs.View.{Event, View, grow, grows, Took, Refused, Entered, Asked, Put, Published, Joining, Missed, Saw, Read, Closed, Parted}
@@ -12,10 +16,6 @@ use Rattle.hub_core.specs.declared.record.SessionResult.TheVariants.{Whole, Wron
 use Rattle.hub_core.specs.declared.record.OpenedAt.{OpenedAt}
 use Rattle.hub_core.specs.declared.record.TxWait.TheVariants.{Turn as ForTurn}
 use Rattle.tp_receiver.specs.declared.set.RxSet.{RxSet}
-use Rattle.tp_receiver.specs.Receiving.{Busy, RxState, RxInput, RxMove, Came, TimerTurn, FlowControlLeft, RunEnds, begun, gone_on}
-use Rattle.tp_receiver.specs.Rows.{Begins, Carries, ConsecutiveRow, Ends, FirstRow, Grants, Interrupts, Opens, RxStep, Starts, asks}
-use Rattle.tp_receiver.specs.Rows.{NoneReads, All, NoBuffer, Completes, NoBufferFirst, Opened, NoneReadsOn, TooLittleRoom, Adds, Fills, TooLong, TooShort, WrongNumber, RightNumber, InTime, TooLate as CameTooLate, FromBox, NotAwaited}
-use Rattle.tp_receiver.specs.Running.{Happened as Received, RxTurn, calls_by as received_calls, state_of}
 use Rattle.tp_sender.specs.declared.event.TxEvent.{TxEvent}
 use Rattle.tp_sender.specs.declared.event.TxEvent.TheVariants.{Turn, Fc as CameFc, Left, RunEnd}
 use Rattle.tp_sender.specs.declared.live.Phase.{Phase}
@@ -107,24 +107,24 @@ none set calls is = rw is tt
 parts : (set : RxSet) (calls before rest : List Event) → calls ≡ before ++ rest → Writes set before → Writes set rest → Writes set calls
 parts set calls before rest is first second = rw is (all-join (OfWriter set.path.0) before rest first second)
 
-asked : (set : RxSet) (busy : Busy) (room readers : ℕ) (calls rest : List Event) → calls ≡ asks set busy room readers ++ rest → Writes set rest → Writes set calls
+asked : (set : RxSet) (busy : Reception) (room readers : ℕ) (calls rest : List Event) → calls ≡ asks set busy room readers ++ rest → Writes set rest → Writes set calls
 asked set busy room readers calls rest is later = rw is (refl, later)
 
 put : (set : RxSet) (seq count : ℕ) (cells : List ℕ) → Writes set (map (λ cell. Put set.path.0 seq cell) cells ++ Published set.path.0 seq count ∷ [])
 put set seq count [] = (refl, tt)
 put set seq count (cell ∷ cells) = (refl, put set seq count cells)
 
-ends : (set : RxSet) (next seq : ℕ) (busy : Busy) (how : SessionResult) (m : RxMove) → Ends set next seq busy how m → Writes set m.calls
+ends : (set : RxSet) (next seq : ℕ) (busy : Reception) (how : SessionResult) (m : RxDid) → Ends set next seq busy how m → Writes set m.calls
 ends set next seq busy how m row = rw row.calls (refl, tt)
 
 opens : (set : RxSet) (seq len : ℕ) (bytes : List ℕ) (opened : OpenedAt) (opening : List Event) → Opens set seq len bytes opened opening → Writes set opening
 opens set seq len bytes opened opening row = rw row.calls_are (tt, (refl, put set seq _ row.cells))
 
-grants : (set : RxSet) (next seq : ℕ) (busy : Busy) (m : RxMove) → Grants set next seq busy m → Writes set m.calls
+grants : (set : RxSet) (next seq : ℕ) (busy : Reception) (m : RxDid) → Grants set next seq busy m → Writes set m.calls
 grants set next seq busy m (NoneReads room readers some row) = asked set busy room readers m.calls row.rest row.calls (ends set next seq busy NoReaders (record m { calls = row.rest }) row.row)
 grants set next seq busy m (All room readers some row) = asked set busy room readers m.calls row.rest row.calls (none set row.rest row.row.calls)
 
-begins : (set : RxSet) (next seq size : ℕ) (meaning : Meaning) (m : RxMove) → Begins set next seq size meaning m → Writes set m.calls
+begins : (set : RxSet) (next seq size : ℕ) (meaning : Meaning) (m : RxDid) → Begins set next seq size meaning m → Writes set m.calls
 begins set next seq size (SingleFrame bytes) m (NoBuffer row) = rw row.calls (tt, tt)
 begins set next seq size (SingleFrame bytes) m (Completes opened opening row rest) =
     parts set m.calls opening rest.rest rest.calls (opens set seq (length bytes) bytes opened opening row) (ends set (next + 1) (seq + 1) (begun next (length bytes) size (length bytes) m.tick opened) Whole (record m { calls = rest.rest }) rest.row)
@@ -135,14 +135,14 @@ begins set next seq size (ConsecutiveFrame number bytes) m row = absurd row
 begins set next seq size (FlowControl status block_size separation) m row = absurd row
 begins set next seq size (NoUnit why) m row = absurd row
 
-interrupts : (set : RxSet) (next seq : ℕ) (busy : Option Busy) (m : RxMove) → Interrupts set next seq busy m → Writes set m.calls
+interrupts : (set : RxSet) (next seq : ℕ) (busy : Option Reception) (m : RxDid) → Interrupts set next seq busy m → Writes set m.calls
 interrupts set next seq None m row = none set m.calls row.calls
 interrupts set next seq (Some busy) m row = ends set next seq busy Restarted m row
 
-starts : (set : RxSet) (state : RxState) (size : ℕ) (meaning : Meaning) (m : RxMove) → Starts set state size meaning m → Writes set m.calls
+starts : (set : RxSet) (state : RxState) (size : ℕ) (meaning : Meaning) (m : RxDid) → Starts set state size meaning m → Writes set m.calls
 starts set state size meaning m row = parts set m.calls row.earlier.calls row.later.calls row.calls (interrupts set state.next state.seq state.busy row.earlier row.interrupts) (begins set state.next state.seq size meaning row.later row.begins)
 
-carries : (set : RxSet) (next seq : ℕ) (busy : Busy) (bytes : List ℕ) (m : RxMove) → Carries set next seq busy bytes m → Writes set m.calls
+carries : (set : RxSet) (next seq : ℕ) (busy : Reception) (bytes : List ℕ) (m : RxDid) → Carries set next seq busy bytes m → Writes set m.calls
 carries set next seq busy bytes m (NoneReadsOn room readers some row) = asked set busy room readers m.calls row.rest row.calls (ends set next seq busy NoReaders (record m { calls = row.rest }) row.row)
 carries set next seq busy bytes m (TooLittleRoom room readers need some is little row) = asked set busy room readers m.calls row.rest row.calls (ends set next seq busy (NoRoom room need) (record m { calls = row.rest }) row.row)
 carries set next seq busy bytes m (Adds room readers cells some fits packed row) =
@@ -150,46 +150,46 @@ carries set next seq busy bytes m (Adds room readers cells some fits packed row)
 carries set next seq busy bytes m (Fills room readers cells some fits packed full row) =
     asked set busy room readers m.calls row.rest row.calls (parts set row.rest _ row.row.rest row.row.calls (put set busy.opened.seq _ cells) (ends set next seq (gone_on busy (length bytes) m.tick) Whole (record m { calls = row.row.rest }) row.row.row))
 
-consecutive : (set : RxSet) (old : RxState) (size number : ℕ) (bytes : List ℕ) (busy : Option Busy) (m : RxMove) → ConsecutiveRow set old size number bytes busy m → Writes set m.calls
+consecutive : (set : RxSet) (old : RxState) (size number : ℕ) (bytes : List ℕ) (busy : Option Reception) (m : RxDid) → ConsecutiveRow set old size number bytes busy m → Writes set m.calls
 consecutive set old size number bytes None m row = none set m.calls row.calls
 consecutive set old size number bytes (Some busy) m (TooLong long row) = none set m.calls row.calls
 consecutive set old size number bytes (Some busy) m (TooShort short row) = none set m.calls row.calls
 consecutive set old size number bytes (Some busy) m (WrongNumber looked other row) = ends set old.next old.seq busy (WrongSn busy.number number) m row
 consecutive set old size number bytes (Some busy) m (RightNumber looked right row) = carries set old.next old.seq busy _ m row
 
-first : (set : RxSet) (old : RxState) (size : ℕ) (meaning : Meaning) (functional : Bool) (m : RxMove) → FirstRow set old size meaning functional m → Writes set m.calls
+first : (set : RxSet) (old : RxState) (size : ℕ) (meaning : Meaning) (functional : Bool) (m : RxDid) → FirstRow set old size meaning functional m → Writes set m.calls
 first set old size meaning true m row = none set m.calls row.calls
 first set old size meaning false m row = starts set old size meaning m row
 
-step : (set : RxSet) (next seq : ℕ) (busy : Option Busy) (event : RxInput) (m : RxMove) → RxStep set (record { next = next; seq = seq; busy = busy }) event m → Writes set m.calls
+step : (set : RxSet) (next seq : ℕ) (busy : Option Reception) (event : RxEvent) (m : RxDid) → RxStep set (record { next = next; seq = seq; busy = busy }) event m → Writes set m.calls
 step set next seq busy (Came size (SingleFrame bytes)) m row = starts set (record { next = next; seq = seq; busy = busy }) size (SingleFrame bytes) m row
 step set next seq busy (Came size (FirstFrame len bytes)) m row = first set (record { next = next; seq = seq; busy = busy }) size (FirstFrame len bytes) set.functional m row
 step set next seq busy (Came size (ConsecutiveFrame number bytes)) m row = consecutive set (record { next = next; seq = seq; busy = busy }) size number bytes busy m row
 step set next seq busy (Came size (FlowControl status block_size separation)) m row = none set m.calls row.calls
 step set next seq busy (Came size (NoUnit why)) m row = none set m.calls row.calls
-step set next seq None TimerTurn m row = none set m.calls row.calls
-step set next seq None FlowControlLeft m row = none set m.calls row.calls
-step set next seq None RunEnds m row = none set m.calls row.calls
-step set next seq (Some busy) TimerTurn m (InTime early row) = none set m.calls row.calls
-step set next seq (Some busy) TimerTurn m (CameTooLate late row) = ends set next seq busy (RxTimeout CfLimit) m row
-step set next seq (Some busy) FlowControlLeft m (FromBox waits row) = none set m.calls row.calls
-step set next seq (Some busy) FlowControlLeft m (NotAwaited waits row) = none set m.calls row.calls
-step set next seq (Some busy) RunEnds m row = ends set next seq busy (RunEnded busy.wait (record { 0 = busy.since })) m row
+step set next seq None Timer m row = none set m.calls row.calls
+step set next seq None FcLeft m row = none set m.calls row.calls
+step set next seq None RunEnd m row = none set m.calls row.calls
+step set next seq (Some busy) Timer m (InTime early row) = none set m.calls row.calls
+step set next seq (Some busy) Timer m (CameTooLate late row) = ends set next seq busy (RxTimeout CfLimit) m row
+step set next seq (Some busy) FcLeft m (FromBox waits row) = none set m.calls row.calls
+step set next seq (Some busy) FcLeft m (NotAwaited waits row) = none set m.calls row.calls
+step set next seq (Some busy) RunEnd m row = ends set next seq busy (RunEnded busy.wait (record { 0 = busy.since })) m row
 
 -- the turns after earlier ones
-pub received-writes : (set : RxSet) (turns earlier : List RxTurn) → Received set (turns ++ earlier) → Writes set (received_calls turns)
+pub received-writes : (set : RxSet) (turns earlier : List RxTurn) → HasReceived set (turns ++ earlier) → Writes set (calls_by turns)
 received-writes set [] earlier happened = tt
 received-writes set (turn ∷ turns) earlier happened =
-    let old : RxState = state_of (turns ++ earlier) in
-    all-join (OfWriter set.path.0) (received_calls turns) turn.move.calls (received-writes set turns earlier happened.2) (step set old.next old.seq old.busy turn.event turn.move happened.1)
+    let old : RxState = state_after rx_new (turns ++ earlier) in
+    all-join (OfWriter set.path.0) (calls_by turns) turn.did.calls (received-writes set turns earlier happened.2) (step set old.next old.seq old.busy turn.event turn.did happened.1)
 
-pub received-front : (set : RxSet) (turns earlier : List RxTurn) → Received set (turns ++ earlier) → Received set earlier
+pub received-front : (set : RxSet) (turns earlier : List RxTurn) → HasReceived set (turns ++ earlier) → HasReceived set earlier
 received-front set [] earlier happened = happened
 received-front set (turn ∷ turns) earlier happened = received-front set turns earlier happened.2
 
-pub received-calls : (turns earlier : List RxTurn) → received_calls (turns ++ earlier) ≡ received_calls earlier ++ received_calls turns
-received-calls [] earlier = sym (append-nil (received_calls earlier))
-received-calls (turn ∷ turns) earlier = ap (λ c. c ++ turn.move.calls) (received-calls turns earlier) ∙ append_assoc (received_calls earlier) (received_calls turns) turn.move.calls
+pub received-calls : (turns earlier : List RxTurn) → calls_by (turns ++ earlier) ≡ calls_by earlier ++ calls_by turns
+received-calls [] earlier = sym (append-nil (calls_by earlier))
+received-calls (turn ∷ turns) earlier = ap (λ c. c ++ turn.did.calls) (received-calls turns earlier) ∙ append_assoc (calls_by earlier) (calls_by turns) turn.did.calls
 
 -- the rows of a sender
 abbrev pub Reads : TxSet → List Event → Type 0

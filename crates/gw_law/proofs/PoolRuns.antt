@@ -1,5 +1,9 @@
 -- The pool's law of a whole run over one route: its sessions are those of its source channel, and at its end all are over.
 use Rattle.std.proofs.Common.{◌≡◌, ℕ, ◌<◌, ◌≤◌, zero, suc, cond, Option, Some, None, List, [], ◌∷◌, ◌++◌, length, map, get_or, inl, inr, refl, ap, sym, ◌∙◌, subst, arith, append-nil}
+use Rattle.hub_core.specs.Moves.{move_of}
+use Rattle.tp_receiver.specs.Runs.{HasReceived}
+use Rattle.hub_core.specs.Turns.{calls_by, state_after}
+use Rattle.tp_receiver.specs.State.{rx_new}
 use Rattle.std.specs.Prelude.{slice_get}
 use Rattle.std.specs.List.{AllByRecursion}
 use Rattle.std.proofs.lemmas.Bool.{cases_eq, false_from_ne_true}
@@ -9,8 +13,6 @@ use Rattle.hub_core.specs.Joint.{HasLeft, IsOver, Joint, number_of, numbered}
 use Rattle.hub_core.specs.View.{View, Change, Taken, Event, Session, Reading, Refusal, grow, grows, reading_at, reading_new, session_at}
 use Rattle.hub_core.specs.View.{Took, Refused, Closed, Parted}
 use Rattle.hub_core.specs.declared.record.Move.{Move}
-use Rattle.tp_receiver.specs.Receiving.{move_of}
-use Rattle.tp_receiver.specs.Running.{Happened as Received, calls_by as received_calls, state_of}
 use Rattle.tp_receiver.specs.declared.set.RxSet.{RxSet}
 use Rattle.tp_sender.specs.Sending.{Happened as WasSent, calls_by as sent_calls, state_from}
 use Rattle.tp_sender.specs.declared.set.TxSet.{TxSet}
@@ -30,9 +32,9 @@ use Rattle.hub_core.proofs.Growing.{slice_get-pushed}
 -- what both parties have left after some works
 AfterWorks : RxSet → TxSet → List Work → Type 0
 AfterWorks rx tx works =
-    Stands rx.path.0 tx.dest.0 rx.readers (state_of (turns_of works)).seq (session_of (state_of (turns_of works)).busy) (state_from (moments_of works)).next (sent_session (state_from (moments_of works)).live) (view_of works)
+    Stands rx.path.0 tx.dest.0 rx.readers (state_after rx_new (turns_of works)).seq (session_of (state_after rx_new (turns_of works)).busy) (state_from (moments_of works)).next (sent_session (state_from (moments_of works)).live) (view_of works)
 
-after-works : (rx : RxSet) (tx : TxSet) (works : List Work) → tx.path ≡ rx.path → Received rx (turns_of works) → WasSent tx (moments_of works) → AfterWorks rx tx works
+after-works : (rx : RxSet) (tx : TxSet) (works : List Work) → tx.path ≡ rx.path → HasReceived rx (turns_of works) → WasSent tx (moments_of works) → AfterWorks rx tx works
 unfolding AfterWorks
 after-works rx tx [] path received sent = record {
   written = record { count = refl; left = λ k s is. absurd cc; used = tt };
@@ -41,7 +43,7 @@ after-works rx tx [] path received sent = record {
 }
 after-works rx tx (work ∷ earlier) path received sent =
     let before = after-works rx tx earlier path (received-front rx work.turns (turns_of earlier) received) (sent-front tx work.moments (moments_of earlier) sent) in
-    let state = state_of (turns_of (work ∷ earlier)) in
+    let state = state_after rx_new (turns_of (work ∷ earlier)) in
     let old = state_from (moments_of earlier) in
     let new = state_from (moments_of (work ∷ earlier)) in
     let between = turns-step rx work.turns (turns_of earlier) received tx.dest.0 old.next (sent_session old.live) (view_of earlier) before in
@@ -90,12 +92,12 @@ are-in [] v = tt
 are-in (call ∷ calls) v = (stay-by calls (grow call v) call (in-here call v), are-in calls (grow call v))
 
 -- the receiver's takes and overflows are in the view
-calls-in : (works : List Work) → AllByRecursion (IsIn (view_of works)) (received_calls (turns_of works))
+calls-in : (works : List Work) → AllByRecursion (IsIn (view_of works)) (calls_by (turns_of works))
 calls-in [] = tt
 calls-in (work ∷ earlier) =
     let between : View = view_between earlier work in
-    let before : List Event = received_calls (turns_of earlier) in
-    let calls : List Event = received_calls work.turns in
+    let before : List Event = calls_by (turns_of earlier) in
+    let calls : List Event = calls_by work.turns in
     let P : List Event → Type 0 = λ c. AllByRecursion (IsIn (view_of (work ∷ earlier))) c in
     subst P (sym (received-calls work.turns (turns_of earlier)))
     (all-stay between (view_of (work ∷ earlier)) (before ++ calls) (stay-by (sent_calls work.moments) between)
@@ -152,14 +154,14 @@ only-first x y zero is = refl
 only-first x y (suc place) is = absurd cc
 
 after-run : (rx : RxSet) (tx : TxSet) (sizes : List ℕ) (last count free : ℕ) (ticks : List Work) (end : Work) → IsRun rx tx sizes last count free ticks end →
-    Stands rx.path.0 tx.dest.0 1 (state_of (turns_of (end ∷ ticks))).seq None (state_from (moments_of (end ∷ ticks))).next None (view_of (end ∷ ticks))
+    Stands rx.path.0 tx.dest.0 1 (state_after rx_new (turns_of (end ∷ ticks))).seq None (state_from (moments_of (end ∷ ticks))).next None (view_of (end ∷ ticks))
 unfolding AfterWorks
 after-run rx tx sizes last count free ticks end run =
     let works : List Work = end ∷ ticks in
-    let seq : ℕ = (state_of (turns_of works)).seq in
+    let seq : ℕ = (state_after rx_new (turns_of works)).seq in
     let next : ℕ = (state_from (moments_of works)).next in
     let P : ℕ → Option ℕ → Option ℕ → Type 0 = λ dests writes reads. Stands rx.path.0 tx.dest.0 dests seq writes next reads (view_of works) in
-    let Q : ℕ → Type 0 = λ dests. P dests (session_of (state_of (turns_of works)).busy) (sent_session (state_from (moments_of works)).live) in
+    let Q : ℕ → Type 0 = λ dests. P dests (session_of (state_after rx_new (turns_of works)).busy) (sent_session (state_from (moments_of works)).live) in
     let R : Option ℕ → Type 0 = λ writes. P 1 writes (sent_session (state_from (moments_of works)).live) in
     let S : Option ℕ → Type 0 = λ reads. P 1 None reads in
     subst S (ap sent_session run.ends.idle.sender) (subst R (ap session_of run.ends.idle.receiver) (subst Q run.readers (after-works rx tx works run.path run.received run.sent)))
@@ -175,7 +177,7 @@ is-pool-run rx tx sizes last count free ticks end run =
       in_order = run.in_order;
       runs = (record { received = run.received; idle = run.ends.idle.receiver; calls = calls-in works; sessions = sessions-own rx tx works run.received run.sent }, tt);
       apart = λ chan other one two at there same. only-first (source_of rx works) one chan at ∙ sym (only-first (source_of rx works) two other there);
-      all = λ path seq s at. (0, source_of rx works, refl, sym (own-path rx.path.0 tx.dest.0 1 (state_of (turns_of works)).seq (state_from (moments_of works)).next (view_of works) None None so path seq s at));
+      all = λ path seq s at. (0, source_of rx works, refl, sym (own-path rx.path.0 tx.dest.0 1 (state_after rx_new (turns_of works)).seq (state_from (moments_of works)).next (view_of works) None None so path seq s at));
     }
 
 pub pool_of : (rx : RxSet) (tx : TxSet) (shape : Shape) (source_budget budget : ℕ) (sizes : List ℕ) (last count free : ℕ) (ticks : List Work) (end : Work) → IsRun rx tx sizes last count free ticks end →
@@ -187,7 +189,7 @@ pool_of rx tx shape source_budget budget sizes last count free ticks end run =
     let moves : List Move = map move_of v.changes in
     let so = after-run rx tx sizes last count free ticks end run in
     let pool = is-pool-run rx tx sizes last count free ticks end run in
-    let over : AreAllOver v = all-over sizes count free rx.path.0 tx.dest.0 (state_of (turns_of works)).seq (state_from (moments_of works)).next v run.joint so run.ends.joined in
-    let named = named_of sources sizes count free v moves pool (all-used rx.path.0 tx.dest.0 1 (state_of (turns_of works)).seq (state_from (moments_of works)).next v None None so) in
+    let over : AreAllOver v = all-over sizes count free rx.path.0 tx.dest.0 (state_after rx_new (turns_of works)).seq (state_from (moments_of works)).next v run.joint so run.ends.joined in
+    let named = named_of sources sizes count free v moves pool (all-used rx.path.0 tx.dest.0 1 (state_after rx_new (turns_of works)).seq (state_from (moments_of works)).next v None None so) in
     let ends = pool_ends_of sources sizes count free v moves pool over in
     record { law = pool_law_of sources sizes count free v moves pool; ends = ends; named = named; whole = ends.whole named }

@@ -1,5 +1,9 @@
 -- The law of the pool: the changes of the joined view as moves, and what a receiver's records say of them.
 use Rattle.std.proofs.Common.{◌≡◌, ◌≢◌, ℕ, ◌+◌, ◌-◌, ◌<◌, ◌≤◌, ◌==◌, zero, suc, Bool, true, false, cond, Option, Some, None, option_map, is_some, not, List, [], ◌∷◌, ◌++◌, map, inl, inr, refl, ap, sym, ◌∙◌, subst, arith, append-nil, eq-eqb}
+use Rattle.tp_receiver.specs.State.{Came, Timer, FcLeft, RunEnd, RxEvent, RxTurn}
+use Rattle.hub_core.specs.Moves.{move_of}
+use Rattle.hub_core.specs.Turns.{calls_by, came_by, records_by}
+use Rattle.tp_receiver.specs.Runs.{frames_in}
 use Rattle.std.specs.Prelude.{option_to_list, slice_get}
 use Rattle.std.specs.List.{AllByRecursion, AllZip, flat_map}
 use Rattle.std.proofs.lemmas.Bool.{ne_eqb, cases_lt}
@@ -21,8 +25,6 @@ use Rattle.tp_attempts.specs.Attempts.{attempts_in}
 use Rattle.tp_attempts.specs.Cuts.{Cut}
 use Rattle.tp_attempts.specs.Seen.{Seen, is_start}
 use Rattle.tp_attempts.proofs.Cuts.{cuts-begin, cuts-grow, grow, grow_after}
-use Rattle.tp_receiver.specs.Receiving.{Came, TimerTurn, FlowControlLeft, RunEnds, RxInput, move_of}
-use Rattle.tp_receiver.specs.Running.{RxTurn, calls_by, seen_by, seen_in, told_by}
 use Rattle.tp_receiver.specs.declared.set.RxSet.{RxSet}
 use Rattle.gw_law.specs.Pool.{AreAllOver, AreAllUsed, AreFreed, AreNamed, Asks, Channel, IsIn, IsLawfulMove, IsNextMove, IsOpened, IsPoolRun, IsRefused, IsServed, IsUnnamed, IsWholeRun, MovesBuf, NamesTake, PoolEnds, PoolLaw, Source, channel_of, free_after, free_at, freeing, move_numbered, need_of, taking}
 use Rattle.gw_law.specs.Source.{CountsFrom, Tells, is_overflow, sessions_in}
@@ -30,7 +32,6 @@ use Rattle.gw_law.proofs.Deliveries.{find}
 use Rattle.gw_law.proofs.FreeSets.{whole-again}
 use Rattle.gw_law.proofs.Openings.{Denied, Entry, Granted, Outcome, entries-are, entries_told, entry_told, need_by, need_in, needs_by, openings, outcome_by, outcome_going, outcome_of, outcome_told, writing}
 use Rattle.gw_law.proofs.SourceLaws.{source_law_of}
-use Rattle.gw_law.proofs.Stores.{store}
 use Rattle.gw_law.proofs.Lists.{mapped-at, zip-both}
 
 -- the moves of changes, by their numbers
@@ -159,15 +160,15 @@ need-more functional seen frame true is =
 need-more functional seen frame false is =
     rw (cuts-grow (λ (s : Seen). is_start functional s.meaning) seen frame is, is) (need_of-grow frame (attempts_in functional seen) ∙ sym (append-nil (map need_of (attempts_in functional seen))))
 
-need-by : (functional : Bool) (seen : List Seen) (tick : ℕ) (event : RxInput) → map need_of (attempts_in functional (seen ++ seen_in tick event)) ≡ map need_of (attempts_in functional seen) ++ need_in functional event
+need-by : (functional : Bool) (seen : List Seen) (tick : ℕ) (event : RxEvent) → map need_of (attempts_in functional (seen ++ frames_in tick event)) ≡ map need_of (attempts_in functional seen) ++ need_in functional event
 need-by functional seen tick (Came size meaning) = need-more functional seen (record { at = tick; size = size; meaning = meaning }) (is_start functional meaning) refl
-need-by functional seen tick TimerTurn = rw (append-nil seen) (sym (append-nil (map need_of (attempts_in functional seen))))
-need-by functional seen tick FlowControlLeft = rw (append-nil seen) (sym (append-nil (map need_of (attempts_in functional seen))))
-need-by functional seen tick RunEnds = rw (append-nil seen) (sym (append-nil (map need_of (attempts_in functional seen))))
+need-by functional seen tick Timer = rw (append-nil seen) (sym (append-nil (map need_of (attempts_in functional seen))))
+need-by functional seen tick FcLeft = rw (append-nil seen) (sym (append-nil (map need_of (attempts_in functional seen))))
+need-by functional seen tick RunEnd = rw (append-nil seen) (sym (append-nil (map need_of (attempts_in functional seen))))
 
-needs-are : (functional : Bool) (turns : List RxTurn) → needs_by functional turns ≡ map need_of (attempts_in functional (seen_by turns))
+needs-are : (functional : Bool) (turns : List RxTurn) → needs_by functional turns ≡ map need_of (attempts_in functional (came_by frames_in turns))
 needs-are functional [] = refl
-needs-are functional (turn ∷ earlier) = ap (λ l. l ++ need_in functional turn.event) (needs-are functional earlier) ∙ sym (need-by functional (seen_by earlier) turn.move.tick turn.event)
+needs-are functional (turn ∷ earlier) = ap (λ l. l ++ need_in functional turn.event) (needs-are functional earlier) ∙ sym (need-by functional (came_by frames_in earlier) turn.did.tick turn.event)
 
 -- what a start asked for, and what became of it, stand in the view
 abbrev AskedFor : View → ℕ → Outcome → Type 0
@@ -251,9 +252,9 @@ denied v need change free asked result (Some opened) is opens said = let no : tr
 granted : (v : View) (need : ℕ) (result : SessionResult) (was : Option OpenedAt) (opened : OpenedAt) → was ≡ Some opened → AskedFor v need (outcome_told result was) → AskedFor v need (Granted opened.change opened.buf.0)
 granted v need result was opened is said = let P : Option OpenedAt → Type 0 = λ o. AskedFor v need (outcome_told result o) in subst P is said
 
-asks : (chan address count now : ℕ) (stored : ℕ → List ℕ) (sizes : List ℕ) (v : View) (attempt : Cut Seen) (told : SessionRecord) → Joint sizes count now v → CountsFrom 1 (map number_of v.changes) → Tells chan address stored attempt told → Answered v attempt told →
+asks : (chan address count now : ℕ) (sizes : List ℕ) (v : View) (attempt : Cut Seen) (told : SessionRecord) → Joint sizes count now v → CountsFrom 1 (map number_of v.changes) → Tells chan address attempt told → Answered v attempt told →
     Asks sizes (map move_of v.changes) attempt told
-asks chan address count now stored sizes v attempt told joint counts tells said = record {
+asks chan address count now sizes v attempt told joint counts tells said = record {
   served = λ opened is. served sizes count now v (need_of attempt) opened joint counts (granted v (need_of attempt) told.result told.opened opened is said);
   refused = λ change free need is. refused sizes count now v (need_of attempt) change free need joint (denied v (need_of attempt) change free need told.result told.opened is tells.opens said);
 }
@@ -319,10 +320,10 @@ record IsOpenedBy (v : View) (path : ℕ) (opened : OpenedAt) : Type 0 where
   number : session.number ≡ opened.change
   buf : session.buf ≡ opened.buf.0
 
-opened-by : (v : View) (source : Source) (place : ℕ) (told : SessionRecord) (opened : OpenedAt) → IsWholeRun v source → slice_get (told_by source.turns) place ≡ Some told → told.opened ≡ Some opened → IsOpenedBy v source.set.path.0 opened
+opened-by : (v : View) (source : Source) (place : ℕ) (told : SessionRecord) (opened : OpenedAt) → IsWholeRun v source → slice_get (records_by source.turns) place ≡ Some told → told.opened ≡ Some opened → IsOpenedBy v source.set.path.0 opened
 opened-by v source place told opened run there is =
     let path : ℕ = source.set.path.0 in
-    let at = entry-at 0 (told_by source.turns) place told opened (source_law_of source.set source.turns run.received run.idle).sessions there is in
+    let at = entry-at 0 (records_by source.turns) place told opened (source_law_of source.set source.turns run.received run.idle).sessions there is in
     let one = mapped-at (writing path).fixed at.0 (v.sessions path) (entry_told told opened) (ap (λ l. slice_get l at.0) (entries-are source.set source.turns v run.received run.idle run.sessions) ∙ at.2) in
     let number : at.0 ≡ opened.seq = omega (arith, at.1) in
     let P : ℕ → Type 0 = λ k. slice_get (v.sessions path) k ≡ Some one.0 in
@@ -338,27 +339,26 @@ record IsTold (records : List SessionRecord) (number buf : ℕ) : Type 0 where
   change_is : opened.change ≡ number
   buf_is : opened.buf.0 ≡ buf
 
-told-by : (v : View) (source : Source) (seq : ℕ) (s : Session) → IsWholeRun v source → session_at v source.set.path.0 seq ≡ Some s → IsTold (told_by source.turns) s.number s.buf
+told-by : (v : View) (source : Source) (seq : ℕ) (s : Session) → IsWholeRun v source → session_at v source.set.path.0 seq ≡ Some s → IsTold (records_by source.turns) s.number s.buf
 told-by v source seq s run at =
     let path : ℕ = source.set.path.0 in
     let law = source_law_of source.set source.turns run.received run.idle in
-    let entry : slice_get (entries_told (told_by source.turns)) seq ≡ Some ((writing path).fixed s) =
+    let entry : slice_get (entries_told (records_by source.turns)) seq ≡ Some ((writing path).fixed s) =
     ap (λ l. slice_get l seq) (sym (entries-are source.set source.turns v run.received run.idle run.sessions)) ∙ slice_get-map (writing path).fixed (v.sessions path) seq ∙ ap (option_map (writing path).fixed) at in
-    let found = find (Tells source.set.chan.0 source.set.a (store path (calls_by source.turns))) (attempts_in source.set.functional (seen_by source.turns)) (told_by source.turns) 0 seq ((writing path).fixed s) law.tells law.sessions entry in
+    let found = find (Tells source.set.chan.0 source.set.a) (attempts_in source.set.functional (came_by frames_in source.turns)) (records_by source.turns) 0 seq ((writing path).fixed s) law.tells law.sessions entry in
     record { place = found.place; told = found.session; told_is = found.session_is; opened = found.opened; opened_is = found.opened_is; change_is = ap (λ (e : Entry). e.change) found.entry_is; buf_is = ap (λ (e : Entry). e.buf) found.entry_is }
 
 -- what the records of one channel ask
 asks-of : (sizes : List ℕ) (count free : ℕ) (v : View) (source : Source) → Joint sizes count free v → CountsFrom 1 (map number_of v.changes) → IsWholeRun v source →
-    AllZip (Asks sizes (map move_of v.changes)) (attempts_in source.set.functional (seen_by source.turns)) (told_by source.turns)
+    AllZip (Asks sizes (map move_of v.changes)) (attempts_in source.set.functional (came_by frames_in source.turns)) (records_by source.turns)
 asks-of sizes count free v source joint counts run =
     let set : RxSet = source.set in
-    let attempts : List (Cut Seen) = attempts_in set.functional (seen_by source.turns) in
-    let records : List SessionRecord = told_by source.turns in
-    let stored : ℕ → List ℕ = store set.path.0 (calls_by source.turns) in
+    let attempts : List (Cut Seen) = attempts_in set.functional (came_by frames_in source.turns) in
+    let records : List SessionRecord = records_by source.turns in
     let put = openings set source.turns run.received in
     let outs : flat_map outcome_by (calls_by source.turns) ≡ map outcome_of records = put.outcomes ∙ ap (λ b. map outcome_of records ++ outcome_going b) run.idle ∙ append-nil (map outcome_of records) in
     let needs : flat_map need_by (calls_by source.turns) ≡ map need_of attempts = put.needs_are ∙ needs-are set.functional source.turns in
-    zip-both (Tells set.chan.0 set.a stored) (Answered v) (Asks sizes (map move_of v.changes)) attempts records (λ attempt told tells said. asks set.chan.0 set.a count free stored sizes v attempt told joint counts tells said)
+    zip-both (Tells set.chan.0 set.a) (Answered v) (Asks sizes (map move_of v.changes)) attempts records (λ attempt told tells said. asks set.chan.0 set.a count free sizes v attempt told joint counts tells said)
     (source_law_of set source.turns run.received run.idle).tells (answered v (calls_by source.turns) attempts records outs needs run.calls)
 
 each-channel : (sizes : List ℕ) (count free : ℕ) (v : View) (sources : List Source) → Joint sizes count free v → CountsFrom 1 (map number_of v.changes) → AllByRecursion (IsWholeRun v) sources →
@@ -376,7 +376,7 @@ record HasSession (v : View) (sources : List Source) (chan place : ℕ) (opened 
   source : Source
   source_is : slice_get sources chan ≡ Some source
   told : SessionRecord
-  told_is : slice_get (told_by source.turns) place ≡ Some told
+  told_is : slice_get (records_by source.turns) place ≡ Some told
   opened_is : told.opened ≡ Some opened
   run : IsWholeRun v source
   known : IsOpenedBy v source.set.path.0 opened
@@ -385,7 +385,7 @@ session-of : (v : View) (sources : List Source) (chan place : ℕ) (opened : Ope
 session-of v sources chan place opened runs is =
     let one = mapped-at channel_of chan sources is.channel is.channel_is in
     let run = run-at v sources chan one.0 runs one.1 in
-    let there : slice_get (told_by one.0.turns) place ≡ Some is.told = ap (λ (c : Channel). slice_get c.records place) one.2 ∙ is.told_is in
+    let there : slice_get (records_by one.0.turns) place ≡ Some is.told = ap (λ (c : Channel). slice_get c.records place) one.2 ∙ is.told_is in
     record { source = one.0; source_is = one.1; told = is.told; told_is = there; opened_is = is.opened_is; run = run; known = opened-by v one.0 place is.told opened run there is.opened_is }
 
 own-take : (sources : List Source) (sizes : List ℕ) (count free : ℕ) (v : View) (moves : List Move) (chan other_chan place other : ℕ) (opened reopened : OpenedAt) → IsPoolRun sources sizes count free v moves → opened.change ≡ reopened.change →
@@ -395,8 +395,8 @@ own-take sources sizes count free v moves chan other_chan place other opened reo
     let chans : chan ≡ other_chan = run.apart chan other_chan one.source two.source one.source_is two.source_is equal.0 in
     let both : Some two.source ≡ Some one.source = sym two.source_is ∙ ap (slice_get sources) (sym chans) ∙ one.source_is in
     let alike : two.source ≡ one.source = cc in
-    let there : slice_get (told_by one.source.turns) other ≡ Some two.told = ap (λ (s : Source). slice_get (told_by s.turns) other) (sym alike) ∙ two.told_is in
-    (chans, same-place 0 (told_by one.source.turns) place other one.told two.told opened reopened (source_law_of one.source.set one.source.turns one.run.received one.run.idle).sessions one.told_is there one.opened_is two.opened_is equal.1)
+    let there : slice_get (records_by one.source.turns) other ≡ Some two.told = ap (λ (s : Source). slice_get (records_by s.turns) other) (sym alike) ∙ two.told_is in
+    (chans, same-place 0 (records_by one.source.turns) place other one.told two.told opened reopened (source_law_of one.source.set one.source.turns one.run.received one.run.idle).sessions one.told_is there one.opened_is two.opened_is equal.1)
 
 same-no : (one other : BufNo) → one.0 ≡ other.0 → one ≡ other
 same-no one other is = ap (λ (n : ℕ). record { 0 = n }) is

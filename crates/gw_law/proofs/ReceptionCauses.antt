@@ -1,5 +1,9 @@
 -- Each record of the source channel's receptions comes of its cause, in every run.
 use Rattle.std.proofs.Common.{◌≡◌, ℕ, ◌+◌, ◌≤◌, inl, inr, Option, Some, None, List, [], ◌∷◌, ◌++◌, zero, suc, refl, ap, sym, ◌∙◌, subst, arith, append-nil}
+use Rattle.tp_receiver.specs.State.{Reception, RxEvent, RxDid, RunEnd, RxTurn, rx_new}
+use Rattle.tp_receiver.specs.Table.{ended, EndRow, RxStep, continue_to_send}
+use Rattle.tp_receiver.specs.Runs.{HasReceived, frames_in}
+use Rattle.hub_core.specs.Turns.{now_of, came_by, state_after, records_by}
 use Rattle.std.specs.Prelude.{slice_get}
 use Rattle.std.specs.List.{AllByRecursion, AllZip}
 use Rattle.std.proofs.lemmas.Bool.{cases_lt}
@@ -15,9 +19,6 @@ use Rattle.tp_attempts.specs.Seen.{Seen}
 use Rattle.tp_attempts.specs.Walk.{Piece, last_place, walk_of}
 use Rattle.tp_attempts.proofs.Walks.{last_place-more}
 use Rattle.tp_receiver.specs.declared.set.RxSet.{RxSet}
-use Rattle.tp_receiver.specs.Receiving.{Busy, RxInput, RxMove, RunEnds, ended}
-use Rattle.tp_receiver.specs.Rows.{EndRow, RxStep, continue_to_send}
-use Rattle.tp_receiver.specs.Running.{Happened, RxTurn, now_of, seen_by, seen_in, state_of, told_by}
 use Rattle.tp_sender.specs.Sending.{Written}
 use Rattle.tp_sender.specs.declared.set.TxSet.{TxSet}
 use Rattle.tp_unit.specs.declared.shape.Shape.{Shape}
@@ -43,31 +44,31 @@ record BeginsThere (records : List SessionRecord) (place tick : ℕ) : Type 0 wh
   pub is : slice_get records place ≡ Some next
   pub begins : next.begin.0 ≡ tick
 
-begins-there : (chan address : ℕ) (stored : ℕ → List ℕ) (attempts : List (Cut Seen)) (records : List SessionRecord) (place tick : ℕ) → AllZip (Tells chan address stored) attempts records → slice_get (starts_of attempts) place ≡ Some tick → BeginsThere records place tick
-begins-there chan address stored [] records place tick tells is = cc
-begins-there chan address stored (attempt ∷ attempts) [] place tick tells is = absurd tells
-begins-there chan address stored (attempt ∷ attempts) (told ∷ records) zero tick tells is = let same : attempt.start.at ≡ tick = cc in record { next = told; is = refl; begins = tells.0.begin ∙ same }
-begins-there chan address stored (attempt ∷ attempts) (told ∷ records) (suc place) tick tells is =
-    let there : BeginsThere records place tick = begins-there chan address stored attempts records place tick tells.1 is in
+begins-there : (chan address : ℕ) (attempts : List (Cut Seen)) (records : List SessionRecord) (place tick : ℕ) → AllZip (Tells chan address) attempts records → slice_get (starts_of attempts) place ≡ Some tick → BeginsThere records place tick
+begins-there chan address [] records place tick tells is = cc
+begins-there chan address (attempt ∷ attempts) [] place tick tells is = absurd tells
+begins-there chan address (attempt ∷ attempts) (told ∷ records) zero tick tells is = let same : attempt.start.at ≡ tick = cc in record { next = told; is = refl; begins = tells.0.begin ∙ same }
+begins-there chan address (attempt ∷ attempts) (told ∷ records) (suc place) tick tells is =
+    let there : BeginsThere records place tick = begins-there chan address attempts records place tick tells.1 is in
     record { next = there.next; is = there.is; begins = there.begins }
 
 -- a record that was told before the run's end
-cause-by : (r : Route) (over : ℕ) (stored : ℕ → List ℕ) (attempt : Cut Seen) (told : SessionRecord) (how : SessionResult) → AllZip (Tells r.rx.chan.0 r.rx.a stored) (attempts_in r.rx.functional r.seen) r.sessions → told.result ≡ how → Comes how → HasRoom how →
+cause-by : (r : Route) (over : ℕ) (attempt : Cut Seen) (told : SessionRecord) (how : SessionResult) → AllZip (Tells r.rx.chan.0 r.rx.a) (attempts_in r.rx.functional r.seen) r.sessions → told.result ≡ how → Comes how → HasRoom how →
     IsSettled r.rx (address_size r.shape) r.controls over (starts_of (attempts_in r.rx.functional r.seen)) attempt told → HasCause r attempt told how
-cause-by r over stored attempt told Whole tells is comes room_is so = sym (last-is told.begin.0 told.end.0 (walk_of r.rx.a attempt).pieces (so.whole is).0)
-cause-by r over stored attempt told (Overflow change free need) tells is comes room_is so = tt
-cause-by r over stored attempt told (WrongSn want got) tells is comes room_is so = tt
-cause-by r over stored attempt told (RxTimeout BoxLimit) tells is comes room_is so = cc
-cause-by r over stored attempt told (RxTimeout CfLimit) tells is comes room_is so =
+cause-by r over attempt told Whole tells is comes room_is so = sym (last-is told.begin.0 told.end.0 (walk_of r.rx.a attempt).pieces (so.whole is).0)
+cause-by r over attempt told (Overflow change free need) tells is comes room_is so = tt
+cause-by r over attempt told (WrongSn want got) tells is comes room_is so = tt
+cause-by r over attempt told (RxTimeout BoxLimit) tells is comes room_is so = cc
+cause-by r over attempt told (RxTimeout CfLimit) tells is comes room_is so =
     let late = so.late is in record { at = told.begin.0; from = omega arith; left = late.left; limit = late.limit; silent = late.silent }
-cause-by r over stored attempt told Restarted tells is comes room_is so =
-    let there : BeginsThere r.sessions (told.n + 1) told.end.0 = begins-there r.rx.chan.0 r.rx.a stored (attempts_in r.rx.functional r.seen) r.sessions (told.n + 1) told.end.0 tells (so.restarted is) in
+cause-by r over attempt told Restarted tells is comes room_is so =
+    let there : BeginsThere r.sessions (told.n + 1) told.end.0 = begins-there r.rx.chan.0 r.rx.a (attempts_in r.rx.functional r.seen) r.sessions (told.n + 1) told.end.0 tells (so.restarted is) in
     record { next = there.next; is = there.is; begins = there.begins }
-cause-by r over stored attempt told (NoRoom room need) tells is comes room_is so = absurd room_is
-cause-by r over stored attempt told WaitOver tells is comes room_is so = absurd comes
-cause-by r over stored attempt told NoReaders tells is comes room_is so = tt
-cause-by r over stored attempt told Cancelled tells is comes room_is so = absurd comes
-cause-by r over stored attempt told (RunEnd wait since) tells is comes room_is so = absurd comes
+cause-by r over attempt told (NoRoom room need) tells is comes room_is so = absurd room_is
+cause-by r over attempt told WaitOver tells is comes room_is so = absurd comes
+cause-by r over attempt told NoReaders tells is comes room_is so = so.unread is
+cause-by r over attempt told Cancelled tells is comes room_is so = absurd comes
+cause-by r over attempt told (RunEnd wait since) tells is comes room_is so = absurd comes
 
 never-boxed : (how : SessionResult) → Comes how → IsNeverBoxed how
 never-boxed Whole comes = tt
@@ -85,20 +86,20 @@ never-boxed (RunEnd wait since) comes = absurd comes
 abbrev IsSaid : Route → Cut Seen → SessionRecord → Type 0
 IsSaid r attempt told = IsCaused r attempt told × IsNeverBoxed told.result
 
-said-all : (r : Route) (over : ℕ) (stored : ℕ → List ℕ) → AllZip (Tells r.rx.chan.0 r.rx.a stored) (attempts_in r.rx.functional r.seen) r.sessions → (attempts : List (Cut Seen)) (records : List SessionRecord) →
+said-all : (r : Route) (over : ℕ) → AllZip (Tells r.rx.chan.0 r.rx.a) (attempts_in r.rx.functional r.seen) r.sessions → (attempts : List (Cut Seen)) (records : List SessionRecord) →
     AllByRecursion (λ (told : SessionRecord). HasRoom told.result) records → AreSettled r.rx (address_size r.shape) r.controls over (starts_of (attempts_in r.rx.functional r.seen)) attempts records → AllZip (IsSaid r) attempts records
-said-all r over stored tells [] [] roomy so = tt
-said-all r over stored tells [] (told ∷ records) roomy so = absurd so
-said-all r over stored tells (attempt ∷ attempts) [] roomy so = absurd so
-said-all r over stored tells (attempt ∷ attempts) (told ∷ records) roomy so = (
+said-all r over tells [] [] roomy so = tt
+said-all r over tells [] (told ∷ records) roomy so = absurd so
+said-all r over tells (attempt ∷ attempts) [] roomy so = absurd so
+said-all r over tells (attempt ∷ attempts) (told ∷ records) roomy so = (
   (
     record {
-      cause = cause-by r over stored attempt told told.result tells refl so.0.comes roomy.0 so.0;
+      cause = cause-by r over attempt told told.result tells refl so.0.comes roomy.0 so.0;
       none_passed = λ tick from below late. so.0.none_passed tick from below late.silent;
     },
     never-boxed told.result so.0.comes,
   ),
-  said-all r over stored tells attempts records roomy.1 so.1,
+  said-all r over tells attempts records roomy.1 so.1,
 )
 
 -- in an empty box nothing is waited for
@@ -108,7 +109,7 @@ waits-cf set address lies controls now begin since Box empty waits = let clash :
 waits-cf set address lies controls now begin since Room empty waits = absurd waits
 
 -- the record that the run's end makes
-said-last : (r : Route) (lies : Option Meaning) (now over : ℕ) (busy : Busy) (attempt : Cut Seen) → lies ≡ None → over ≡ r.last + 1 → now ≤ r.last → IsGoing r.rx (address_size r.shape) lies r.controls now over busy attempt →
+said-last : (r : Route) (lies : Option Meaning) (now over : ℕ) (busy : Reception) (attempt : Cut Seen) → lies ≡ None → over ≡ r.last + 1 → now ≤ r.last → IsGoing r.rx (address_size r.shape) lies r.controls now over busy attempt →
     IsSaid r attempt (ended r.rx busy (RunEnd busy.wait (record { 0 = busy.since })) r.last)
 said-last r lies now over busy attempt empty over_is later so =
     let waits = waits-cf r.rx (address_size r.shape) lies r.controls now busy.begin busy.since busy.wait empty so.waits in
@@ -136,24 +137,24 @@ said-last r lies now over busy attempt empty over_is later so =
     )
 
 -- all records, after the run's end
-said-ended : (r : Route) (next seq now over : ℕ) (stored : ℕ → List ℕ) (busy : Option Busy) (lies : Option Meaning) (m : RxMove) (records : List SessionRecord) → AllZip (Tells r.rx.chan.0 r.rx.a stored) (attempts_in r.rx.functional r.seen) r.sessions →
-    AllByRecursion (λ (told : SessionRecord). HasRoom told.result) records → SoBy r.rx (address_size r.shape) busy lies r.controls now over r.seen records → lies ≡ None → ((b : Busy) → busy ≡ Some b → over ≡ r.last + 1) → now ≤ m.tick → m.tick ≡ r.last → EndRow r.rx (record { next = next; seq = seq; busy = busy }) busy m →
+said-ended : (r : Route) (next seq now over : ℕ) (busy : Option Reception) (lies : Option Meaning) (m : RxDid) (records : List SessionRecord) → AllZip (Tells r.rx.chan.0 r.rx.a) (attempts_in r.rx.functional r.seen) r.sessions →
+    AllByRecursion (λ (told : SessionRecord). HasRoom told.result) records → SoBy r.rx (address_size r.shape) busy lies r.controls now over r.seen records → lies ≡ None → ((b : Reception) → busy ≡ Some b → over ≡ r.last + 1) → now ≤ m.tick → m.tick ≡ r.last → EndRow r.rx (record { next = next; seq = seq; busy = busy }) busy m →
     AllZip (IsSaid r) (attempts_in r.rx.functional r.seen) (records ++ m.records)
-said-ended r next seq now over stored None lies m records tells roomy so empty past later at row = rw (row.records, append-nil) (said-all r over stored tells (attempts_in r.rx.functional r.seen) records roomy so)
-said-ended r next seq now over stored (Some busy) lies m records tells roomy so empty past later at row =
+said-ended r next seq now over None lies m records tells roomy so empty past later at row = rw (row.records, append-nil) (said-all r over tells (attempts_in r.rx.functional r.seen) records roomy so)
+said-ended r next seq now over (Some busy) lies m records tells roomy so empty past later at row =
     let P : List SessionRecord → Type 0 = λ more. AllZip (IsSaid r) (attempts_in r.rx.functional r.seen) (records ++ more) in
     let told : SessionRecord = ended r.rx busy (RunEnd busy.wait (record { 0 = busy.since })) r.last in
     let Q : List (Cut Seen) → Type 0 = λ attempts. AllZip (IsSaid r) attempts (records ++ told ∷ []) in
     subst P (sym (row.records ∙ ap (λ t. ended r.rx busy (RunEnd busy.wait (record { 0 = busy.since })) t ∷ []) at))
-    (subst Q (sym so.cut) (zip-push (IsSaid r) so.earlier records so.attempt told (said-all r over stored tells so.earlier records roomy so.told)
+    (subst Q (sym so.cut) (zip-push (IsSaid r) so.earlier records so.attempt told (said-all r over tells so.earlier records roomy so.told)
     (said-last r lies now over busy so.attempt empty (past busy refl) (omega (arith, later, at)) so.going)))
 
 -- the receiver's one turn at the end
 record IsOneEnd (last : ℕ) (turns : List RxTurn) : Type 0 where
   pub turn : RxTurn
   pub is : turns ≡ turn ∷ []
-  pub event : turn.event ≡ RunEnds
-  pub tick : turn.move.tick ≡ last
+  pub event : turn.event ≡ RunEnd
+  pub tick : turn.did.tick ≡ last
 
 one-end : (last : ℕ) (turns : List RxTurn) → EndsReceiving last turns → IsOneEnd last turns
 one-end last [] ends = absurd ends
@@ -173,23 +174,23 @@ reception_causes rx tx shape source_budget budget sizes last count free ticks en
     let r : Route = route_of rx tx shape source_budget budget sizes last count free ticks end in
     let turns : List RxTurn = turns_of ticks in
     let one : IsOneEnd last end.turns = one-end last end.turns run.ends.receives in
-    let H : List RxTurn → Type 0 = λ t. Happened rx (t ++ turns) in
-    let happened : Happened rx (one.turn ∷ turns) = subst H one.is run.received in
-    let before : Happened rx turns = happened.2 in
+    let H : List RxTurn → Type 0 = λ t. HasReceived rx (t ++ turns) in
+    let happened : HasReceived rx (one.turn ∷ turns) = subst H one.is run.received in
+    let before : HasReceived rx turns = happened.2 in
     let over : AreOver (tick_after ticks) turns = ordered rx sizes ticks run.ticks_are before in
     let law = source_law_of rx (turns_of (end ∷ ticks)) run.received run.ends.idle.receiver in
-    let controls : controls_by shape (end.turns ++ turns) ≡ controls_by shape turns = ap (λ t. controls_by shape (t ++ turns)) one.is ∙ ap (λ e. controls_by shape turns ++ control_at shape e one.turn.move.tick (control_after turns)) one.event ∙ append-nil (controls_by shape turns) in
-    let seen : seen_by (end.turns ++ turns) ≡ seen_by turns = ap (λ t. seen_by (t ++ turns)) one.is ∙ ap (λ e. seen_by turns ++ seen_in one.turn.move.tick e) one.event ∙ append-nil (seen_by turns) in
-    let told : told_by (end.turns ++ turns) ≡ told_by turns ++ one.turn.move.records = ap (λ t. told_by (t ++ turns)) one.is in
-    let short : AllByRecursion (λ (frame : Seen). IsShortStart frame.size frame.meaning) (seen_by turns) =
+    let controls : controls_by shape (end.turns ++ turns) ≡ controls_by shape turns = ap (λ t. controls_by shape (t ++ turns)) one.is ∙ ap (λ e. controls_by shape turns ++ control_at shape e one.turn.did.tick (control_after turns)) one.event ∙ append-nil (controls_by shape turns) in
+    let seen : came_by frames_in (end.turns ++ turns) ≡ came_by frames_in turns = ap (λ t. came_by frames_in (t ++ turns)) one.is ∙ ap (λ e. came_by frames_in turns ++ frames_in one.turn.did.tick e) one.event ∙ append-nil (came_by frames_in turns) in
+    let told : records_by (end.turns ++ turns) ≡ records_by turns ++ one.turn.did.records = ap (λ t. records_by (t ++ turns)) one.is in
+    let short : AllByRecursion (λ (frame : Seen). IsShortStart frame.size frame.meaning) (came_by frames_in turns) =
     let P : List Seen → Type 0 = λ s. AllByRecursion (λ (frame : Seen). IsShortStart frame.size frame.meaning) s in subst P seen small.starts in
     let roomy = (rooms rx turns small.address before (all-look rx tx sizes last count free ticks end small.buffer run) short).1 in
-    let P : List Written → Type 0 = λ c. SoBy rx (address_size shape) (state_of turns).busy (control_after turns) c (now_of turns) (over_of turns) (seen_by turns) (told_by turns) in
-    let Q : List Seen → Type 0 = λ s. SoBy rx (address_size shape) (state_of turns).busy (control_after turns) r.controls (now_of turns) (over_of turns) s (told_by turns) in
-    let R : RxInput → Type 0 = λ e. RxStep rx (state_of turns) e one.turn.move in
+    let P : List Written → Type 0 = λ c. SoBy rx (address_size shape) (state_after rx_new turns).busy (control_after turns) c (now_of turns) (over_of turns) (came_by frames_in turns) (records_by turns) in
+    let Q : List Seen → Type 0 = λ s. SoBy rx (address_size shape) (state_after rx_new turns).busy (control_after turns) r.controls (now_of turns) (over_of turns) s (records_by turns) in
+    let R : RxEvent → Type 0 = λ e. RxStep rx (state_after rx_new turns) e one.turn.did in
     let S : List SessionRecord → Type 0 = λ records. AllZip (IsSaid r) (attempts_in rx.functional r.seen) records in
     zip-first (IsCaused r) (λ (told_one : SessionRecord). IsNeverBoxed told_one.result) (attempts_in rx.functional r.seen) r.sessions (subst S (sym told)
-    (said-ended r (state_of turns).next (state_of turns).seq (now_of turns) (over_of turns) _ (state_of turns).busy (control_after turns) one.turn.move (told_by turns) law.tells roomy
+    (said-ended r (state_after rx_new turns).next (state_after rx_new turns).seq (now_of turns) (over_of turns) (state_after rx_new turns).busy (control_after turns) one.turn.did (records_by turns) law.tells roomy
     (subst Q (sym seen) (subst P (sym controls) (so_far rx shape turns sound some before over.ordered))) over.empty
     (λ b busy. elim run.ends.reached [
       | inl idle ↦ absurd (none-some idle.receiver busy)

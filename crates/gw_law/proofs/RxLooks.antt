@@ -1,5 +1,8 @@
 -- Each look of a receiver at the room counts all of the buffer but the cells that it put.
 use Rattle.std.proofs.Common.{◌≡◌, ℕ, ◌+◌, ◌<◌, inl, inr, zero, suc, false, Option, Some, None, List, [], ◌∷◌, ◌++◌, length, map, refl, ap, sym, ◌∙◌, subst, arith, append-nil, eq-eqb}
+use Rattle.tp_receiver.specs.State.{Reception, RxTurn, rx_new}
+use Rattle.tp_receiver.specs.Runs.{HasReceived}
+use Rattle.hub_core.specs.Turns.{calls_by, state_after}
 use Rattle.std.specs.Prelude.{slice_get}
 use Rattle.std.specs.List.{AllByRecursion}
 use Rattle.std.proofs.lemmas.Bool.{cases_eq, ne_eqb}
@@ -8,11 +11,9 @@ use Rattle.std.proofs.lemmas.Option.{slice_get-get_or}
 use Rattle.hub_core.specs.Floors.{Floors, AreFresh}
 use Rattle.hub_core.specs.View.{View, Event, Session, at_one, change_at, empty_view, session_new, grow, grows, Took, Refused, Entered, Asked, Put, Published, Joining, Missed, Saw, Read, Closed, Parted}
 use Rattle.tp_receiver.specs.declared.set.RxSet.{RxSet}
-use Rattle.tp_receiver.specs.Receiving.{Busy}
-use Rattle.tp_receiver.specs.Running.{Happened as Received, RxTurn, calls_by as received_calls, state_of}
 use Rattle.tp_sender.specs.Sending.{Happened as WasSent}
 use Rattle.tp_sender.specs.declared.set.TxSet.{TxSet}
-use Rattle.gw_law.specs.Run.{AreLooks, AreTicks, IsRun, Work, moments_of, turns_of, view_of}
+use Rattle.gw_law.specs.Run.{AreLooks, AreTicks, IsRun, LooksCount, Work, moments_of, turns_of, view_of}
 use Rattle.gw_law.proofs.OwnCalls.{received-calls, received-front, sent-front}
 use Rattle.gw_law.proofs.RxRooms.{AllLook, LooksWell}
 use Rattle.gw_law.proofs.Sessions.{AllFilled, all-filled, stored_in}
@@ -62,6 +63,15 @@ longer-grow path (Read p dest seq cell) v = longer-same (sizes_at path v)
 longer-grow path (Closed p seq freed) v = longer-changed path p seq (λ s. record s { stands = false }) v.sessions (λ s. refl)
 longer-grow path (Parted p dest seq freed) v = longer-same (sizes_at path v)
 
+-- a look that isn't older than some floors counts so
+pub fresh-counts : (f : Floors) (v : View) (calls : List Event) → AreFresh f v calls → LooksCount v calls
+fresh-counts f v calls fresh [] after path seq cells readers s is there =
+    let P : List Event → Type 0 = λ c. AreFresh f v c in
+    omega (arith, ((subst P is fresh).0 s there).room 0 (omega arith) (λ dest within stays. omega arith))
+fresh-counts f v calls fresh (event ∷ before) after path seq cells readers s is there =
+    let P : List Event → Type 0 = λ c. AreFresh f v c in
+    fresh-counts f (grow event v) (before ++ Asked path seq cells readers ∷ after) (subst P is fresh).1 before after path seq cells readers s refl there
+
 -- each session of a path has a buffer of 4 cells
 abbrev AreFour : ℕ → View → Type 0
 AreFour path v = AllByRecursion (λ (size : ℕ). size ≡ 4) (sizes_at path v)
@@ -73,11 +83,11 @@ four-before path (call ∷ calls) v four =
     let P : List ℕ → Type 0 = λ sizes. AllByRecursion (λ (size : ℕ). size ≡ 4) sizes in
     all-front (λ (size : ℕ). size ≡ 4) (sizes_at path v) longer.0 (subst P longer.1 (four-before path calls (grow call v) four))
 
-four-front : (rx : RxSet) (turns earlier : List RxTurn) → AreFour rx.path.0 (grows (received_calls (turns ++ earlier)) empty_view) → AreFour rx.path.0 (grows (received_calls earlier) empty_view)
+four-front : (rx : RxSet) (turns earlier : List RxTurn) → AreFour rx.path.0 (grows (calls_by (turns ++ earlier)) empty_view) → AreFour rx.path.0 (grows (calls_by earlier) empty_view)
 four-front rx turns earlier four =
     let P : List Event → Type 0 = λ calls. AreFour rx.path.0 (grows calls empty_view) in
     let Q : View → Type 0 = λ v. AreFour rx.path.0 v in
-    four-before rx.path.0 (received_calls turns) (grows (received_calls earlier) empty_view) (subst Q (grows-append (received_calls earlier) (received_calls turns) empty_view) (subst P (received-calls turns earlier) four))
+    four-before rx.path.0 (calls_by turns) (grows (calls_by earlier) empty_view) (subst Q (grows-append (calls_by earlier) (calls_by turns) empty_view) (subst P (received-calls turns earlier) four))
 
 four-at : (sessions : List Session) (place : ℕ) (s : Session) → AllByRecursion (λ (size : ℕ). size ≡ 4) (map (λ (t : Session). t.size) sessions) → slice_get sessions place ≡ Some s → s.size ≡ 4
 four-at [] place s four is = cc
@@ -100,39 +110,38 @@ only-size sizes buf size one is = the-one buf (subst P one is)
     the-one (suc place) at = cc
 
 -- the looks of one turn
-looks-busy : (rx : RxSet) (busy : Option Busy) (seq : ℕ) (turns : List RxTurn) (v : View) (floors : Floors) (calls : List Event) → Received rx turns → OwnSessions rx turns v → AreFour rx.path.0 (grows (received_calls turns) empty_view) →
-    ((b : Busy) → busy ≡ Some b → b.opened.seq < length ((grows (received_calls turns) empty_view).sessions rx.path.0)) → AreFresh floors v calls → LooksWell rx busy (received_calls turns) calls
-looks-busy rx None seq turns v floors calls happened own four inside fresh = tt
-looks-busy rx (Some busy) seq turns v floors calls happened own four inside fresh = λ room readers rest is.
-    let made : List Session = (grows (received_calls turns) empty_view).sessions rx.path.0 in
+looks-busy : (rx : RxSet) (busy : Option Reception) (seq : ℕ) (turns : List RxTurn) (v : View) (calls : List Event) → HasReceived rx turns → OwnSessions rx turns v → AreFour rx.path.0 (grows (calls_by turns) empty_view) →
+    ((b : Reception) → busy ≡ Some b → b.opened.seq < length ((grows (calls_by turns) empty_view).sessions rx.path.0)) → LooksCount v calls → LooksWell rx busy (calls_by turns) calls
+looks-busy rx None seq turns v calls happened own four inside counts = tt
+looks-busy rx (Some busy) seq turns v calls happened own four inside counts = λ room readers rest is.
+    let made : List Session = (grows (calls_by turns) empty_view).sessions rx.path.0 in
     let there = slice_get-get_or made busy.opened.seq (session_new 0 0 0 0 0) (inside busy refl) in
-    let P : List Event → Type 0 = λ c. AreFresh floors v c in
-    let look = (subst P is fresh).0 _ (ap (λ l. slice_get l busy.opened.seq) own ∙ there) in
+    let look = counts [] rest rx.path.0 busy.opened.seq room readers _ is (ap (λ l. slice_get l busy.opened.seq) own ∙ there) in
     let cells = stored_in rx turns happened busy.opened.seq _ there in
-    omega (arith, look.room 0 (omega arith) (λ dest within stays. omega arith), four-at made busy.opened.seq _ four there, ap length cells)
+    omega (arith, look, four-at made busy.opened.seq _ four there, ap length cells)
 
-below-at : (rx : RxSet) (turns : List RxTurn) → AllFilled rx turns → (b : Busy) → (state_of turns).busy ≡ Some b → b.opened.seq < length ((grows (received_calls turns) empty_view).sessions rx.path.0)
+below-at : (rx : RxSet) (turns : List RxTurn) → AllFilled rx turns → (b : Reception) → (state_after rx_new turns).busy ≡ Some b → b.opened.seq < length ((grows (calls_by turns) empty_view).sessions rx.path.0)
 below-at rx turns so b is =
-    let P : Option Busy → Type 0 = λ busy. IsBelow (state_of turns).seq busy in
+    let P : Option Reception → Type 0 = λ busy. IsBelow (state_after rx_new turns).seq busy in
     omega (arith, so.number, subst P is so.below)
 
 -- the looks of a tick's turns
-looks-turns : (rx : RxSet) (turns earlier : List RxTurn) (start : View) → AreLooks start turns → Received rx (turns ++ earlier) → OwnSessions rx earlier start → AreFour rx.path.0 (grows (received_calls (turns ++ earlier)) empty_view) → AllLook rx earlier → AllLook rx (turns ++ earlier)
+looks-turns : (rx : RxSet) (turns earlier : List RxTurn) (start : View) → AreLooks start turns → HasReceived rx (turns ++ earlier) → OwnSessions rx earlier start → AreFour rx.path.0 (grows (calls_by (turns ++ earlier)) empty_view) → AllLook rx earlier → AllLook rx (turns ++ earlier)
 looks-turns rx [] earlier start looks happened own four known = known
 looks-turns rx (turn ∷ turns) earlier start looks happened own four known =
-    let here : View = grows (received_calls turns) start in
+    let here : View = grows (calls_by turns) start in
     let P : List Event → Type 0 = λ calls. here.sessions rx.path.0 ≡ (grows calls empty_view).sessions rx.path.0 in
-    let own_here : OwnSessions rx (turns ++ earlier) here = subst P (sym (received-calls turns earlier)) (sessions-grown rx.path.0 (received_calls earlier) (received_calls turns) start here refl own) in
-    let four_here : AreFour rx.path.0 (grows (received_calls (turns ++ earlier)) empty_view) = four-front rx (turn ∷ []) (turns ++ earlier) four in (
-      looks-busy rx (state_of (turns ++ earlier)).busy (state_of (turns ++ earlier)).seq (turns ++ earlier) here looks.0.0 turn.move.calls happened.2 own_here four_here (below-at rx (turns ++ earlier) (all-filled rx (turns ++ earlier) happened.2)) looks.0.1,
+    let own_here : OwnSessions rx (turns ++ earlier) here = subst P (sym (received-calls turns earlier)) (sessions-grown rx.path.0 (calls_by earlier) (calls_by turns) start here refl own) in
+    let four_here : AreFour rx.path.0 (grows (calls_by (turns ++ earlier)) empty_view) = four-front rx (turn ∷ []) (turns ++ earlier) four in (
+      looks-busy rx (state_after rx_new (turns ++ earlier)).busy (state_after rx_new (turns ++ earlier)).seq (turns ++ earlier) here turn.did.calls happened.2 own_here four_here (below-at rx (turns ++ earlier) (all-filled rx (turns ++ earlier) happened.2)) looks.0,
       looks-turns rx turns earlier start looks.1 happened.2 own four_here known,
     )
 
 -- the looks of all ticks
-looks-ticks : (rx : RxSet) (tx : TxSet) (sizes : List ℕ) (works : List Work) → AreTicks sizes works → Received rx (turns_of works) → WasSent tx (moments_of works) → AreFour rx.path.0 (grows (received_calls (turns_of works)) empty_view) → AllLook rx (turns_of works)
+looks-ticks : (rx : RxSet) (tx : TxSet) (sizes : List ℕ) (works : List Work) → AreTicks sizes works → HasReceived rx (turns_of works) → WasSent tx (moments_of works) → AreFour rx.path.0 (grows (calls_by (turns_of works)) empty_view) → AllLook rx (turns_of works)
 looks-ticks rx tx sizes [] ticks received sent four = tt
 looks-ticks rx tx sizes (work ∷ earlier) ticks received sent four =
-    let before : Received rx (turns_of earlier) = received-front rx work.turns (turns_of earlier) received in
+    let before : HasReceived rx (turns_of earlier) = received-front rx work.turns (turns_of earlier) received in
     let sent_before : WasSent tx (moments_of earlier) = sent-front tx work.moments (moments_of earlier) sent in
     looks-turns rx work.turns (turns_of earlier) (view_of earlier) ticks.0.looks received (sessions-own rx tx earlier before sent_before) four
     (looks-ticks rx tx sizes earlier ticks.1 before sent_before (four-front rx work.turns (turns_of earlier) four))
@@ -141,6 +150,6 @@ pub all-look : (rx : RxSet) (tx : TxSet) (sizes : List ℕ) (last count free : �
 all-look rx tx sizes last count free ticks end one run =
     let v : View = view_of (end ∷ ticks) in
     let P : List Session → Type 0 = λ sessions. AllByRecursion (λ (size : ℕ). size ≡ 4) (map (λ (s : Session). s.size) sessions) in
-    let four : AreFour rx.path.0 (grows (received_calls (turns_of (end ∷ ticks))) empty_view) = subst P (sessions-own rx tx (end ∷ ticks) run.received run.sent) (four-all (v.sessions rx.path.0) (λ place s is.
+    let four : AreFour rx.path.0 (grows (calls_by (turns_of (end ∷ ticks))) empty_view) = subst P (sessions-own rx tx (end ∷ ticks) run.received run.sent) (four-all (v.sessions rx.path.0) (λ place s is.
     let taken = run.joint.owned.taken rx.path.0 place s is in only-size sizes s.buf s.size one taken.size)) in
     looks-ticks rx tx sizes ticks run.ticks_are (received-front rx end.turns (turns_of ticks) run.received) (sent-front tx end.moments (moments_of ticks) run.sent) (four-front rx end.turns (turns_of ticks) four)

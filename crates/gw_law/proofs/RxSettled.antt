@@ -14,7 +14,7 @@ use Rattle.tp_attempts.proofs.Cuts.{cuts-grow, grow, grow_after}
 use Rattle.tp_attempts.proofs.Walks.{look-full, walk_of-more}
 use Rattle.tp_receiver.specs.declared.set.RxSet.{RxSet}
 use Rattle.tp_sender.specs.Sending.{Written}
-use Rattle.gw_law.specs.ReceptionCauses.{IsSilent, LetGoIn}
+use Rattle.gw_law.specs.ReceptionCauses.{IsFoundBy, IsSilent, LetGoIn}
 use Rattle.gw_law.proofs.Tellings.{Looked, looked, with_frame}
 use Rattle.gw_law.proofs.Lists.{all-front, all-join, slice_get-more, zip-grow, zip-weaker}
 
@@ -55,6 +55,7 @@ pub record IsSettled (set : RxSet) (address : ℕ) (controls : List Written) (ov
   pub whole : told.result ≡ Whole → IsLast told.end.0 (walk_of set.a attempt).pieces × ((walk_of set.a attempt).len ≤ length (joined (walk_of set.a attempt).pieces))
   pub late : told.result ≡ RxTimeout CfLimit → CameLate set address controls over attempt told
   pub restarted : told.result ≡ Restarted → slice_get starts (told.n + 1) ≡ Some told.end.0
+  pub unread : told.result ≡ NoReaders → IsFoundBy set.a attempt told.bytes told.end.0
   pub none_passed : (tick : ℕ) → told.begin.0 ≤ tick → tick < told.end.0 → IsSilent set.a set.n_cr tick attempt → ⊥
 
 pub left-more : (address : ℕ) (controls more : List Written) (tick : ℕ) → LetGoIn address controls tick → LetGoIn address (controls ++ more) tick
@@ -76,6 +77,7 @@ settled-later set address controls more over later starts others attempt told by
   whole = so.whole;
   late = λ is. record { left = left-more address controls more told.begin.0 (so.late is).left; limit = (so.late is).limit; silent = (so.late is).silent; past = omega (arith, (so.late is).past, by) };
   restarted = λ is. slice_get-more starts others (told.n + 1) told.end.0 (so.restarted is);
+  unread = so.unread;
   none_passed = so.none_passed;
 }
 
@@ -99,6 +101,19 @@ silent-later address limit tick attempt frame late silent =
     subst P (sym (ap (λ (w : Walk). w.pieces) (walk_of-more address attempt frame) ∙ on.pieces))
     (all-join (λ (piece : Piece). piece.at ≤ tick → piece.at + limit ≤ tick) (walk_of address attempt).pieces on.more silent (all-silent limit tick frame.at late on.more on.late))
 
+-- the frame that found that no destination reads stays
+found-later : (address : ℕ) (attempt : Cut Seen) (frame : Seen) (bytes tick : ℕ) → IsFoundBy address attempt bytes tick → IsFoundBy address (with_frame attempt frame) bytes tick
+found-later address attempt frame bytes tick found =
+    let on : Looked (walk_of address attempt) (look_at address (walk_of address attempt) frame.at frame.size frame.meaning) frame.at = looked address (walk_of address attempt) frame.at frame.size frame.meaning in
+    record {
+      before = found.before;
+      piece = found.piece;
+      after = found.after ++ on.more;
+      among = ap (λ (w : Walk). w.pieces) (walk_of-more address attempt frame) ∙ on.pieces ∙ ap (λ p. p ++ on.more) found.among ∙ append_assoc found.before (found.piece ∷ found.after) on.more;
+      at = found.at;
+      told = found.told;
+    }
+
 -- a frame more
 pub settled-frame : (set : RxSet) (address : ℕ) (controls : List Written) (over : ℕ) (starts : List ℕ) (frame : Seen) → over ≤ frame.at → (attempt : Cut Seen) (told : SessionRecord) → IsSettled set address controls over starts attempt told →
     IsSettled set address controls over starts (with_frame attempt frame) told
@@ -109,6 +124,7 @@ settled-frame set address controls over starts frame by attempt told so = record
       subst P (sym (walk_of-more set.a attempt frame ∙ look-full set.a (walk_of set.a attempt) frame.at frame.size frame.meaning (so.whole is).1)) (so.whole is);
   late = λ is. record { left = (so.late is).left; limit = (so.late is).limit; silent = silent-later set.a set.n_cr told.end.0 attempt frame (omega (arith, by, (so.late is).past)) (so.late is).silent; past = (so.late is).past };
   restarted = so.restarted;
+  unread = λ is. found-later set.a attempt frame told.bytes told.end.0 (so.unread is);
   none_passed = λ tick from below silent. so.none_passed tick from below (silent-front set.a set.n_cr tick attempt frame silent);
 }
 

@@ -1,5 +1,8 @@
 -- What was put into a source's session up to a tick: no more than what had come of its unit by then.
 use Rattle.std.proofs.Common.{◌≡◌, ℕ, ◌+◌, ◌<◌, ◌≤◌, zero, suc, inl, inr, Option, Some, None, option_map, List, [], ◌∷◌, ◌++◌, length, refl, ap, sym, ◌∙◌, subst, arith, append-nil, append_assoc}
+use Rattle.tp_receiver.specs.State.{Reception, RxTurn, rx_new}
+use Rattle.tp_receiver.specs.Runs.{HasReceived, frames_in}
+use Rattle.hub_core.specs.Turns.{calls_by, now_of, came_by, state_after, records_by}
 use Rattle.std.specs.Prelude.{option_to_list, slice_get}
 use Rattle.std.specs.List.{AllByRecursion}
 use Rattle.std.proofs.lemmas.Bool.{cases_lt, cases_order}
@@ -14,8 +17,6 @@ use Rattle.tp_attempts.specs.Cuts.{Cut}
 use Rattle.tp_attempts.specs.Seen.{Seen, is_start}
 use Rattle.tp_attempts.specs.Walk.{joined, reassembled, walk_of}
 use Rattle.tp_receiver.specs.declared.set.RxSet.{RxSet}
-use Rattle.tp_receiver.specs.Receiving.{Busy}
-use Rattle.tp_receiver.specs.Running.{Happened, RxTurn, calls_by, now_of, seen_by, state_of, told_by}
 use Rattle.gw_law.specs.Source.{CountsFrom, Tells, opened_by, sessions_in}
 use Rattle.gw_law.specs.Timely.{bytes_to}
 use Rattle.gw_law.proofs.Begins.{Split, begin-at, begin_going, begins-are, begins-more, begins_by, begins_told, seq-at, splits, told-long}
@@ -25,6 +26,7 @@ use Rattle.gw_law.proofs.Pieces.{After, CutFront, CutIn, Within, bytes-front, by
 use Rattle.gw_law.proofs.SoFars.{AreTold, IsBusy}
 use Rattle.gw_law.proofs.SourceLaws.{HoldsBy, holds, source_law_of}
 use Rattle.gw_law.proofs.Stores.{store}
+use Rattle.gw_law.proofs.Tellings.{TellsPut}
 use Rattle.gw_law.proofs.Lists.{all-at, get-append, slice_get-more, zip-at, zip-back, zip-long}
 use Rattle.hub_core.proofs.Growing.{slice_get-pushed}
 
@@ -53,25 +55,25 @@ within address tick place fronts front unit early is (Within before at start mor
 
 -- what is known of a record's session and unit, and of the turns up to the tick
 record Known (rx : RxSet) (tick place : ℕ) (front : List RxTurn) (records more : List SessionRecord) (unit : Cut Seen) (session : SessionRecord) (opened : OpenedAt) : Type 0 where
-  split : records ≡ told_by front ++ more
+  split : records ≡ records_by front ++ more
   counts : CountsFrom 0 (sessions_in records)
   session_is : slice_get records place ≡ Some session
   opened_is : session.opened ≡ Some opened
   begin : session.begin.0 ≡ unit.start.at
   begin_at : slice_get (begins_told records) opened.seq ≡ Some session.begin.0
   begins : (later : List ℕ) × (begins_told records ≡ begins_by front ++ later)
-  early : AllByRecursion (CutIn (λ (s : Seen). s.at ≤ tick)) (attempts_in rx.functional (seen_by front))
-  cut : CutFront (λ (s : Seen). tick < s.at) (attempts_in rx.functional (seen_by front)) place unit
+  early : AllByRecursion (CutIn (λ (s : Seen). s.at ≤ tick)) (attempts_in rx.functional (came_by frames_in front))
+  cut : CutFront (λ (s : Seen). tick < s.at) (attempts_in rx.functional (came_by frames_in front)) place unit
 
 -- the session of an earlier record
 told-put : (rx : RxSet) (tick place now : ℕ) (front : List RxTurn) (records more : List SessionRecord) (unit : Cut Seen) (session : SessionRecord) (opened : OpenedAt) (ended going : List (Cut Seen)) → Known rx tick place front records more unit session opened →
-    attempts_in rx.functional (seen_by front) ≡ ended ++ going → AreTold rx (calls_by front) now ended (told_by front) → opened.seq < length (sessions_in (told_by front)) → length (store rx.path.0 (calls_by front) opened.seq) ≤ bytes_to tick (walk_of rx.a unit).pieces
-told-put rx tick place now front records more unit session opened ended going known cuts told below = elim (get-append (told_by front) more place session (ap (λ l. slice_get l place) (sym known.split) ∙ known.session_is)) [
+    attempts_in rx.functional (came_by frames_in front) ≡ ended ++ going → AreTold rx (calls_by front) now ended (records_by front) → opened.seq < length (sessions_in (records_by front)) → length (store rx.path.0 (calls_by front) opened.seq) ≤ bytes_to tick (walk_of rx.a unit).pieces
+told-put rx tick place now front records more unit session opened ended going known cuts told below = elim (get-append (records_by front) more place session (ap (λ l. slice_get l place) (sym known.split) ∙ known.session_is)) [
   | inl here ↦
-      let zipped = zip-back (Tells rx.chan.0 rx.a (store rx.path.0 (calls_by front))) ended (told_by front) place session told.tells here in
-      let is : slice_get (attempts_in rx.functional (seen_by front)) place ≡ Some zipped.0 = ap (λ l. slice_get l place) cuts ∙ slice_get-more ended going place zipped.0 zipped.1 in
-      omega (arith, ap length (zipped.2.puts opened known.opened_is), length-take-le session.bytes (reassembled rx.a zipped.0) zipped.2.within, zipped.2.within, within rx.a tick place (attempts_in rx.functional (seen_by front)) zipped.0 unit known.early is known.cut)
-  | inr later ↦ absurd (omega (arith, below, seq-later records (told_by front) more later.0 session opened known.split known.counts later.2 known.opened_is))
+      let zipped = zip-back (TellsPut rx.chan.0 rx.a (store rx.path.0 (calls_by front))) ended (records_by front) place session told.tells here in
+      let is : slice_get (attempts_in rx.functional (came_by frames_in front)) place ≡ Some zipped.0 = ap (λ l. slice_get l place) cuts ∙ slice_get-more ended going place zipped.0 zipped.1 in
+      omega (arith, ap length (zipped.2.1 opened known.opened_is), length-take-le session.bytes (reassembled rx.a zipped.0) zipped.2.0.within, zipped.2.0.within, within rx.a tick place (attempts_in rx.functional (came_by frames_in front)) zipped.0 unit known.early is known.cut)
+  | inr later ↦ absurd (omega (arith, below, seq-later records (records_by front) more later.0 session opened known.split known.counts later.2 known.opened_is))
 ]
 
 -- the session that is going on is of the last attempt
@@ -81,72 +83,72 @@ last-place tick place ended attempt unit count zero long at by (Within before is
 last-place tick place ended attempt unit count (suc j) long at by (Within before is start more) =
     absurd (omega (arith, at, long, slice_get_within (ended ++ attempt ∷ []) place before is, length-append ended (attempt ∷ [])))
 
-going-put : (rx : RxSet) (tick place next seq : ℕ) (busy : Busy) (front : List RxTurn) (records more : List SessionRecord) (unit : Cut Seen) (session : SessionRecord) (opened : OpenedAt) → Known rx tick place front records more unit session opened →
-    begins_by front ≡ begins_told (told_by front) ++ busy.begin ∷ [] → (so : IsBusy rx next seq busy (calls_by front) (now_of front) (seen_by front) (told_by front)) → opened.seq ≡ length (sessions_in (told_by front)) →
+going-put : (rx : RxSet) (tick place next seq : ℕ) (busy : Reception) (front : List RxTurn) (records more : List SessionRecord) (unit : Cut Seen) (session : SessionRecord) (opened : OpenedAt) → Known rx tick place front records more unit session opened →
+    begins_by front ≡ begins_told (records_by front) ++ busy.begin ∷ [] → (so : IsBusy rx next seq busy (calls_by front) (now_of front) (came_by frames_in front) (records_by front)) → opened.seq ≡ length (sessions_in (records_by front)) →
     length (store rx.path.0 (calls_by front) opened.seq) ≤ bytes_to tick (walk_of rx.a unit).pieces
-going-put rx tick place next seq busy front records more unit session opened known begun so number = elim (get-append (told_by front) more place session (ap (λ l. slice_get l place) (sym known.split) ∙ known.session_is)) [
-  | inl here ↦ absurd (omega (arith, number, seq-earlier (told_by front) place session opened so.told.sessions here known.opened_is))
+going-put rx tick place next seq busy front records more unit session opened known begun so number = elim (get-append (records_by front) more place session (ap (λ l. slice_get l place) (sym known.split) ∙ known.session_is)) [
+  | inl here ↦ absurd (omega (arith, number, seq-earlier (records_by front) place session opened so.told.sessions here known.opened_is))
   | inr later ↦
       let begins : slice_get (begins_told records) opened.seq ≡ Some busy.begin =
       ap (λ l. slice_get l opened.seq) (known.begins.1 ∙ ap (λ l. l ++ known.begins.0) begun)
-      ∙ slice_get-more (begins_told (told_by front) ++ busy.begin ∷ []) known.begins.0 opened.seq busy.begin (slice_get-pushed (begins_told (told_by front)) busy.begin opened.seq (omega (arith, told-long (told_by front), number))) in
+      ∙ slice_get-more (begins_told (records_by front) ++ busy.begin ∷ []) known.begins.0 opened.seq busy.begin (slice_get-pushed (begins_told (records_by front)) busy.begin opened.seq (omega (arith, told-long (records_by front), number))) in
       let both : Some session.begin.0 ≡ Some busy.begin = sym known.begin_at ∙ begins in
       let same : session.begin.0 ≡ busy.begin = cc in
-      let last : slice_get (attempts_in rx.functional (seen_by front)) (length so.earlier) ≡ Some so.attempt = ap (λ l. slice_get l (length so.earlier)) so.cut ∙ slice_get-pushed so.earlier so.attempt (length so.earlier) refl in
-      let starts : CutIn (λ (s : Seen). s.at ≤ tick) so.attempt = all-at (CutIn (λ (s : Seen). s.at ≤ tick)) (attempts_in rx.functional (seen_by front)) (length so.earlier) so.attempt known.early last in
+      let last : slice_get (attempts_in rx.functional (came_by frames_in front)) (length so.earlier) ≡ Some so.attempt = ap (λ l. slice_get l (length so.earlier)) so.cut ∙ slice_get-pushed so.earlier so.attempt (length so.earlier) refl in
+      let starts : CutIn (λ (s : Seen). s.at ≤ tick) so.attempt = all-at (CutIn (λ (s : Seen). s.at ≤ tick)) (attempts_in rx.functional (came_by frames_in front)) (length so.earlier) so.attempt known.early last in
       let P : List (Cut Seen) → Type 0 = λ l. CutFront (λ (s : Seen). tick < s.at) l place unit in
       let is : slice_get (so.earlier ++ so.attempt ∷ []) place ≡ Some so.attempt =
-      last-place tick place so.earlier so.attempt unit (length (told_by front)) later.0 (zip-long (Tells rx.chan.0 rx.a (store rx.path.0 (calls_by front))) so.earlier (told_by front) so.told.tells) later.1
+      last-place tick place so.earlier so.attempt unit (length (records_by front)) later.0 (zip-long (TellsPut rx.chan.0 rx.a (store rx.path.0 (calls_by front))) so.earlier (records_by front) so.told.tells) later.1
       (omega (arith, same, known.begin, so.underway.begin, starts.0)) (subst P so.cut known.cut) in
       let put : store rx.path.0 (calls_by front) opened.seq ≡ reassembled rx.a so.attempt = ap (store rx.path.0 (calls_by front)) (omega (arith, number, so.at_is)) ∙ so.underway.puts in
-      omega (arith, ap length put, within rx.a tick place (attempts_in rx.functional (seen_by front)) so.attempt unit known.early (ap (λ l. slice_get l place) so.cut ∙ is) known.cut)
+      omega (arith, ap length put, within rx.a tick place (attempts_in rx.functional (came_by frames_in front)) so.attempt unit known.early (ap (λ l. slice_get l place) so.cut ∙ is) known.cut)
 ]
 
 none-put : (rx : RxSet) (calls : List Event) (number bytes : ℕ) → store rx.path.0 calls number ≡ [] → length (store rx.path.0 calls number) ≤ bytes
 none-put rx calls number bytes none = omega (arith, ap length none)
 
-put-by : (rx : RxSet) (tick place next seq : ℕ) (busy : Option Busy) (front : List RxTurn) (records more : List SessionRecord) (unit : Cut Seen) (session : SessionRecord) (opened : OpenedAt) → Known rx tick place front records more unit session opened →
-    begins_by front ≡ begins_told (told_by front) ++ begin_going busy → HoldsBy rx next seq busy (calls_by front) (now_of front) (seen_by front) (told_by front) → length (store rx.path.0 (calls_by front) opened.seq) ≤ bytes_to tick (walk_of rx.a unit).pieces
-put-by rx tick place next seq None front records more unit session opened known begun so = elim (cases_lt opened.seq (length (sessions_in (told_by front)))) [
-  | inl below ↦ told-put rx tick place (now_of front) front records more unit session opened (attempts_in rx.functional (seen_by front)) [] known (sym (append-nil (attempts_in rx.functional (seen_by front)))) so.told below
+put-by : (rx : RxSet) (tick place next seq : ℕ) (busy : Option Reception) (front : List RxTurn) (records more : List SessionRecord) (unit : Cut Seen) (session : SessionRecord) (opened : OpenedAt) → Known rx tick place front records more unit session opened →
+    begins_by front ≡ begins_told (records_by front) ++ begin_going busy → HoldsBy rx next seq busy (calls_by front) (now_of front) (came_by frames_in front) (records_by front) → length (store rx.path.0 (calls_by front) opened.seq) ≤ bytes_to tick (walk_of rx.a unit).pieces
+put-by rx tick place next seq None front records more unit session opened known begun so = elim (cases_lt opened.seq (length (sessions_in (records_by front)))) [
+  | inl below ↦ told-put rx tick place (now_of front) front records more unit session opened (attempts_in rx.functional (came_by frames_in front)) [] known (sym (append-nil (attempts_in rx.functional (came_by frames_in front)))) so.told below
   | inr above ↦ none-put rx (calls_by front) opened.seq (bytes_to tick (walk_of rx.a unit).pieces) (so.fresh opened.seq (omega (arith, above, so.seq_is)))
 ]
-put-by rx tick place next seq (Some busy) front records more unit session opened known begun so = elim (cases_order opened.seq (length (sessions_in (told_by front)))) [
+put-by rx tick place next seq (Some busy) front records more unit session opened known begun so = elim (cases_order opened.seq (length (sessions_in (records_by front)))) [
   | inl same ↦ going-put rx tick place next seq busy front records more unit session opened known begun so.0 same
   | inr (inl below) ↦ told-put rx tick place (now_of front) front records more unit session opened so.0.earlier (so.0.attempt ∷ []) known so.0.cut so.0.told below
   | inr (inr above) ↦ none-put rx (calls_by front) opened.seq (bytes_to tick (walk_of rx.a unit).pieces) (so.0.fresh opened.seq (omega (arith, above, so.0.seq_is)))
 ]
 
-seen-all : (P : ℕ → Type 0) (turns : List RxTurn) → AllByRecursion (TurnIn P) turns → AllByRecursion (λ (s : Seen). P s.at) (seen_by turns)
+seen-all : (P : ℕ → Type 0) (turns : List RxTurn) → AllByRecursion (TurnIn P) turns → AllByRecursion (λ (s : Seen). P s.at) (came_by frames_in turns)
 seen-all P turns all =
-    let so : More (λ (s : Seen). P s.at) [] (seen_by (turns ++ [])) = seen-more P turns [] all in
+    let so : More (λ (s : Seen). P s.at) [] (came_by frames_in (turns ++ [])) = seen-more P turns [] all in
     let Q : List Seen → Type 0 = λ l. AllByRecursion (λ (s : Seen). P s.at) l in
-    subst Q (sym so.is ∙ ap seen_by (append-nil turns)) so.all
+    subst Q (sym so.is ∙ ap (came_by frames_in) (append-nil turns)) so.all
 
 -- the bytes that the turns up to a tick put into a session are no more than those that its unit has up to then
-pub put-up-to : (rx : RxSet) (later front : List RxTurn) (tick place : ℕ) (unit : Cut Seen) (session : SessionRecord) (opened : OpenedAt) → Happened rx (later ++ front) → (state_of (later ++ front)).busy ≡ None →
-    AllByRecursion (TurnIn (λ (t : ℕ). tick < t)) later → AllByRecursion (TurnIn (λ (t : ℕ). t ≤ tick)) front → slice_get (attempts_in rx.functional (seen_by (later ++ front))) place ≡ Some unit → slice_get (told_by (later ++ front)) place ≡ Some session → session.opened ≡ Some opened →
+pub put-up-to : (rx : RxSet) (later front : List RxTurn) (tick place : ℕ) (unit : Cut Seen) (session : SessionRecord) (opened : OpenedAt) → HasReceived rx (later ++ front) → (state_after rx_new (later ++ front)).busy ≡ None →
+    AllByRecursion (TurnIn (λ (t : ℕ). tick < t)) later → AllByRecursion (TurnIn (λ (t : ℕ). t ≤ tick)) front → slice_get (attempts_in rx.functional (came_by frames_in (later ++ front))) place ≡ Some unit → slice_get (records_by (later ++ front)) place ≡ Some session → session.opened ≡ Some opened →
     length (store rx.path.0 (calls_by front) opened.seq) ≤ bytes_to tick (walk_of rx.a unit).pieces
 put-up-to rx later front tick place unit session opened happened idle late early unit_is session_is opened_is =
     let law = source_law_of rx (later ++ front) happened idle in
-    let past : Happened rx front = received-front rx later front happened in
+    let past : HasReceived rx front = received-front rx later front happened in
     let told = received-more later front in
-    let frames : More (λ (s : Seen). tick < s.at) (seen_by front) (seen_by (later ++ front)) = seen-more (λ (t : ℕ). tick < t) later front late in
+    let frames : More (λ (s : Seen). tick < s.at) (came_by frames_in front) (came_by frames_in (later ++ front)) = seen-more (λ (t : ℕ). tick < t) later front late in
     let more = begins-more later front in
-    let sp : Split (told_by (later ++ front)) place session = splits (told_by (later ++ front)) place session session_is in
-    let all : begins_told (told_by (later ++ front)) ≡ begins_by (later ++ front) =
-    sym (begins-are rx (later ++ front) happened ∙ ap (λ b. begins_told (told_by (later ++ front)) ++ begin_going b) idle ∙ append-nil (begins_told (told_by (later ++ front)))) in
-    let zipped = zip-at (Tells rx.chan.0 rx.a _) (attempts_in rx.functional (seen_by (later ++ front))) (told_by (later ++ front)) place unit law.tells unit_is in
+    let sp : Split (records_by (later ++ front)) place session = splits (records_by (later ++ front)) place session session_is in
+    let all : begins_told (records_by (later ++ front)) ≡ begins_by (later ++ front) =
+    sym (begins-are rx (later ++ front) happened ∙ ap (λ b. begins_told (records_by (later ++ front)) ++ begin_going b) idle ∙ append-nil (begins_told (records_by (later ++ front)))) in
+    let zipped = zip-at (Tells rx.chan.0 rx.a) (attempts_in rx.functional (came_by frames_in (later ++ front))) (records_by (later ++ front)) place unit law.tells unit_is in
     let same : session ≡ zipped.0 = cc in
-    let known : Known rx tick place front (told_by (later ++ front)) told.more unit session opened = record {
+    let known : Known rx tick place front (records_by (later ++ front)) told.more unit session opened = record {
       split = told.is;
       counts = law.sessions;
       session_is = session_is;
       opened_is = opened_is;
       begin = rw same zipped.2.begin;
-      begin_at = begin-at (told_by (later ++ front)) sp.before sp.after session opened sp.is law.sessions opened_is;
+      begin_at = begin-at (records_by (later ++ front)) sp.before sp.after session opened sp.is law.sessions opened_is;
       begins = (more.0, all ∙ more.1);
-      early = cuts-in (λ (s : Seen). s.at ≤ tick) (λ (s : Seen). is_start rx.functional s.meaning) (seen_by front) (seen-all (λ (t : ℕ). t ≤ tick) front early);
-      cut = cut-front (λ (s : Seen). tick < s.at) (λ (s : Seen). is_start rx.functional s.meaning) (seen_by front) frames.more place unit frames.all (ap (λ l. slice_get (attempts_in rx.functional l) place) (sym frames.is) ∙ unit_is);
+      early = cuts-in (λ (s : Seen). s.at ≤ tick) (λ (s : Seen). is_start rx.functional s.meaning) (came_by frames_in front) (seen-all (λ (t : ℕ). t ≤ tick) front early);
+      cut = cut-front (λ (s : Seen). tick < s.at) (λ (s : Seen). is_start rx.functional s.meaning) (came_by frames_in front) frames.more place unit frames.all (ap (λ l. slice_get (attempts_in rx.functional l) place) (sym frames.is) ∙ unit_is);
     } in
-    put-by rx tick place (state_of front).next (state_of front).seq (state_of front).busy front (told_by (later ++ front)) told.more unit session opened known (begins-are rx front past) (holds rx front past)
+    put-by rx tick place (state_after rx_new front).next (state_after rx_new front).seq (state_after rx_new front).busy front (records_by (later ++ front)) told.more unit session opened known (begins-are rx front past) (holds rx front past)

@@ -1,5 +1,9 @@
 -- What a writer's calls make of its path's sessions.
 use Rattle.std.proofs.Common.{◌≡◌, ◌≢◌, ℕ, ◌+◌, ◌-◌, ◌<◌, zero, suc, Bool, true, false, ◌==◌, if◌then◌else◌, Option, Some, None, List, [], ◌∷◌, ◌++◌, length, take, refl, ap, sym, ◌∙◌, subst, arith, append-nil, append_assoc, eq-eqb}
+use Rattle.tp_receiver.specs.State.{Reception, RxState, RxEvent, RxDid, Came, Timer, FcLeft, RunEnd, idle, RxTurn, rx_new}
+use Rattle.tp_receiver.specs.Table.{begun, due, gone_on, After, Begins, Carries, Ends, FirstRow, Grants, Interrupts, Opens, Overflows, Quiet, RxStep, Starts, asks, overflow, puts, NoneReads, All, NoBuffer, Completes, NoBufferFirst, Opened, NoneReadsOn, TooLittleRoom, Adds, Fills as FillsRow, TooLong, TooShort, WrongNumber, RightNumber, InTime, TooLate, FromBox, NotAwaited}
+use Rattle.tp_receiver.specs.Runs.{HasReceived, cell_in, cells_in, put_in}
+use Rattle.hub_core.specs.Turns.{calls_by, state_after}
 use Rattle.std.specs.Prelude.{map, slice_get}
 use Rattle.std.proofs.lemmas.Bool.Decides.{nat_tests}
 use Rattle.std.proofs.lemmas.Grind.{flat_map-append}
@@ -14,10 +18,6 @@ use Rattle.hub_core.specs.declared.record.RxWait.TheVariants.{Box, Cf}
 use Rattle.hub_core.specs.declared.record.SessionResult.{SessionResult}
 use Rattle.hub_core.specs.declared.record.SessionResult.TheVariants.{Whole, WrongSn, RxTimeout, Restarted, NoRoom, NoReaders, RunEnd}
 use Rattle.tp_receiver.specs.declared.set.RxSet.{RxSet}
-use Rattle.tp_receiver.specs.Receiving.{Busy, RxState, RxInput, RxMove, Came, TimerTurn, FlowControlLeft, RunEnds, begun, due, gone_on, idle}
-use Rattle.tp_receiver.specs.Rows.{After, Begins, Carries, Ends, FirstRow, Grants, Interrupts, Opens, Overflows, Quiet, RxStep, Starts, asks, overflow, puts}
-use Rattle.tp_receiver.specs.Rows.{NoneReads, All, NoBuffer, Completes, NoBufferFirst, Opened, NoneReadsOn, TooLittleRoom, Adds, Fills as FillsRow, TooLong, TooShort, WrongNumber, RightNumber, InTime, TooLate, FromBox, NotAwaited}
-use Rattle.tp_receiver.specs.Running.{Happened, RxTurn, calls_by, cell_in, cells_in, put_in, state_of}
 use Rattle.tp_unit.specs.Unit.{BoxMeaning, Keeps, Offers, Meaning, SingleFrame, FirstFrame, ConsecutiveFrame, FlowControl, NoUnit}
 use Rattle.gw_law.proofs.Openings.{IsBelow}
 
@@ -166,43 +166,43 @@ pub fills-nothing : (path : ℕ) (v : View) → Fills path 0 [] v v
 fills-nothing path v = fills-none path [] v v refl (λ place. refl)
 
 -- a move's calls add to the sessions of its path, and its state counts them
-pub record Counts (path seq : ℕ) (m : RxMove) (v : View) : Type 0 where
+pub record Counts (path seq : ℕ) (m : RxDid) (v : View) : Type 0 where
   pub more : ℕ
   pub fills : Fills path more m.calls v (grows m.calls v)
   pub counted : m.new.seq ≡ seq + more
   pub below : IsBelow m.new.seq m.new.busy
 
 -- the calls that are known
-counts-by : (path seq more : ℕ) (m : RxMove) (v : View) (calls : List Event) (state : RxState) → m.calls ≡ calls → m.new ≡ state → Fills path more calls v (grows calls v) → state.seq ≡ seq + more → IsBelow state.seq state.busy → Counts path seq m v
+counts-by : (path seq more : ℕ) (m : RxDid) (v : View) (calls : List Event) (state : RxState) → m.calls ≡ calls → m.new ≡ state → Fills path more calls v (grows calls v) → state.seq ≡ seq + more → IsBelow state.seq state.busy → Counts path seq m v
 counts-by path seq more m v calls state is new fills counted below =
     let P : List Event → Type 0 = λ c. Fills path more c v (grows c v) in
     let Q : RxState → Type 0 = λ s. IsBelow s.seq s.busy in
     record { more = more; fills = subst P (sym is) fills; counted = ap (λ (s : RxState). s.seq) new ∙ counted; below = subst Q (sym new) below }
 
-counts-quiet : (path next seq : ℕ) (busy : Option Busy) (m : RxMove) (v : View) → IsBelow seq busy → Quiet (record { next = next; seq = seq; busy = busy }) m → Counts path seq m v
+counts-quiet : (path next seq : ℕ) (busy : Option Reception) (m : RxDid) (v : View) → IsBelow seq busy → Quiet (record { next = next; seq = seq; busy = busy }) m → Counts path seq m v
 counts-quiet path next seq busy m v below row = counts-by path seq 0 m v [] (record { next = next; seq = seq; busy = busy }) row.calls row.new (fills-nothing path v) (omega arith) below
 
-counts-ends : (set : RxSet) (next seq : ℕ) (busy : Busy) (how : SessionResult) (m : RxMove) (v : View) → Ends set next seq busy how m → Counts set.path.0 seq m v
+counts-ends : (set : RxSet) (next seq : ℕ) (busy : Reception) (how : SessionResult) (m : RxDid) (v : View) → Ends set next seq busy how m → Counts set.path.0 seq m v
 counts-ends set next seq busy how m v row =
     counts-by set.path.0 seq 0 m v (Closed set.path.0 busy.opened.seq (freed_by row.left) ∷ []) (idle next seq) row.calls row.new (fills-closed set.path.0 busy.opened.seq (freed_by row.left) v) (omega arith) tt
 
 -- first calls, and the rest
-counts-after : (path seq more : ℕ) (m : RxMove) (v : View) (before rest : List Event) → m.calls ≡ before ++ rest → Fills path more before v (grows before v) → Counts path (seq + more) (record m { calls = rest }) (grows before v) → Counts path seq m v
+counts-after : (path seq more : ℕ) (m : RxDid) (v : View) (before rest : List Event) → m.calls ≡ before ++ rest → Fills path more before v (grows before v) → Counts path (seq + more) (record m { calls = rest }) (grows before v) → Counts path seq m v
 counts-after path seq more m v before rest is first later =
     counts-by path seq (more + later.more) m v (before ++ rest) m.new is refl (fills-after path more later.more before rest v first later.fills) (later.counted ∙ omega arith) later.below
 
-counts-silent : (path next seq : ℕ) (busy : Option Busy) (m : RxMove) (v : View) → m.calls ≡ [] → m.new ≡ record { next = next; seq = seq; busy = busy } → IsBelow seq busy → Counts path seq m v
+counts-silent : (path next seq : ℕ) (busy : Option Reception) (m : RxDid) (v : View) → m.calls ≡ [] → m.new ≡ record { next = next; seq = seq; busy = busy } → IsBelow seq busy → Counts path seq m v
 counts-silent path next seq busy m v silent new below = counts-by path seq 0 m v [] (record { next = next; seq = seq; busy = busy }) silent new (fills-nothing path v) (omega arith) below
 
-same-count : (path seq : ℕ) (m : RxMove) (v : View) → Counts path seq m v → Counts path (seq + 0) m v
+same-count : (path seq : ℕ) (m : RxDid) (v : View) → Counts path seq m v → Counts path (seq + 0) m v
 same-count path seq m v counts = let same : seq ≡ seq + 0 = omega arith in let P : ℕ → Type 0 = λ s. Counts path s m v in subst P same counts
 
-counts-asked : (set : RxSet) (next seq room readers : ℕ) (busy : Busy) (how : SessionResult) (m : RxMove) (v : View) → After (asks set busy room readers) m (Ends set next seq busy how) → Counts set.path.0 seq m v
+counts-asked : (set : RxSet) (next seq room readers : ℕ) (busy : Reception) (how : SessionResult) (m : RxDid) (v : View) → After (asks set busy room readers) m (Ends set next seq busy how) → Counts set.path.0 seq m v
 counts-asked set next seq room readers busy how m v row =
     counts-after set.path.0 seq 0 m v (asks set busy room readers) row.rest row.calls (fills-asked set.path.0 busy.opened.seq room readers v)
     (same-count set.path.0 seq (record m { calls = row.rest }) (grows (asks set busy room readers) v) (counts-ends set next seq busy how (record m { calls = row.rest }) (grows (asks set busy room readers) v) row.row))
 
-counts-grants : (set : RxSet) (next seq : ℕ) (busy : Busy) (m : RxMove) (v : View) → busy.opened.seq < seq → Grants set next seq busy m → Counts set.path.0 seq m v
+counts-grants : (set : RxSet) (next seq : ℕ) (busy : Reception) (m : RxDid) (v : View) → busy.opened.seq < seq → Grants set next seq busy m → Counts set.path.0 seq m v
 counts-grants set next seq busy m v below (NoneReads room readers none row) = counts-asked set next seq room readers busy NoReaders m v row
 counts-grants set next seq busy m v below (All room readers some row) =
     counts-after set.path.0 seq 0 m v (asks set busy room readers) row.rest row.calls (fills-asked set.path.0 busy.opened.seq room readers v)
@@ -214,11 +214,11 @@ fills-opens set seq len bytes opened opening v at opens =
     let P : List Event → Type 0 = λ c. Fills set.path.0 1 c v (grows c v) in
     subst P (sym opens.calls_are) (fills-opening set.path.0 seq opened.buf.0 opened.change opens.size opens.need len set.readers (counted opens.cells) opens.cells v at)
 
-counts-overflow : (set : RxSet) (next seq len : ℕ) (bytes : List ℕ) (act : BoxMeaning) (m : RxMove) (v : View) → Overflows set next seq len bytes act m → Counts set.path.0 seq m v
+counts-overflow : (set : RxSet) (next seq len : ℕ) (bytes : List ℕ) (act : BoxMeaning) (m : RxDid) (v : View) → Overflows set next seq len bytes act m → Counts set.path.0 seq m v
 counts-overflow set next seq len bytes act m v row =
     counts-by set.path.0 seq 0 m v (Refused row.number row.free row.need ∷ []) (idle (next + 1) seq) row.calls row.new (fills-refused set.path.0 row.number row.free row.need v) (omega arith) tt
 
-counts-begins : (set : RxSet) (next seq size : ℕ) (meaning : Meaning) (m : RxMove) (v : View) → length (v.sessions set.path.0) ≡ seq → Begins set next seq size meaning m → Counts set.path.0 seq m v
+counts-begins : (set : RxSet) (next seq size : ℕ) (meaning : Meaning) (m : RxDid) (v : View) → length (v.sessions set.path.0) ≡ seq → Begins set next seq size meaning m → Counts set.path.0 seq m v
 counts-begins set next seq size (SingleFrame bytes) m v at (NoBuffer row) = counts-overflow set next seq (length bytes) bytes Keeps m v row
 counts-begins set next seq size (SingleFrame bytes) m v at (Completes opened opening opens row) =
     counts-after set.path.0 seq 1 m v opening row.rest row.calls (fills-opens set seq (length bytes) bytes opened opening v at opens)
@@ -231,11 +231,11 @@ counts-begins set next seq size (ConsecutiveFrame number bytes) m v at row = abs
 counts-begins set next seq size (FlowControl status block_size separation) m v at row = absurd row
 counts-begins set next seq size (NoUnit why) m v at row = absurd row
 
-counts-interrupts : (set : RxSet) (next seq : ℕ) (busy : Option Busy) (m : RxMove) (v : View) → Interrupts set next seq busy m → Counts set.path.0 seq m v × (m.new.seq ≡ seq)
+counts-interrupts : (set : RxSet) (next seq : ℕ) (busy : Option Reception) (m : RxDid) (v : View) → Interrupts set next seq busy m → Counts set.path.0 seq m v × (m.new.seq ≡ seq)
 counts-interrupts set next seq None m v row = (counts-quiet set.path.0 next seq None m v tt row, ap (λ (s : RxState). s.seq) row.new)
 counts-interrupts set next seq (Some busy) m v row = (counts-ends set next seq busy Restarted m v row, ap (λ (s : RxState). s.seq) row.new)
 
-counts-starts : (set : RxSet) (next seq size : ℕ) (busy : Option Busy) (meaning : Meaning) (m : RxMove) (v : View) → length (v.sessions set.path.0) ≡ seq → Starts set (record { next = next; seq = seq; busy = busy }) size meaning m → Counts set.path.0 seq m v
+counts-starts : (set : RxSet) (next seq size : ℕ) (busy : Option Reception) (meaning : Meaning) (m : RxDid) (v : View) → length (v.sessions set.path.0) ≡ seq → Starts set (record { next = next; seq = seq; busy = busy }) size meaning m → Counts set.path.0 seq m v
 counts-starts set next seq size busy meaning m v at row =
     let first : Counts set.path.0 seq row.earlier v × (row.earlier.new.seq ≡ seq) = counts-interrupts set next seq busy row.earlier v row.interrupts in
     let none : first.0.more ≡ 0 = omega (arith, first.0.counted, first.1) in
@@ -244,7 +244,7 @@ counts-starts set next seq size busy meaning m v at row =
     counts-by set.path.0 seq (first.0.more + later.more) m v (row.earlier.calls ++ row.later.calls) row.later.new row.calls row.new
     (fills-after set.path.0 first.0.more later.more row.earlier.calls row.later.calls v first.0.fills later.fills) (omega (arith, later.counted, none)) later.below
 
-counts-put : (set : RxSet) (seq room readers : ℕ) (busy : Busy) (cells : List ℕ) (m : RxMove) (v : View) (rest left : List Event) → length (v.sessions set.path.0) ≡ seq → busy.opened.seq < seq → m.calls ≡ asks set busy room readers ++ rest → rest ≡ puts set.path.0 busy.opened.seq cells ++ left →
+counts-put : (set : RxSet) (seq room readers : ℕ) (busy : Reception) (cells : List ℕ) (m : RxDid) (v : View) (rest left : List Event) → length (v.sessions set.path.0) ≡ seq → busy.opened.seq < seq → m.calls ≡ asks set busy room readers ++ rest → rest ≡ puts set.path.0 busy.opened.seq cells ++ left →
     Counts set.path.0 seq (record m { calls = left }) (grows (puts set.path.0 busy.opened.seq cells) (grows (asks set busy room readers) v)) → Counts set.path.0 seq m v
 counts-put set seq room readers busy cells m v rest left at below calls rests later =
     let here : View = grows (asks set busy room readers) v in
@@ -253,7 +253,7 @@ counts-put set seq room readers busy cells m v rest left at below calls rests la
     (counts-after set.path.0 (seq + 0) 0 (record m { calls = rest }) here (puts set.path.0 busy.opened.seq cells) left rests (fills-puts set.path.0 busy.opened.seq (counted cells) cells here (omega (arith, one.number, at, below)))
     (same-count set.path.0 (seq + 0) (record m { calls = left }) (grows (puts set.path.0 busy.opened.seq cells) here) (same-count set.path.0 seq (record m { calls = left }) (grows (puts set.path.0 busy.opened.seq cells) here) later)))
 
-counts-carries : (set : RxSet) (next seq : ℕ) (busy : Busy) (bytes : List ℕ) (m : RxMove) (v : View) → length (v.sessions set.path.0) ≡ seq → busy.opened.seq < seq → Carries set next seq busy bytes m → Counts set.path.0 seq m v
+counts-carries : (set : RxSet) (next seq : ℕ) (busy : Reception) (bytes : List ℕ) (m : RxDid) (v : View) → length (v.sessions set.path.0) ≡ seq → busy.opened.seq < seq → Carries set next seq busy bytes m → Counts set.path.0 seq m v
 counts-carries set next seq busy bytes m v at below (NoneReadsOn room readers none row) = counts-asked set next seq room readers busy NoReaders m v row
 counts-carries set next seq busy bytes m v at below (TooLittleRoom room readers need some need_is little row) = counts-asked set next seq room readers busy (NoRoom room need) m v row
 counts-carries set next seq busy bytes m v at below (Adds room readers cells some fits packed row) =
@@ -263,12 +263,12 @@ counts-carries set next seq busy bytes m v at below (FillsRow room readers cells
     counts-put set seq room readers busy cells m v row.rest row.row.rest at below row.calls row.row.calls
     (counts-ends set next seq (gone_on busy (length bytes) m.tick) Whole (record m { calls = row.row.rest }) (grows (puts set.path.0 busy.opened.seq cells) (grows (asks set busy room readers) v)) row.row.row)
 
-counts-first : (set : RxSet) (next seq size : ℕ) (busy : Option Busy) (meaning : Meaning) (functional : Bool) (m : RxMove) (v : View) → length (v.sessions set.path.0) ≡ seq → IsBelow seq busy → FirstRow set (record { next = next; seq = seq; busy = busy }) size meaning functional m → Counts set.path.0 seq m v
+counts-first : (set : RxSet) (next seq size : ℕ) (busy : Option Reception) (meaning : Meaning) (functional : Bool) (m : RxDid) (v : View) → length (v.sessions set.path.0) ≡ seq → IsBelow seq busy → FirstRow set (record { next = next; seq = seq; busy = busy }) size meaning functional m → Counts set.path.0 seq m v
 counts-first set next seq size busy meaning true m v at below row = counts-quiet set.path.0 next seq busy m v below row
 counts-first set next seq size busy meaning false m v at below row = counts-starts set next seq size busy meaning m v at row
 
 -- each row
-counts : (set : RxSet) (next seq : ℕ) (busy : Option Busy) (event : RxInput) (m : RxMove) (v : View) → length (v.sessions set.path.0) ≡ seq → IsBelow seq busy → RxStep set (record { next = next; seq = seq; busy = busy }) event m → Counts set.path.0 seq m v
+counts : (set : RxSet) (next seq : ℕ) (busy : Option Reception) (event : RxEvent) (m : RxDid) (v : View) → length (v.sessions set.path.0) ≡ seq → IsBelow seq busy → RxStep set (record { next = next; seq = seq; busy = busy }) event m → Counts set.path.0 seq m v
 counts set next seq busy (Came size (SingleFrame bytes)) m v at below row = counts-starts set next seq size busy (SingleFrame bytes) m v at row
 counts set next seq busy (Came size (FirstFrame len bytes)) m v at below row = counts-first set next seq size busy (FirstFrame len bytes) set.functional m v at below row
 counts set next seq None (Came size (ConsecutiveFrame number bytes)) m v at below row = counts-quiet set.path.0 next seq None m v below row
@@ -278,35 +278,35 @@ counts set next seq (Some busy) (Came size (ConsecutiveFrame number bytes)) m v 
 counts set next seq (Some busy) (Came size (ConsecutiveFrame number bytes)) m v at below (RightNumber looked right row) = counts-carries set next seq busy (take (due set.a busy) bytes) m v at below row
 counts set next seq busy (Came size (FlowControl status block_size separation)) m v at below row = counts-quiet set.path.0 next seq busy m v below row
 counts set next seq busy (Came size (NoUnit why)) m v at below row = counts-quiet set.path.0 next seq busy m v below row
-counts set next seq None TimerTurn m v at below row = counts-quiet set.path.0 next seq None m v below row
-counts set next seq None FlowControlLeft m v at below row = counts-quiet set.path.0 next seq None m v below row
-counts set next seq None RunEnds m v at below row = counts-quiet set.path.0 next seq None m v below row
-counts set next seq (Some busy) TimerTurn m v at below (InTime early row) = counts-quiet set.path.0 next seq (Some busy) m v below row
-counts set next seq (Some busy) TimerTurn m v at below (TooLate late row) = counts-ends set next seq busy (RxTimeout CfLimit) m v row
-counts set next seq (Some busy) FlowControlLeft m v at below (FromBox waits row) = counts-silent set.path.0 next seq (Some (record busy { wait = Cf; since = m.tick })) m v row.calls row.new below
-counts set next seq (Some busy) FlowControlLeft m v at below (NotAwaited waits row) = counts-quiet set.path.0 next seq (Some busy) m v below row
-counts set next seq (Some busy) RunEnds m v at below row = counts-ends set next seq busy (RunEnd busy.wait (record { 0 = busy.since })) m v row
+counts set next seq None Timer m v at below row = counts-quiet set.path.0 next seq None m v below row
+counts set next seq None FcLeft m v at below row = counts-quiet set.path.0 next seq None m v below row
+counts set next seq None RunEnd m v at below row = counts-quiet set.path.0 next seq None m v below row
+counts set next seq (Some busy) Timer m v at below (InTime early row) = counts-quiet set.path.0 next seq (Some busy) m v below row
+counts set next seq (Some busy) Timer m v at below (TooLate late row) = counts-ends set next seq busy (RxTimeout CfLimit) m v row
+counts set next seq (Some busy) FcLeft m v at below (FromBox waits row) = counts-silent set.path.0 next seq (Some (record busy { wait = Cf; since = m.tick })) m v row.calls row.new below
+counts set next seq (Some busy) FcLeft m v at below (NotAwaited waits row) = counts-quiet set.path.0 next seq (Some busy) m v below row
+counts set next seq (Some busy) RunEnd m v at below row = counts-ends set next seq busy (RunEnd busy.wait (record { 0 = busy.since })) m v row
 
 -- all turns
 pub record AllFilled (set : RxSet) (turns : List RxTurn) : Type 0 where
-  pub number : length ((grows (calls_by turns) empty_view).sessions set.path.0) ≡ (state_of turns).seq
-  pub below : IsBelow (state_of turns).seq (state_of turns).busy
+  pub number : length ((grows (calls_by turns) empty_view).sessions set.path.0) ≡ (state_after rx_new turns).seq
+  pub below : IsBelow (state_after rx_new turns).seq (state_after rx_new turns).busy
   pub cells : (place : ℕ) → cells_at ((grows (calls_by turns) empty_view).sessions set.path.0) place ≡ put_in set turns place
 
-pub all-filled : (set : RxSet) (turns : List RxTurn) → Happened set turns → AllFilled set turns
+pub all-filled : (set : RxSet) (turns : List RxTurn) → HasReceived set turns → AllFilled set turns
 all-filled set [] happened = record { number = refl; below = tt; cells = λ place. refl }
 all-filled set (turn ∷ earlier) happened =
     let so : AllFilled set earlier = all-filled set earlier happened.2 in
     let v : View = grows (calls_by earlier) empty_view in
-    let row : Counts set.path.0 (state_of earlier).seq turn.move v = counts set (state_of earlier).next (state_of earlier).seq (state_of earlier).busy turn.event turn.move v so.number so.below happened.1 in
-    let is : grows (calls_by earlier ++ turn.move.calls) empty_view ≡ grows turn.move.calls v = grows-append (calls_by earlier) turn.move.calls empty_view in
+    let row : Counts set.path.0 (state_after rx_new earlier).seq turn.did v = counts set (state_after rx_new earlier).next (state_after rx_new earlier).seq (state_after rx_new earlier).busy turn.event turn.did v so.number so.below happened.1 in
+    let is : grows (calls_by earlier ++ turn.did.calls) empty_view ≡ grows turn.did.calls v = grows-append (calls_by earlier) turn.did.calls empty_view in
     record {
       number = ap (λ (w : View). length (w.sessions set.path.0)) is ∙ omega (arith, row.fills.number, so.number, row.counted);
       below = row.below;
-      cells = λ place. ap (λ (w : View). cells_at (w.sessions set.path.0) place) is ∙ row.fills.cells place ∙ ap (λ c. c ++ cells_in set.path.0 place turn.move.calls) (so.cells place)
-          ∙ sym (flat_map-append (cell_in set.path.0 place) (calls_by earlier) turn.move.calls);
+      cells = λ place. ap (λ (w : View). cells_at (w.sessions set.path.0) place) is ∙ row.fills.cells place ∙ ap (λ c. c ++ cells_in set.path.0 place turn.did.calls) (so.cells place)
+          ∙ sym (flat_map-append (cell_in set.path.0 place) (calls_by earlier) turn.did.calls);
     }
 
-pub stored_in : (set : RxSet) (turns : List RxTurn) → Happened set turns → (seq : ℕ) (s : Session) → session_at (grows (calls_by turns) empty_view) set.path.0 seq ≡ Some s → s.cells ≡ put_in set turns seq
+pub stored_in : (set : RxSet) (turns : List RxTurn) → HasReceived set turns → (seq : ℕ) (s : Session) → session_at (grows (calls_by turns) empty_view) set.path.0 seq ≡ Some s → s.cells ≡ put_in set turns seq
 stored_in set turns happened seq s known =
     sym (cells_at-is ((grows (calls_by turns) empty_view).sessions set.path.0) seq s known) ∙ (all-filled set turns happened).cells seq

@@ -1,5 +1,7 @@
 -- What a receiver's records say so far, and how each part of a step changes it.
-use Rattle.std.proofs.Common.{◌≡◌, ◌≢◌, ℕ, ◌+◌, ◌%◌, ◌<◌, ◌≤◌, ◌↔◌, Bool, true, false, Some, None, List, [], ◌∷◌, ◌++◌, length, map, take, refl, ap, sym, ◌∙◌, subst, arith, append-nil, take_all}
+use Rattle.std.proofs.Common.{◌≡◌, ◌≢◌, ℕ, ◌+◌, ◌%◌, ◌<◌, ◌≤◌, ◌↔◌, Bool, true, false, Some, None, List, [], ◌∷◌, ◌++◌, fold, length, map, take, refl, ap, sym, ◌∙◌, subst, arith, append-nil, take_all}
+use Rattle.tp_receiver.specs.State.{Reception}
+use Rattle.tp_receiver.specs.Table.{ended, refused, gone_on, due as busy_due, begun as busy_begun}
 use Rattle.std.specs.List.{AllByRecursion, AllZip}
 use Rattle.std.proofs.lemmas.List.{length-append, length-map, map-append}
 use Rattle.std.proofs.lemmas.Grind.{flat_map-append}
@@ -11,15 +13,14 @@ use Rattle.hub_core.specs.declared.record.SessionResult.TheVariants.{Whole, Wron
 use Rattle.tp_attempts.specs.Attempts.{attempts_in}
 use Rattle.tp_attempts.specs.Cuts.{Cut}
 use Rattle.tp_attempts.specs.Seen.{Seen, is_start, len_of, bytes_of}
-use Rattle.tp_attempts.specs.Walk.{Piece, Walk, Wrong, due, due_number, joined, look, walk_of, reassembled}
+use Rattle.tp_attempts.specs.Walk.{Piece, Walk, Wrong, begun as begun_walk, due, due_number, joined, look, walk_of, reassembled}
 use Rattle.tp_attempts.proofs.Cuts.{cuts-begin, cuts-grow, cuts-more}
 use Rattle.tp_attempts.proofs.Walks.{walk_of-more, joined-more, len-walk_of, look-counts, look-wrong}
 use Rattle.tp_receiver.specs.declared.set.RxSet.{RxSet}
-use Rattle.tp_receiver.specs.Receiving.{Busy, ended, refused, gone_on, due as busy_due, begun as busy_begun}
 use Rattle.tp_unit.specs.Unit.{ConsecutiveFrame}
-use Rattle.gw_law.specs.Source.{CountsFrom, Tells, is_overflow, opened_by, sessions_in}
+use Rattle.gw_law.specs.Source.{CountsFrom, is_overflow, opened_by, sessions_in}
 use Rattle.gw_law.proofs.Stores.{store, Adds}
-use Rattle.gw_law.proofs.Tellings.{counts-push, with_frame, zip-grow, zip-stored}
+use Rattle.gw_law.proofs.Tellings.{TellsPut, counts-push, looked, with_frame, zip-grow, zip-stored}
 use Rattle.gw_law.proofs.Lists.{all-push, all-weaker, none-some, zip-push}
 
 -- a record ended by that tick, and its session is one of the first ones
@@ -29,7 +30,7 @@ pub record IsOver (now seq : ℕ) (told : SessionRecord) : Type 0 where
 
 -- the records of the attempts whose receptions are over
 pub record AreTold (set : RxSet) (calls : List Event) (now : ℕ) (attempts : List (Cut Seen)) (records : List SessionRecord) : Type 0 where
-  pub tells : AllZip (Tells set.chan.0 set.a (store set.path.0 calls)) attempts records
+  pub tells : AllZip (TellsPut set.chan.0 set.a (store set.path.0 calls)) attempts records
   pub numbers : CountsFrom 0 (map (λ (told : SessionRecord). told.n) records)
   pub sessions : CountsFrom 0 (sessions_in records)
   pub over : AllByRecursion (IsOver now (length (sessions_in records))) records
@@ -42,7 +43,7 @@ pub record IsIdle (set : RxSet) (next seq : ℕ) (calls : List Event) (now : ℕ
   pub fresh : (number : ℕ) → seq ≤ number → store set.path.0 calls number ≡ []
 
 -- a reception is what its attempt has so far
-pub record IsUnderway (set : RxSet) (busy : Busy) (calls : List Event) (now : ℕ) (attempt : Cut Seen) : Type 0 where
+pub record IsUnderway (set : RxSet) (busy : Reception) (calls : List Event) (now : ℕ) (attempt : Cut Seen) : Type 0 where
   pub len : busy.len ≡ len_of attempt.start.meaning
   pub begin : busy.begin ≡ attempt.start.at
   pub by : busy.begin ≤ now
@@ -54,7 +55,7 @@ pub record IsUnderway (set : RxSet) (busy : Busy) (calls : List Event) (now : �
   pub puts : store set.path.0 calls busy.opened.seq ≡ reassembled set.a attempt
 
 -- a reception is in progress
-pub record IsBusy (set : RxSet) (next seq : ℕ) (busy : Busy) (calls : List Event) (now : ℕ) (seen : List Seen) (records : List SessionRecord) : Type 0 where
+pub record IsBusy (set : RxSet) (next seq : ℕ) (busy : Reception) (calls : List Event) (now : ℕ) (seen : List Seen) (records : List SessionRecord) : Type 0 where
   pub earlier : List (Cut Seen)
   pub attempt : Cut Seen
   pub cut : attempts_in set.functional seen ≡ earlier ++ attempt ∷ []
@@ -88,7 +89,7 @@ idle-later set next seq old new before now seen records later same so = record {
   fresh = λ number above. same number ∙ so.fresh number above;
 }
 
-pub busy-later : (set : RxSet) (next seq : ℕ) (busy : Busy) (old new : List Event) (before now : ℕ) (seen : List Seen) (records : List SessionRecord) → before ≤ now → Same set.path.0 old new → IsBusy set next seq busy old before seen records → IsBusy set next seq busy new now seen records
+pub busy-later : (set : RxSet) (next seq : ℕ) (busy : Reception) (old new : List Event) (before now : ℕ) (seen : List Seen) (records : List SessionRecord) → before ≤ now → Same set.path.0 old new → IsBusy set next seq busy old before seen records → IsBusy set next seq busy new now seen records
 busy-later set next seq busy old new before now seen records later same so = record {
   earlier = so.earlier;
   attempt = so.attempt;
@@ -130,7 +131,7 @@ idle-other set next seq calls seen records frame other so =
     }
 
 -- a frame of this tick that is no start and that the attempt passes over
-pub busy-passed : (set : RxSet) (next seq : ℕ) (busy : Busy) (calls : List Event) (seen : List Seen) (records : List SessionRecord) (frame : Seen) (so : IsBusy set next seq busy calls frame.at seen records) → is_start set.functional frame.meaning ≡ false →
+pub busy-passed : (set : RxSet) (next seq : ℕ) (busy : Reception) (calls : List Event) (seen : List Seen) (records : List SessionRecord) (frame : Seen) (so : IsBusy set next seq busy calls frame.at seen records) → is_start set.functional frame.meaning ≡ false →
     look set.a (walk_of set.a so.attempt) frame ≡ walk_of set.a so.attempt → IsBusy set next seq busy calls frame.at (seen ++ frame ∷ []) records
 busy-passed set next seq busy calls seen records frame so other passed =
     let is : walk_of set.a (with_frame so.attempt frame) ≡ walk_of set.a so.attempt = walk_of-more set.a so.attempt frame ∙ passed in
@@ -166,13 +167,13 @@ next-number n = omega arith
 
 -- one attempt more is told
 told-push : (set : RxSet) (calls : List Event) (now : ℕ) (attempts : List (Cut Seen)) (records : List SessionRecord) (attempt : Cut Seen) (told : SessionRecord) → AreTold set calls now attempts records →
-    Tells set.chan.0 set.a (store set.path.0 calls) attempt told → told.n ≡ length records → told.end.0 ≤ now → CountsFrom 0 (sessions_in records ++ opened_by told) →
+    TellsPut set.chan.0 set.a (store set.path.0 calls) attempt told → told.n ≡ length records → told.end.0 ≤ now → CountsFrom 0 (sessions_in records ++ opened_by told) →
     ((opened : OpenedAt) → told.opened ≡ Some opened → opened.seq < length (sessions_in records ++ opened_by told)) → AreTold set calls now (attempts ++ attempt ∷ []) (records ++ told ∷ [])
 told-push set calls now attempts records attempt told so tells n ended counts below =
     let sessions : sessions_in (records ++ told ∷ []) ≡ sessions_in records ++ opened_by told = flat_map-append opened_by records (told ∷ []) ∙ ap (λ xs. sessions_in records ++ xs) (append-nil (opened_by told)) in
     let more : length (sessions_in records) ≤ length (sessions_in (records ++ told ∷ [])) = rw (sessions, length-append) (omega arith) in
     record {
-      tells = zip-push (Tells set.chan.0 set.a (store set.path.0 calls)) attempts records attempt told so.tells tells;
+      tells = zip-push (TellsPut set.chan.0 set.a (store set.path.0 calls)) attempts records attempt told so.tells tells;
       numbers = rw (map-append) (counts-push 0 told.n (map (λ (r : SessionRecord). r.n) records) so.numbers (rw length-map (omega (arith, n))));
       sessions = rw sessions counts;
       over = all-push (IsOver now (length (sessions_in (records ++ told ∷ [])))) records told
@@ -180,30 +181,50 @@ told-push set calls now attempts records attempt told so tells n ended counts be
           (record { ended = ended; below = λ opened at. rw sessions (below opened at) });
     }
 
+-- an attempt's walk has its start's piece
+pieces-some : (address : ℕ) (attempt : Cut Seen) → 0 < length (walk_of address attempt).pieces
+pieces-some address attempt = looks-some address attempt.after (begun_walk attempt.start) (omega arith)
+  where
+    looks-some : (address : ℕ) (frames : List Seen) (walk : Walk) → 0 < length walk.pieces → 0 < length (fold (look address) walk frames).pieces
+    looks-some address [] walk some = some
+    looks-some address (frame ∷ frames) walk some =
+        let on = looked address walk frame.at frame.size frame.meaning in
+        looks-some address frames (look address walk frame) (omega (arith, ap length on.pieces, length-append walk.pieces on.more, some))
+
 -- what the record of a reception that ends says
-tells-ended : (set : RxSet) (busy : Busy) (how : SessionResult) (calls : List Event) (now : ℕ) (attempt : Cut Seen) → busy.len ≡ len_of attempt.start.meaning → busy.begin ≡ attempt.start.at → busy.begin ≤ now →
+tells-ended : (set : RxSet) (busy : Reception) (how : SessionResult) (calls : List Event) (now : ℕ) (attempt : Cut Seen) → busy.len ≡ len_of attempt.start.meaning → busy.begin ≡ attempt.start.at → busy.begin ≤ now →
     busy.bytes ≡ length (reassembled set.a attempt) → AllByRecursion (λ (piece : Piece). piece.at ≤ now) (walk_of set.a attempt).pieces → store set.path.0 calls busy.opened.seq ≡ reassembled set.a attempt →
     is_overflow how ≡ false → (how ≡ Whole) ↔ (busy.bytes ≡ busy.len) → ((want got : ℕ) → how ≡ WrongSn want got → (walk_of set.a attempt).wrong ≡ Some (record { at = now; want = want; got = got })) →
-    ((wrong : Wrong) → (walk_of set.a attempt).wrong ≡ Some wrong → now ≤ wrong.at) → Tells set.chan.0 set.a (store set.path.0 calls) attempt (ended set busy how now)
-tells-ended set busy how calls now attempt len begin by bytes early puts other whole wrong passed = record {
-  chan_is = refl;
-  len = len;
-  begin = begin;
-  order = by;
-  opens = rw other refl;
-  overflow = λ is. absurd (differ other is);
-  covers = λ is. record { first = (walk_of set.a attempt).pieces; rest = []; all = sym (append-nil (walk_of set.a attempt).pieces); sum = bytes; none_above = early; all_below = tt };
-  whole = λ is. whole;
-  within = omega (arith, bytes);
-  puts = λ opened at. let same : busy.opened ≡ opened = cc in ap (λ (o : OpenedAt). store set.path.0 calls o.seq) (sym same) ∙ puts ∙ sym (take_all busy.bytes (reassembled set.a attempt) (omega (arith, bytes)));
-  wrong = λ want got is. (bytes, wrong want got is);
-  none_passed = passed;
-}
+    ((wrong : Wrong) → (walk_of set.a attempt).wrong ≡ Some wrong → now ≤ wrong.at) → TellsPut set.chan.0 set.a (store set.path.0 calls) attempt (ended set busy how now)
+tells-ended set busy how calls now attempt len begin by bytes early puts other whole wrong passed = (
+  record {
+    chan_is = refl;
+    len = len;
+    begin = begin;
+    order = by;
+    opens = rw other refl;
+    overflow = λ is. absurd (differ other is);
+    covers = λ is. record {
+      first = (walk_of set.a attempt).pieces;
+      rest = [];
+      all = sym (append-nil (walk_of set.a attempt).pieces);
+      some = pieces-some set.a attempt;
+      sum = bytes;
+      none_above = early;
+      all_below = tt;
+    };
+    whole = λ is. whole;
+    within = omega (arith, bytes);
+    wrong = λ want got is. (bytes, wrong want got is);
+    none_passed = passed;
+  },
+  λ opened at. let same : busy.opened ≡ opened = cc in ap (λ (o : OpenedAt). store set.path.0 calls o.seq) (sym same) ∙ puts ∙ sym (take_all busy.bytes (reassembled set.a attempt) (omega (arith, bytes))),
+)
 
 -- a reception that ends so, by its record
-over-ends : (set : RxSet) (next seq : ℕ) (busy : Busy) (how : SessionResult) (calls : List Event) (now : ℕ) (seen : List Seen) (records : List SessionRecord) (earlier : List (Cut Seen)) (attempt : Cut Seen) →
+over-ends : (set : RxSet) (next seq : ℕ) (busy : Reception) (how : SessionResult) (calls : List Event) (now : ℕ) (seen : List Seen) (records : List SessionRecord) (earlier : List (Cut Seen)) (attempt : Cut Seen) →
     attempts_in set.functional seen ≡ earlier ++ attempt ∷ [] → AreTold set calls now earlier records → busy.n ≡ length records → next ≡ length records + 1 → busy.opened.seq ≡ length (sessions_in records) → seq ≡ length (sessions_in records) + 1 →
-    ((number : ℕ) → seq ≤ number → store set.path.0 calls number ≡ []) → Tells set.chan.0 set.a (store set.path.0 calls) attempt (ended set busy how now) → IsIdle set next seq calls now seen (records ++ ended set busy how now ∷ [])
+    ((number : ℕ) → seq ≤ number → store set.path.0 calls number ≡ []) → TellsPut set.chan.0 set.a (store set.path.0 calls) attempt (ended set busy how now) → IsIdle set next seq calls now seen (records ++ ended set busy how now ∷ [])
 over-ends set next seq busy how calls now seen records earlier attempt cut told n next_is at seq_is fresh tells =
     let r : SessionRecord = ended set busy how now in
     let P : List (Cut Seen) → Type 0 = λ attempts. AreTold set calls now attempts (records ++ r ∷ []) in
@@ -217,20 +238,20 @@ over-ends set next seq busy how calls now seen records earlier attempt cut told 
     }
 
 -- a reception ends, not by a wrong number
-pub closes : (set : RxSet) (next seq : ℕ) (busy : Busy) (how : SessionResult) (calls : List Event) (now : ℕ) (seen : List Seen) (records : List SessionRecord) → IsBusy set next seq busy calls now seen records →
+pub closes : (set : RxSet) (next seq : ℕ) (busy : Reception) (how : SessionResult) (calls : List Event) (now : ℕ) (seen : List Seen) (records : List SessionRecord) → IsBusy set next seq busy calls now seen records →
     is_overflow how ≡ false → (how ≡ Whole) ↔ (busy.bytes ≡ busy.len) → ((want got : ℕ) → how ≡ WrongSn want got → ⊥) → IsIdle set next seq calls now seen (records ++ ended set busy how now ∷ [])
 closes set next seq busy how calls now seen records so other whole right =
     over-ends set next seq busy how calls now seen records so.earlier so.attempt so.cut so.told so.n_is so.next_is so.at_is so.seq_is so.fresh
     (tells-ended set busy how calls now so.attempt so.underway.len so.underway.begin so.underway.by so.underway.bytes so.underway.early so.underway.puts other whole (λ want got is. absurd (right want got is)) (λ wrong is. absurd (none-some so.underway.right is)))
 
 -- the bytes that are due, by the reception and by the attempt
-pub due-is : (set : RxSet) (busy : Busy) (calls : List Event) (now : ℕ) (attempt : Cut Seen) → IsUnderway set busy calls now attempt → busy_due set.a busy ≡ due set.a (walk_of set.a attempt)
+pub due-is : (set : RxSet) (busy : Reception) (calls : List Event) (now : ℕ) (attempt : Cut Seen) → IsUnderway set busy calls now attempt → busy_due set.a busy ≡ due set.a (walk_of set.a attempt)
 due-is set busy calls now attempt so =
     let len : busy.len ≡ (walk_of set.a attempt).len = so.len ∙ sym (len-walk_of set.a attempt) in
     rw (so.size, so.bytes, len) refl
 
 -- a reception ends by a wrong number
-pub closes-wrong : (set : RxSet) (next seq : ℕ) (busy : Busy) (calls : List Event) (at size number : ℕ) (bytes : List ℕ) (seen : List Seen) (records : List SessionRecord) → IsBusy set next seq busy calls at seen records → busy.bytes < busy.len →
+pub closes-wrong : (set : RxSet) (next seq : ℕ) (busy : Reception) (calls : List Event) (at size number : ℕ) (bytes : List ℕ) (seen : List Seen) (records : List SessionRecord) → IsBusy set next seq busy calls at seen records → busy.bytes < busy.len →
     size ≤ busy.size → busy_due set.a busy ≤ length bytes → number ≢ busy.number →
     IsIdle set next seq calls at (seen ++ record { at = at; size = size; meaning = ConsecutiveFrame number bytes } ∷ []) (records ++ ended set busy (WrongSn busy.number number) at ∷ [])
 closes-wrong set next seq busy calls at size number bytes seen records so more short enough other =
@@ -248,7 +269,7 @@ closes-wrong set next seq busy calls at size number bytes seen records so more s
     (λ passed stands. let same : Some wrong ≡ Some passed = sym (ap (λ (v : Walk). v.wrong) is) ∙ stands in let eq : wrong ≡ passed = cc in omega (arith, ap (λ (x : Wrong). x.at) eq)))
 
 -- a consecutive frame counts, and its bytes are put
-pub goes-on : (set : RxSet) (next seq : ℕ) (busy : Busy) (calls more : List Event) (at size number : ℕ) (bytes : List ℕ) (seen : List Seen) (records : List SessionRecord) → IsBusy set next seq busy calls at seen records → busy.bytes < busy.len →
+pub goes-on : (set : RxSet) (next seq : ℕ) (busy : Reception) (calls more : List Event) (at size number : ℕ) (bytes : List ℕ) (seen : List Seen) (records : List SessionRecord) → IsBusy set next seq busy calls at seen records → busy.bytes < busy.len →
     size ≤ busy.size → busy_due set.a busy ≤ length bytes → number ≡ busy.number → Adds set.path.0 calls more busy.opened.seq (take (busy_due set.a busy) bytes) →
     IsBusy set next seq (gone_on busy (length (take (busy_due set.a busy) bytes)) at) (calls ++ more) at (seen ++ record { at = at; size = size; meaning = ConsecutiveFrame number bytes } ∷ []) records
 goes-on set next seq busy calls more at size number bytes seen records so left short enough right adds =
@@ -322,20 +343,22 @@ overflows set next seq len number free need calls seen records frame start len_i
     let sessions : sessions_in (records ++ r ∷ []) ≡ sessions_in records = flat_map-append opened_by records (r ∷ []) ∙ append-nil (sessions_in records) in
     record {
       told = subst P (sym (cuts-begin (λ (s : Seen). is_start set.functional s.meaning) seen frame start)) (told-push set calls frame.at (attempts_in set.functional seen) records (record { start = frame; after = [] }) r so.told
-          (record {
-            chan_is = refl;
-            len = len_is;
-            begin = refl;
-            order = omega arith;
-            opens = refl;
-            overflow = λ is. (refl, refl);
-            covers = λ is. cc;
-            whole = λ is. cc;
-            within = omega arith;
-            puts = λ opened is. cc;
-            wrong = λ want got is. cc;
-            none_passed = λ wrong is. cc;
-          })
+          (
+            record {
+              chan_is = refl;
+              len = len_is;
+              begin = refl;
+              order = omega arith;
+              opens = refl;
+              overflow = λ is. (refl, refl);
+              covers = λ is. cc;
+              whole = λ is. cc;
+              within = omega arith;
+              wrong = λ want got is. cc;
+              none_passed = λ wrong is. cc;
+            },
+            λ opened is. cc,
+          )
           so.next_is (omega arith) (rw append-nil so.told.sessions) (λ opened is. cc));
       next_is = rw length-append (omega (arith, so.next_is));
       seq_is = so.seq_is ∙ ap length (sym sessions);

@@ -1,12 +1,12 @@
 -- What calls put into the sessions of a path.
 use Rattle.std.proofs.Common.{◌≡◌, ◌≢◌, ℕ, List, [], ◌∷◌, ◌++◌, refl, ap, sym, ◌∙◌, append-nil, eq-eqb}
+use Rattle.tp_receiver.specs.Table.{puts}
+use Rattle.tp_receiver.specs.Runs.{cell_in, cells_in}
 use Rattle.std.specs.Prelude.{map}
 use Rattle.std.proofs.lemmas.Bool.{ne_eqb}
 use Rattle.std.proofs.lemmas.Grind.{flat_map-append}
 use Rattle.gw_base.specs.Cell.{bytes_of, cell_bytes, counted}
 use Rattle.hub_core.specs.View.{Event, Put, Published}
-use Rattle.tp_receiver.specs.Rows.{puts}
-use Rattle.tp_receiver.specs.Running.{cell_in, cells_in}
 
 -- the bytes that calls put into the session of a number
 abbrev pub store : ℕ → List Event → ℕ → List ℕ

@@ -11,7 +11,7 @@ use Rattle.tp_attempts.specs.Walk.{Piece, Walk, Wrong, due, due_number, is_open,
 use Rattle.tp_attempts.proofs.Cuts.{grow, grow_after}
 use Rattle.tp_attempts.proofs.Walks.{look-ended, walk_of-more}
 use Rattle.tp_unit.specs.Unit.{Meaning, SingleFrame, FirstFrame, ConsecutiveFrame, FlowControl, NoUnit}
-use Rattle.gw_law.specs.Source.{CountsFrom, Covers, Tells}
+use Rattle.gw_law.specs.Source.{CountsFrom, Covers, Puts, Tells}
 use Rattle.gw_law.proofs.Lists.{all-join}
 
 -- the attempt with one more frame
@@ -63,14 +63,15 @@ covers-more pieces after more bytes end tick late grown above covers = record {
   first = covers.first;
   rest = covers.rest ++ more;
   all = grown ∙ ap (λ p. p ++ more) covers.all ∙ append_assoc covers.first covers.rest more;
+  some = covers.some;
   sum = covers.sum;
   none_above = covers.none_above;
   all_below = all-join (λ (piece : Piece). end ≤ piece.at) covers.rest more covers.all_below (all-later end tick late more above);
 }
 
 -- a frame of the end's tick or later changes nothing that is told
-pub tells-more : (chan address : ℕ) (stored : ℕ → List ℕ) (attempt : Cut Seen) (told : SessionRecord) (frame : Seen) → told.end.0 ≤ frame.at → Tells chan address stored attempt told → Tells chan address stored (with_frame attempt frame) told
-tells-more chan address stored attempt told frame late tells =
+pub tells-more : (chan address : ℕ) (attempt : Cut Seen) (told : SessionRecord) (frame : Seen) → told.end.0 ≤ frame.at → Tells chan address attempt told → Tells chan address (with_frame attempt frame) told
+tells-more chan address attempt told frame late tells =
     let W : Walk = look_at address (walk_of address attempt) frame.at frame.size frame.meaning in
     let is : walk_of address (with_frame attempt frame) ≡ W = walk_of-more address attempt frame in
     let on : Looked (walk_of address attempt) W frame.at = looked address (walk_of address attempt) frame.at frame.size frame.meaning in
@@ -86,50 +87,45 @@ tells-more chan address stored attempt told frame late tells =
       covers = λ other. covers-more (walk_of address attempt).pieces (walk_of address (with_frame attempt frame)).pieces on.more told.bytes told.end.0 frame.at late grown on.late (tells.covers other);
       whole = tells.whole;
       within = rw (bytes, length-append) (omega (arith, tells.within));
-      puts = λ opened at. tells.puts opened at ∙ sym (ap (take told.bytes) bytes ∙ take-append-le told.bytes (reassembled address attempt) (joined on.more) tells.within);
       wrong = λ want got ends.
           let stays : walk_of address (with_frame attempt frame) ≡ walk_of address attempt = is ∙ look-ended address (walk_of address attempt) frame.at frame.size frame.meaning (record { at = told.end.0; want = want; got = got }) (tells.wrong want got ends).1 in
           ((tells.wrong want got ends).0 ∙ ap (λ (w : Walk). length (joined w.pieces)) (sym stays), ap (λ (w : Walk). w.wrong) stays ∙ (tells.wrong want got ends).1);
       none_passed = λ wrong stands. on.passed wrong told.end.0 tells.none_passed late (ap (λ (w : Walk). w.wrong) (sym is) ∙ stands);
     }
 
+-- nor what was put
+puts-more : (chan address : ℕ) (stored : ℕ → List ℕ) (attempt : Cut Seen) (told : SessionRecord) (frame : Seen) → Tells chan address attempt told → Puts address stored attempt told → Puts address stored (with_frame attempt frame) told
+puts-more chan address stored attempt told frame tells puts opened at =
+    let on : Looked (walk_of address attempt) (look_at address (walk_of address attempt) frame.at frame.size frame.meaning) frame.at = looked address (walk_of address attempt) frame.at frame.size frame.meaning in
+    let bytes : reassembled address (with_frame attempt frame) ≡ reassembled address attempt ++ joined on.more =
+    ap (λ (w : Walk). joined w.pieces) (walk_of-more address attempt frame) ∙ ap joined on.pieces ∙ flat_map-append (λ (p : Piece). p.bytes) (walk_of address attempt).pieces on.more in
+    puts opened at ∙ sym (ap (take told.bytes) bytes ∙ take-append-le told.bytes (reassembled address attempt) (joined on.more) tells.within)
+
+-- what a record says of its attempt, and of what was put
+abbrev pub TellsPut : (chan address : ℕ) → (stored : ℕ → List ℕ) → Cut Seen → SessionRecord → Type 0
+TellsPut chan address stored attempt told = Tells chan address attempt told × Puts address stored attempt told
+
 -- the last attempt takes a frame, and all records that ended by its tick tell on
 zip-grow_after : (chan address : ℕ) (stored : ℕ → List ℕ) (frame : Seen) (attempt : Cut Seen) (later : List (Cut Seen)) (records : List SessionRecord) →
-    AllByRecursion (λ (told : SessionRecord). told.end.0 ≤ frame.at) records → AllZip (Tells chan address stored) (attempt ∷ later) records → AllZip (Tells chan address stored) (grow_after frame attempt later) records
-zip-grow_after chan address stored frame attempt [] (told ∷ records) ended tells = (tells-more chan address stored attempt told frame ended.0 tells.0, tells.1)
+    AllByRecursion (λ (told : SessionRecord). told.end.0 ≤ frame.at) records → AllZip (TellsPut chan address stored) (attempt ∷ later) records → AllZip (TellsPut chan address stored) (grow_after frame attempt later) records
+zip-grow_after chan address stored frame attempt [] (told ∷ records) ended tells = ((tells-more chan address attempt told frame ended.0 tells.0.0, puts-more chan address stored attempt told frame tells.0.0 tells.0.1), tells.1)
 zip-grow_after chan address stored frame attempt [] [] ended tells = absurd tells
 zip-grow_after chan address stored frame attempt (next ∷ later) (told ∷ records) ended tells = (tells.0, zip-grow_after chan address stored frame next later records ended.1 tells.1)
 zip-grow_after chan address stored frame attempt (next ∷ later) [] ended tells = absurd tells
 
 pub zip-grow : (chan address : ℕ) (stored : ℕ → List ℕ) (frame : Seen) (attempts : List (Cut Seen)) (records : List SessionRecord) →
-    AllByRecursion (λ (told : SessionRecord). told.end.0 ≤ frame.at) records → AllZip (Tells chan address stored) attempts records → AllZip (Tells chan address stored) (grow frame attempts) records
+    AllByRecursion (λ (told : SessionRecord). told.end.0 ≤ frame.at) records → AllZip (TellsPut chan address stored) attempts records → AllZip (TellsPut chan address stored) (grow frame attempts) records
 zip-grow chan address stored frame [] records ended tells = tells
 zip-grow chan address stored frame (attempt ∷ later) records ended tells = zip-grow_after chan address stored frame attempt later records ended tells
 
 -- what is put elsewhere doesn't matter
-tells-stored : (chan address : ℕ) (old new : ℕ → List ℕ) (attempt : Cut Seen) (told : SessionRecord) → ((opened : OpenedAt) → told.opened ≡ Some opened → new opened.seq ≡ old opened.seq) → Tells chan address old attempt told → Tells chan address new attempt told
-tells-stored chan address old new attempt told same tells = record {
-  chan_is = tells.chan_is;
-  len = tells.len;
-  begin = tells.begin;
-  order = tells.order;
-  opens = tells.opens;
-  overflow = tells.overflow;
-  covers = tells.covers;
-  whole = tells.whole;
-  within = tells.within;
-  puts = λ opened at. same opened at ∙ tells.puts opened at;
-  wrong = tells.wrong;
-  none_passed = tells.none_passed;
-}
-
 pub zip-stored : (chan address seq : ℕ) (old new : ℕ → List ℕ) (attempts : List (Cut Seen)) (records : List SessionRecord) → ((number : ℕ) → number < seq → new number ≡ old number) →
-    AllByRecursion (λ (told : SessionRecord). (opened : OpenedAt) → told.opened ≡ Some opened → opened.seq < seq) records → AllZip (Tells chan address old) attempts records → AllZip (Tells chan address new) attempts records
+    AllByRecursion (λ (told : SessionRecord). (opened : OpenedAt) → told.opened ≡ Some opened → opened.seq < seq) records → AllZip (TellsPut chan address old) attempts records → AllZip (TellsPut chan address new) attempts records
 zip-stored chan address seq old new [] [] same below tells = tt
 zip-stored chan address seq old new [] (told ∷ records) same below tells = absurd tells
 zip-stored chan address seq old new (attempt ∷ attempts) [] same below tells = absurd tells
 zip-stored chan address seq old new (attempt ∷ attempts) (told ∷ records) same below tells =
-    (tells-stored chan address old new attempt told (λ opened at. same opened.seq (below.0 opened at)) tells.0, zip-stored chan address seq old new attempts records same below.1 tells.1)
+    ((tells.0.0, λ opened at. same opened.seq (below.0 opened at) ∙ tells.0.1 opened at), zip-stored chan address seq old new attempts records same below.1 tells.1)
 
 -- a number more
 pub counts-push : (first number : ℕ) (numbers : List ℕ) → CountsFrom first numbers → number ≡ first + length numbers → CountsFrom first (numbers ++ number ∷ [])

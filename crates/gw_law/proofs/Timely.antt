@@ -1,5 +1,8 @@
 -- The law of time, of every run: what leaves is no earlier than what came.
 use Rattle.std.proofs.Common.{◌≡◌, ℕ, ◌<◌, ◌≤◌, zero, suc, false, Option, Some, None, List, [], ◌∷◌, ◌++◌, length, take, refl, ap, sym, ◌∙◌, subst, arith, append-nil}
+use Rattle.tp_receiver.specs.Runs.{HasReceived, put_in, frames_in}
+use Rattle.tp_receiver.specs.State.{RxTurn, rx_new}
+use Rattle.hub_core.specs.Turns.{calls_by, came_by, state_after, records_by}
 use Rattle.std.specs.Prelude.{filter, slice_get}
 use Rattle.std.specs.List.{AllByRecursion, AllZip}
 use Rattle.std.proofs.lemmas.List.{length-map}
@@ -12,7 +15,6 @@ use Rattle.tp_attempts.specs.Attempts.{attempts_in}
 use Rattle.tp_attempts.specs.Cuts.{Cut}
 use Rattle.tp_attempts.specs.Seen.{Seen}
 use Rattle.tp_receiver.specs.declared.set.RxSet.{RxSet}
-use Rattle.tp_receiver.specs.Running.{Happened as Received, RxTurn, calls_by as received_calls, put_in, seen_by, state_of, told_by as received_by}
 use Rattle.tp_sender.specs.declared.set.TxSet.{TxSet}
 use Rattle.tp_sender.specs.Sending.{Happened as WasSent, Moment, calls_by as sent_calls, cells_in as cells_read, left_by, state_from, told_by as sent_by}
 use Rattle.tp_sender.specs.State.{Sending}
@@ -64,7 +66,7 @@ joined-entered rx tx sizes works far =
     at-most tx v known (state_from moments).next far.readings joined (λ seq r is. let s = far.joint.2.streams.joined tx.path.0 tx.dest.0 seq r is in (s.0, s.1)) in
     let put = (openings rx turns far.received).fill empty_view refl in
     let entered : length (v.sessions rx.path.0) ≡ length (begins_by turns) =
-    ap length far.sessions ∙ sym (length-map ((grows (received_calls turns) empty_view).sessions rx.path.0) (writing rx.path.0).fixed) ∙ ap length put.fixed ∙ sym (begins-long turns) in
+    ap length far.sessions ∙ sym (length-map ((grows (calls_by turns) empty_view).sessions rx.path.0) (writing rx.path.0).fixed) ∙ ap length put.fixed ∙ sym (begins-long turns) in
     omega (arith, most, ap (λ p. length (v.sessions p)) (ap (λ p. p.0) far.path), entered)
 
 live-map : (Q R : ℕ → ℕ → Type 0) (live : Option Sending) → ((seq begin : ℕ) → Q seq begin → R seq begin) → OfLive Q live → OfLive R live
@@ -112,9 +114,9 @@ read-put rx tx sizes works seq (Some r) far is =
     let put = (openings rx (turns_of works) far.received).fill empty_view refl in
     let known = far.joint.2.streams.joined tx.path.0 tx.dest.0 seq r (ap (λ l. slice_get l seq) far.readings ∙ is) in
     let s : Session = known.0 in
-    let session : slice_get ((grows (received_calls (turns_of works)) empty_view).sessions rx.path.0) seq ≡ Some s =
+    let session : slice_get ((grows (calls_by (turns_of works)) empty_view).sessions rx.path.0) seq ≡ Some s =
     sym (ap (λ l. slice_get l seq) far.sessions) ∙ ap (λ (p : ℕ). slice_get ((view_of works).sessions p) seq) (sym (ap (λ p. p.0) far.path)) ∙ known.1 in
-    let cells : s.cells ≡ put_in rx (turns_of works) seq = sym (cells_at-there (λ (x : Session). x.cells) seq ((grows (received_calls (turns_of works)) empty_view).sessions rx.path.0) s session) ∙ put.cells seq in
+    let cells : s.cells ≡ put_in rx (turns_of works) seq = sym (cells_at-there (λ (x : Session). x.cells) seq ((grows (calls_by (turns_of works)) empty_view).sessions rx.path.0) s session) ∙ put.cells seq in
     let cells_were : r.cells ≡ cells_read seq (sent_calls (moments_of works)) = sym (cells_at-there (λ (x : Reading). x.cells) seq ((grows (sent_calls (moments_of works)) empty_view).readings tx.path.0 tx.dest.0) r is) ∙ read.cells seq in
     (front-bytes (put_in rx (turns_of works) seq) (bytes_of (cells_read seq (sent_calls (moments_of works)))) (length r.cells) 0 (ap bytes_of (sym cells_were ∙ known.2.prefix) ∙ ap (λ c. bytes_of (take (length r.cells) c)) cells) (omega arith)).0
 
@@ -131,13 +133,13 @@ record IsAt (tx : TxSet) (k : ℕ) (cut : Cut Seen) (told : DestRecord) (moments
 
 -- a session's record, and the unit in its place
 record IsOf (rx : RxSet) (place : ℕ) (unit : Cut Seen) (session : SessionRecord) (turns : List RxTurn) : Type 0 where
-  received : Received rx turns
-  idle : (state_of turns).busy ≡ None
-  unit_is : slice_get (attempts_in rx.functional (seen_by turns)) place ≡ Some unit
-  session_is : slice_get (received_by turns) place ≡ Some session
+  received : HasReceived rx turns
+  idle : (state_after rx_new turns).busy ≡ None
+  unit_is : slice_get (attempts_in rx.functional (came_by frames_in turns)) place ≡ Some unit
+  session_is : slice_get (records_by turns) place ≡ Some session
 
 is-timely : (rx : RxSet) (tx : TxSet) (sizes : List ℕ) (last count free : ℕ) (ticks : List Work) (end : Work) (d : Delivery) (k : ℕ) (cut : Cut Seen) (told : DestRecord) → IsRun rx tx sizes last count free ticks end →
-    d.address ≡ address_size tx.shape → d.source ≡ rx.a → d.functional ≡ rx.functional → d.seen ≡ seen_by (turns_of (end ∷ ticks)) → d.received ≡ received_by (turns_of (end ∷ ticks)) → IsAt tx k cut told (moments_of (end ∷ ticks)) → IsTimely d cut told
+    d.address ≡ address_size tx.shape → d.source ≡ rx.a → d.functional ≡ rx.functional → d.seen ≡ came_by frames_in (turns_of (end ∷ ticks)) → d.received ≡ records_by (turns_of (end ∷ ticks)) → IsAt tx k cut told (moments_of (end ∷ ticks)) → IsTimely d cut told
 is-timely rx tx sizes last count free ticks end d k cut told run address source functional seen received at unit session named tick =
     let works : List Work = end ∷ ticks in
     let up : UpTo tick works = up-to tick works (run-rising rx tx sizes last count free ticks end run) in
@@ -157,7 +159,7 @@ is-timely rx tx sizes last count free ticks end d k cut told run address source 
     let is : IsOf rx named.place unit session (turns_of up.later ++ turns_of up.front) = subst R (ap turns_of (sym up.is) ∙ turns-append up.later up.front) of in
     let sent = sent-up-to tx (moments_of up.later) (moments_of up.front) tick k cut told run.shape so.sent (moments-in (λ (t : ℕ). tick < t) up.later both.0 up.late) (moments-in (λ (t : ℕ). t ≤ tick) up.front both.1 up.early) so.cut_is so.told_is so.sends in
     let put = put-up-to rx (turns_of up.later) (turns_of up.front) tick named.place unit session named.opened is.received is.idle (turns-in (λ (t : ℕ). tick < t) up.later both.0 up.late) (turns-in (λ (t : ℕ). t ≤ tick) up.front both.1 up.early) is.unit_is is.session_is named.opened_is in
-    rw (address, source) (omega (arith, sent, read-put rx tx sizes up.front told.seq _ far refl, ap (λ n. length (store rx.path.0 (received_calls (turns_of up.front)) n)) named.seq_is, put))
+    rw (address, source) (omega (arith, sent, read-put rx tx sizes up.front told.seq _ far refl, ap (λ n. length (store rx.path.0 (calls_by (turns_of up.front)) n)) named.seq_is, put))
 
 any-tick : (works : List Work) → AllByRecursion (WorkIn (λ (t : ℕ). Unit {0})) works
 any-tick [] = tt
@@ -179,11 +181,11 @@ timely rx tx shape source_budget budget sizes last count free ticks end run =
     let transfer : TransferLaw t = law tx (moments_of works) run.shape run.sent in
     let ended : attempts_in false t.frames ≡ transfer.ended = transfer.cut ∙ all-ended t t.now t.live transfer.ended transfer.going run.ends.idle.sender transfer.goes_on in
     let sends : AllZip (SendsFor t) (attempts_in false t.frames) (filter has_sent t.records) = rw ended transfer.sends in
-    let begins : begins_by (turns_of works) ≡ begins_told (received_by (turns_of works)) =
-    begins-are rx (turns_of works) run.received ∙ ap (λ b. begins_told (received_by (turns_of works)) ++ begin_going b) run.ends.idle.receiver ∙ append-nil (begins_told (received_by (turns_of works))) in
+    let begins : begins_by (turns_of works) ≡ begins_told (records_by (turns_of works)) =
+    begins-are rx (turns_of works) run.received ∙ ap (λ b. begins_told (records_by (turns_of works)) ++ begin_going b) run.ends.idle.receiver ∙ append-nil (begins_told (records_by (turns_of works))) in
     let begun : Originates (IsBegun (begins_by (turns_of works))) (moments_of works) =
     begun-by rx tx sizes works (λ later front is. as-far-up-to rx tx sizes last count free ticks end later front is run) timed (run-rising rx tx sizes last count free ticks end run) in
-    let counts : CountsFrom 0 (sessions_in (received_by (turns_of works))) = (source_law_of rx (turns_of works) run.received run.ends.idle.receiver).sessions in
+    let counts : CountsFrom 0 (sessions_in (records_by (turns_of works))) = (source_law_of rx (turns_of works) run.received run.ends.idle.receiver).sessions in
     let frames : AreWritten tx.shape (left_by tx.shape (moments_of works)) = written (λ (n : ℕ). Unit {0}) tx (moments_of works) run.shape run.sent (moments-in (λ (n : ℕ). Unit {0}) works timed (any-tick works)) in
     record {
       begins = all-weaker (OfTold (IsBegun (begins_by (turns_of works)))) (BeginsAfter d) (sent_by (moments_of works)) (λ told of. begins-after d (begins_by (turns_of works)) told begins counts of) begun.told;

@@ -1,8 +1,9 @@
 -- What holds of a run's works, and of each front of them: the hub's view is what the calls of both parties made.
 use Rattle.std.proofs.Common.{◌≡◌, ℕ, ◌^◌, ◌-◌, List, [], ◌∷◌, ◌++◌, length, refl, ap, sym, ◌∙◌, subst, arith}
-use Rattle.gw_base.specs.Cell.{bytes_of}
+use Rattle.tp_receiver.specs.State.{RxTurn}
+use Rattle.tp_receiver.specs.Runs.{HasReceived}
+use Rattle.hub_core.specs.Turns.{calls_by}
 use Rattle.hub_core.specs.View.{View, Event, empty_view, grows}
-use Rattle.tp_receiver.specs.Running.{RxTurn, Happened as Received, calls_by as received_calls, put_in}
 use Rattle.tp_receiver.specs.declared.set.RxSet.{RxSet}
 use Rattle.tp_sender.specs.Sending.{Moment, Happened as WasSent, calls_by as sent_calls}
 use Rattle.tp_sender.specs.declared.set.TxSet.{TxSet}
@@ -20,20 +21,20 @@ use Rattle.gw_law.proofs.SourceLaws.{source_law_of}
 
 -- the path's sessions in a view are what the receiver's calls made
 abbrev pub OwnSessions : RxSet → List RxTurn → View → Type 0
-OwnSessions rx turns v = v.sessions rx.path.0 ≡ (grows (received_calls turns) empty_view).sessions rx.path.0
+OwnSessions rx turns v = v.sessions rx.path.0 ≡ (grows (calls_by turns) empty_view).sessions rx.path.0
 
 -- the destination's readings are what the sender's calls made
 abbrev pub OwnReadings : TxSet → List Moment → View → Type 0
 OwnReadings tx moments v = v.readings tx.path.0 tx.dest.0 ≡ (grows (sent_calls moments) empty_view).readings tx.path.0 tx.dest.0
 
 -- the receiver's part of a tick
-sessions-turned : (rx : RxSet) (turns earlier : List RxTurn) (v : View) → OwnSessions rx earlier v → OwnSessions rx (turns ++ earlier) (grows (received_calls turns) v)
+sessions-turned : (rx : RxSet) (turns earlier : List RxTurn) (v : View) → OwnSessions rx earlier v → OwnSessions rx (turns ++ earlier) (grows (calls_by turns) v)
 sessions-turned rx turns earlier v so =
-    let P : List Event → Type 0 = λ c. (grows (received_calls turns) v).sessions rx.path.0 ≡ (grows c empty_view).sessions rx.path.0 in
-    subst P (sym (received-calls turns earlier)) (sessions-grown rx.path.0 (received_calls earlier) (received_calls turns) v (grows (received_calls turns) v) refl so)
+    let P : List Event → Type 0 = λ c. (grows (calls_by turns) v).sessions rx.path.0 ≡ (grows c empty_view).sessions rx.path.0 in
+    subst P (sym (received-calls turns earlier)) (sessions-grown rx.path.0 (calls_by earlier) (calls_by turns) v (grows (calls_by turns) v) refl so)
 
-readings-turned : (rx : RxSet) (tx : TxSet) (turns earlier : List RxTurn) (moments : List Moment) (v : View) → Received rx (turns ++ earlier) → OwnReadings tx moments v → OwnReadings tx moments (grows (received_calls turns) v)
-readings-turned rx tx turns earlier moments v received so = ap (λ (r : ℕ → ℕ → List _). r tx.path.0 tx.dest.0) (readings-stay rx.path.0 (received_calls turns) v (received-writes rx turns earlier received)) ∙ so
+readings-turned : (rx : RxSet) (tx : TxSet) (turns earlier : List RxTurn) (moments : List Moment) (v : View) → HasReceived rx (turns ++ earlier) → OwnReadings tx moments v → OwnReadings tx moments (grows (calls_by turns) v)
+readings-turned rx tx turns earlier moments v received so = ap (λ (r : ℕ → ℕ → List _). r tx.path.0 tx.dest.0) (readings-stay rx.path.0 (calls_by turns) v (received-writes rx turns earlier received)) ∙ so
 
 -- the sender's part of a tick
 sessions-sent : (rx : RxSet) (tx : TxSet) (turns : List RxTurn) (moments earlier : List Moment) (v : View) → WasSent tx (moments ++ earlier) → OwnSessions rx turns v → OwnSessions rx turns (grows (sent_calls moments) v)
@@ -45,22 +46,22 @@ readings-sent tx moments earlier v so =
     subst P (sym (sent-calls moments earlier)) (readings-grown tx.path.0 tx.dest.0 (sent_calls earlier) (sent_calls moments) v (grows (sent_calls moments) v) refl so)
 
 -- after some works, and in the midst of a work after them
-pub sessions-own : (rx : RxSet) (tx : TxSet) (works : List Work) → Received rx (turns_of works) → WasSent tx (moments_of works) → OwnSessions rx (turns_of works) (view_of works)
+pub sessions-own : (rx : RxSet) (tx : TxSet) (works : List Work) → HasReceived rx (turns_of works) → WasSent tx (moments_of works) → OwnSessions rx (turns_of works) (view_of works)
 sessions-own rx tx [] received sent = refl
 sessions-own rx tx (work ∷ earlier) received sent =
     sessions-sent rx tx (turns_of (work ∷ earlier)) work.moments (moments_of earlier) (view_between earlier work) sent
     (sessions-turned rx work.turns (turns_of earlier) (view_of earlier) (sessions-own rx tx earlier (received-front rx work.turns (turns_of earlier) received) (sent-front tx work.moments (moments_of earlier) sent)))
 
-pub readings-own : (rx : RxSet) (tx : TxSet) (works : List Work) → Received rx (turns_of works) → WasSent tx (moments_of works) → OwnReadings tx (moments_of works) (view_of works)
+pub readings-own : (rx : RxSet) (tx : TxSet) (works : List Work) → HasReceived rx (turns_of works) → WasSent tx (moments_of works) → OwnReadings tx (moments_of works) (view_of works)
 readings-own rx tx [] received sent = refl
 readings-own rx tx (work ∷ earlier) received sent =
     readings-sent tx work.moments (moments_of earlier) (view_between earlier work)
     (readings-turned rx tx work.turns (turns_of earlier) (moments_of earlier) (view_of earlier) received (readings-own rx tx earlier (received-front rx work.turns (turns_of earlier) received) (sent-front tx work.moments (moments_of earlier) sent)))
 
-pub sessions-between : (rx : RxSet) (tx : TxSet) (earlier : List Work) (work : Work) → Received rx (turns_of (work ∷ earlier)) → WasSent tx (moments_of earlier) → OwnSessions rx (turns_of (work ∷ earlier)) (view_between earlier work)
+pub sessions-between : (rx : RxSet) (tx : TxSet) (earlier : List Work) (work : Work) → HasReceived rx (turns_of (work ∷ earlier)) → WasSent tx (moments_of earlier) → OwnSessions rx (turns_of (work ∷ earlier)) (view_between earlier work)
 sessions-between rx tx earlier work received sent = sessions-turned rx work.turns (turns_of earlier) (view_of earlier) (sessions-own rx tx earlier (received-front rx work.turns (turns_of earlier) received) sent)
 
-pub readings-between : (rx : RxSet) (tx : TxSet) (earlier : List Work) (work : Work) → Received rx (turns_of (work ∷ earlier)) → WasSent tx (moments_of earlier) → OwnReadings tx (moments_of earlier) (view_between earlier work)
+pub readings-between : (rx : RxSet) (tx : TxSet) (earlier : List Work) (work : Work) → HasReceived rx (turns_of (work ∷ earlier)) → WasSent tx (moments_of earlier) → OwnReadings tx (moments_of earlier) (view_between earlier work)
 readings-between rx tx earlier work received sent =
     readings-turned rx tx work.turns (turns_of earlier) (moments_of earlier) (view_of earlier) received (readings-own rx tx earlier (received-front rx work.turns (turns_of earlier) received) sent)
 
@@ -68,7 +69,7 @@ readings-between rx tx earlier work received sent =
 pub record AsFar (rx : RxSet) (tx : TxSet) (sizes : List ℕ) (works : List Work) : Type 0 where
   pub shape : IsShape tx.shape
   pub path : tx.path ≡ rx.path
-  pub received : Received rx (turns_of works)
+  pub received : HasReceived rx (turns_of works)
   pub sent : WasSent tx (moments_of works)
   pub joint : IsJoint sizes (view_of works)
   pub sessions : OwnSessions rx (turns_of works) (view_of works)
@@ -77,7 +78,7 @@ pub record AsFar (rx : RxSet) (tx : TxSet) (sizes : List ℕ) (works : List Work
 -- the same in the midst of a work after them
 pub record AsFarWithin (rx : RxSet) (tx : TxSet) (sizes : List ℕ) (earlier : List Work) (work : Work) : Type 0 where
   pub before : AsFar rx tx sizes earlier
-  pub received : Received rx (turns_of (work ∷ earlier))
+  pub received : HasReceived rx (turns_of (work ∷ earlier))
   pub joint : IsJoint sizes (view_between earlier work)
   pub sessions : OwnSessions rx (turns_of (work ∷ earlier)) (view_between earlier work)
   pub readings : OwnReadings tx (moments_of earlier) (view_between earlier work)
@@ -107,7 +108,7 @@ joint-far : (sizes : List ℕ) (works : List Work) → AreTicks sizes works → 
 joint-far sizes [] ticks = joint-empty sizes
 joint-far sizes (work ∷ earlier) ticks = ticks.0.after
 
-far : (rx : RxSet) (tx : TxSet) (sizes : List ℕ) (works : List Work) → IsShape tx.shape → tx.path ≡ rx.path → Received rx (turns_of works) → WasSent tx (moments_of works) → IsJoint sizes (view_of works) → AsFar rx tx sizes works
+far : (rx : RxSet) (tx : TxSet) (sizes : List ℕ) (works : List Work) → IsShape tx.shape → tx.path ≡ rx.path → HasReceived rx (turns_of works) → WasSent tx (moments_of works) → IsJoint sizes (view_of works) → AsFar rx tx sizes works
 far rx tx sizes works shape path received sent joint = record {
   shape = shape;
   path = path;
@@ -118,7 +119,7 @@ far rx tx sizes works shape path received sent joint = record {
   readings = readings-own rx tx works received sent;
 }
 
-within : (rx : RxSet) (tx : TxSet) (sizes : List ℕ) (earlier : List Work) (work : Work) → AsFar rx tx sizes earlier → Received rx (turns_of (work ∷ earlier)) → IsJoint sizes (view_between earlier work) → AsFarWithin rx tx sizes earlier work
+within : (rx : RxSet) (tx : TxSet) (sizes : List ℕ) (earlier : List Work) (work : Work) → AsFar rx tx sizes earlier → HasReceived rx (turns_of (work ∷ earlier)) → IsJoint sizes (view_between earlier work) → AsFarWithin rx tx sizes earlier work
 within rx tx sizes earlier work before received joint = record {
   before = before;
   received = received;
@@ -132,7 +133,7 @@ pub ticks-front : (sizes : List ℕ) (later works : List Work) → AreTicks size
 ticks-front sizes [] works ticks = ticks
 ticks-front sizes (work ∷ later) works ticks = ticks-front sizes later works ticks.1
 
-received-works : (rx : RxSet) (later works : List Work) → Received rx (turns_of (later ++ works)) → Received rx (turns_of works)
+received-works : (rx : RxSet) (later works : List Work) → HasReceived rx (turns_of (later ++ works)) → HasReceived rx (turns_of works)
 received-works rx [] works received = received
 received-works rx (work ∷ later) works received = received-works rx later works (received-front rx work.turns (turns_of (later ++ works)) received)
 
@@ -187,5 +188,5 @@ route-each rx tx shape source_budget budget sizes last count free ticks end run 
     each_session_of rx (turns_of (end ∷ ticks)) tx (moments_of (end ∷ ticks)) (view_of (end ∷ ticks)) (whole-runs rx tx sizes last count free ticks end run) run.ends.joined
 
 pub route-source : (rx : RxSet) (tx : TxSet) (shape : Shape) (source_budget budget : ℕ) (sizes : List ℕ) (last count free : ℕ) (ticks : List Work) (end : Work) → IsRun rx tx sizes last count free ticks end →
-    (stored : ℕ → List ℕ) × SourceLaw rx.chan.0 rx.a rx.functional stored (route_of rx tx shape source_budget budget sizes last count free ticks end).seen (route_of rx tx shape source_budget budget sizes last count free ticks end).sessions
-route-source rx tx shape source_budget budget sizes last count free ticks end run = (λ seq. bytes_of (put_in rx (turns_of (end ∷ ticks)) seq), source_law_of rx (turns_of (end ∷ ticks)) run.received run.ends.idle.receiver)
+    SourceLaw rx.chan.0 rx.a rx.functional (route_of rx tx shape source_budget budget sizes last count free ticks end).seen (route_of rx tx shape source_budget budget sizes last count free ticks end).sessions
+route-source rx tx shape source_budget budget sizes last count free ticks end run = source_law_of rx (turns_of (end ∷ ticks)) run.received run.ends.idle.receiver

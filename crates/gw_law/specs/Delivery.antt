@@ -1,5 +1,8 @@
 -- What a destination delivers of a source channel's units, by the records of both (ISO 15765-2, segmentation and reassembly).
 use Rattle.std.specs.Prelude.{◌≡◌, ℕ, ◌≤◌, ◌↔◌, Bool, false, Some, None, List, filter, map, slice_get, take}
+use Rattle.tp_receiver.specs.State.{RxTurn, rx_new}
+use Rattle.tp_receiver.specs.Runs.{HasReceived, frames_in}
+use Rattle.hub_core.specs.Turns.{calls_by, came_by, state_after, records_by}
 use Rattle.std.specs.List.{AllByRecursion, AllZip}
 use Rattle.hub_core.specs.Joint.{AreStreams}
 use Rattle.hub_core.specs.View.{View, empty_view, grows}
@@ -11,7 +14,6 @@ use Rattle.tp_attempts.specs.Attempts.{attempts_in}
 use Rattle.tp_attempts.specs.Cuts.{Cut}
 use Rattle.tp_attempts.specs.Seen.{Seen, len_of}
 use Rattle.tp_attempts.specs.Walk.{walk_of, reassembled}
-use Rattle.tp_receiver.specs.Running.{RxTurn, Happened as Received, calls_by as received_calls, seen_by, state_of, told_by as received_by}
 use Rattle.tp_receiver.specs.declared.set.RxSet.{RxSet}
 use Rattle.tp_sender.specs.Sending.{Answer, Moment, Happened as WasSent, calls_by as sent_calls, state_from}
 use Rattle.tp_sender.specs.declared.set.TxSet.{TxSet}
@@ -74,8 +76,8 @@ abbrev pub delivery_of : RxSet → List RxTurn → TxSet → List Moment → Del
 delivery_of rx turns tx moments = record {
   functional = rx.functional;
   source = rx.a;
-  seen = seen_by turns;
-  received = received_by turns;
+  seen = came_by frames_in turns;
+  received = records_by turns;
   address = (transfer_of tx moments).address;
   frames = (transfer_of tx moments).frames;
   answers = (transfer_of tx moments).answers;
@@ -87,12 +89,12 @@ delivery_of rx turns tx moments = record {
 pub record AreWholeRuns (rx : RxSet) (turns : List RxTurn) (tx : TxSet) (moments : List Moment) (v : View) : Type 0 where
   pub shape : IsShape tx.shape
   pub path : tx.path ≡ rx.path
-  pub received : Received rx turns
-  pub idle : (state_of turns).busy ≡ None
+  pub received : HasReceived rx turns
+  pub idle : (state_after rx_new turns).busy ≡ None
   pub sent : WasSent tx moments
   pub ended : (state_from moments).live ≡ None
   pub streams : AreStreams v
-  pub sessions : v.sessions rx.path.0 ≡ (grows (received_calls turns) empty_view).sessions rx.path.0
+  pub sessions : v.sessions rx.path.0 ≡ (grows (calls_by turns) empty_view).sessions rx.path.0
   pub readings : v.readings tx.path.0 tx.dest.0 ≡ (grows (sent_calls moments) empty_view).readings tx.path.0 tx.dest.0
 
 -- the destination's records are of the source's sessions: of each one, in order, and of no others

@@ -64,9 +64,8 @@ pub record LetsCome (r : Route) (w : Written) : Type 0 where
   pub of : IsOfSession r place told w
   pub says : said_in r w ≡ FlowControl 0 0 r.rx.st
 
--- a flow control that tells of no room is of the overflow of a first frame, and leaves within N_Ar
-pub record TellsNoRoom (r : Route) (w : Written) : Type 0 where
-  pub place : ℕ
+-- a flow control that tells of no room is of the overflow of a first frame, told at that place, and leaves within N_Ar
+pub record TellsNoRoom (r : Route) (place : ℕ) (w : Written) : Type 0 where
   pub told : SessionRecord
   pub overflow : IsSegmented r place told true
   pub from : told.begin.0 ≤ w.tick
@@ -76,10 +75,17 @@ pub record TellsNoRoom (r : Route) (w : Written) : Type 0 where
 abbrev pub NoneBegins : Route → (place tick : ℕ) → Type 0
 NoneBegins r place tick = (later : ℕ) (next : SessionRecord) → place < later → slice_get r.sessions later ≡ Some next → tick < next.begin.0
 
+-- each flow control that tells of no room is of an overflow, and each further one is of a later overflow: so none has two
+pub record AreOfOverflows (r : Route) : Type 0 where
+  -- the place of the overflow's record, by the place of the flow control
+  pub place_of : ℕ → ℕ
+  pub tells : (k : ℕ) (w : Written) → slice_get r.controls k ≡ Some w → HasStatus r 2 w → TellsNoRoom r (place_of k) w
+  pub rising : (k later : ℕ) (w next : Written) → k < later → slice_get r.controls k ≡ Some w → slice_get r.controls later ≡ Some next → HasStatus r 2 w → HasStatus r 2 next → place_of k < place_of later
+
 -- which flow controls leave, and where one that is owed doesn't leave its bus is full
 pub record FlowControlLaw (r : Route) : Type 0 where
   pub lets_come : AllByRecursion (λ (w : Written). HasStatus r 0 w → LetsCome r w) r.controls
-  pub no_room : AllByRecursion (λ (w : Written). HasStatus r 2 w → TellsNoRoom r w) r.controls
+  pub no_room : AreOfOverflows r
   -- after one that lets all frames come no further one of its session leaves
   pub last : (place separation : ℕ) (told : SessionRecord) (before after : List Written) (w : Written) → slice_get r.sessions place ≡ Some told → r.controls ≡ before ++ w ∷ after →
       IsOfSession r place told w → said_in r w ≡ FlowControl 0 0 separation → AllByRecursion (λ (next : Written). IsOfSession r place told next → ⊥) after

@@ -1,5 +1,6 @@
 -- Why records of a source and of a destination end, where the other one's part decides it (ISO 15765-2, timers; the causes are this project's own).
 use Rattle.std.specs.Prelude.{◌≡◌, ◌≢◌, ℕ, ◌+◌, ◌<◌, ◌≤◌, min, nat_lt, false, Some, List, filter, length, map, slice_get}
+use Rattle.tp_receiver.specs.Table.{cells_of}
 use Rattle.std.specs.List.{AllByRecursion, AllZip}
 use Rattle.hub_core.specs.declared.record.DestRecord.{DestRecord}
 use Rattle.hub_core.specs.declared.record.DestResult.{DestResult}
@@ -11,7 +12,6 @@ use Rattle.tp_attempts.specs.Attempts.{attempts_in}
 use Rattle.tp_attempts.specs.Cuts.{Cut}
 use Rattle.tp_attempts.specs.Seen.{Seen}
 use Rattle.tp_attempts.specs.Walk.{Piece, joined, walk_of}
-use Rattle.tp_receiver.specs.Rows.{cells_of}
 use Rattle.tp_sender.specs.Frame.{part_after}
 use Rattle.tp_unit.specs.Shape.{address_size}
 use Rattle.gw_law.specs.Delivery.{IsNamed}

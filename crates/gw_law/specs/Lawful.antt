@@ -1,11 +1,11 @@
 -- The laws of a run over one path with one destination: what its logs, its outputs and its report say together.
-use Rattle.std.specs.Prelude.{ℕ, List}
 use Rattle.gw_law.specs.Delivery.{AreOfEach, DeliveryLaw}
 use Rattle.gw_law.specs.Emission.{BusLaw}
 use Rattle.gw_law.specs.FlowControls.{FlowControlLaw}
 use Rattle.gw_law.specs.JointCauses.{JointCauses}
 use Rattle.gw_law.specs.PoolOfRoute.{PoolOf}
 use Rattle.gw_law.specs.ReceptionCauses.{AreCaused, AreNeverBoxed}
+use Rattle.gw_law.specs.Records.{RecordsLaw}
 use Rattle.gw_law.specs.Run.{Route}
 use Rattle.gw_law.specs.Source.{SourceLaw}
 use Rattle.gw_law.specs.Timely.{TimelyLaw, delivery_of_route}
@@ -13,9 +13,10 @@ use Rattle.gw_law.specs.TransmissionCauses.{TransmissionCauses}
 
 -- what is told of a run keeps all laws
 pub record Lawful (r : Route) : Type 0 where
-  -- the records of the source channel are those of its attempts; `stored` are the bytes that were put into each session
-  pub stored : ℕ → List ℕ
-  pub source : SourceLaw r.rx.chan.0 r.rx.a r.rx.functional stored r.seen r.sessions
+  -- whose the records are, and that they lie within the run, one after another
+  pub records : RecordsLaw r
+  -- the records of the source channel are those of its attempts
+  pub source : SourceLaw r.rx.chan.0 r.rx.a r.rx.functional r.seen r.sessions
   -- the destination's transmissions reassemble, in source order, to the first bytes, as many as its records tell, of the source
   -- units that the records name
   pub delivery : DeliveryLaw (delivery_of_route r)

@@ -6,6 +6,7 @@ pub mod Lawful
 pub mod Pool
 pub mod PoolOfRoute
 pub mod ReceptionCauses
+pub mod Records
 pub mod Run
 pub mod Source
 pub mod Timely

@@ -1,5 +1,10 @@
 -- What the moves of the pool of buffers are, and what the records of the source channels say of them (this project's own).
 use Rattle.std.specs.Prelude.{◌≡◌, ℕ, ◌+◌, ◌-◌, ◌^◌, ◌<◌, ◌≤◌, ◌==◌, ◌↔◌, if◌then◌else◌, zero, suc, true, false, Option, Some, None, List, length, map, find, slice_get, IsBitSet}
+use Rattle.hub_core.specs.Moves.{move_of}
+use Rattle.tp_receiver.specs.Table.{cells_of}
+use Rattle.tp_receiver.specs.State.{RxTurn, rx_new}
+use Rattle.tp_receiver.specs.Runs.{HasReceived, frames_in}
+use Rattle.hub_core.specs.Turns.{calls_by, came_by, state_after, records_by}
 use Rattle.std.specs.List.{AllByRecursion, AllZip}
 use Rattle.gw_base.specs.Fit.{IsSmallest, NoneFits}
 use Rattle.gw_base.specs.declared.numbers.BufNo.{BufNo}
@@ -13,9 +18,6 @@ use Rattle.hub_core.specs.declared.record.SessionResult.TheVariants.{Overflow}
 use Rattle.tp_attempts.specs.Attempts.{attempts_in}
 use Rattle.tp_attempts.specs.Cuts.{Cut}
 use Rattle.tp_attempts.specs.Seen.{Seen, bytes_of}
-use Rattle.tp_receiver.specs.Receiving.{move_of}
-use Rattle.tp_receiver.specs.Rows.{cells_of}
-use Rattle.tp_receiver.specs.Running.{RxTurn, Happened, calls_by, seen_by, state_of, told_by}
 use Rattle.tp_receiver.specs.declared.set.RxSet.{RxSet}
 use Rattle.gw_law.specs.Source.{CountsFrom}
 
@@ -156,13 +158,13 @@ pub record Source : Type 0 where
 
 -- what is told of its channel
 abbrev pub channel_of : Source → Channel
-channel_of source = record { attempts = attempts_in source.set.functional (seen_by source.turns); records = told_by source.turns }
+channel_of source = record { attempts = attempts_in source.set.functional (came_by frames_in source.turns); records = records_by source.turns }
 
 -- a whole run of a receiver, and the joined view of its hub: the path's sessions are what the receiver's calls made, and its takes
 -- and overflows are in the view
 pub record IsWholeRun (v : View) (source : Source) : Type 0 where
-  pub received : Happened source.set source.turns
-  pub idle : (state_of source.turns).busy ≡ None
+  pub received : HasReceived source.set source.turns
+  pub idle : (state_after rx_new source.turns).busy ≡ None
   pub calls : AllByRecursion (IsIn v) (calls_by source.turns)
   pub sessions : v.sessions source.set.path.0 ≡ (grows (calls_by source.turns) empty_view).sessions source.set.path.0
 

@@ -1,5 +1,5 @@
 -- Each record of the source channel's receptions comes of its cause, and no earlier cause is passed over (ISO 15765-2, segmentation and reassembly, N_Ar and N_Cr).
-use Rattle.std.specs.Prelude.{◌≡◌, ℕ, ◌+◌, ◌<◌, ◌≤◌, max, Some, List, [], ◌∷◌, ◌++◌, length, slice_get}
+use Rattle.std.specs.Prelude.{◌≡◌, ◌⊎◌, ℕ, ◌+◌, ◌<◌, ◌≤◌, max, Some, List, [], ◌∷◌, ◌++◌, length, slice_get}
 use Rattle.std.specs.List.{AllByRecursion, AllZip}
 use Rattle.hub_core.specs.declared.record.RxLimit.{RxLimit}
 use Rattle.hub_core.specs.declared.record.RxLimit.TheVariants.{Box as BoxLimit, Cf as CfLimit}
@@ -11,7 +11,7 @@ use Rattle.hub_core.specs.declared.record.SessionResult.TheVariants.{Whole, Over
 use Rattle.tp_attempts.specs.Attempts.{attempts_in}
 use Rattle.tp_attempts.specs.Cuts.{Cut}
 use Rattle.tp_attempts.specs.Seen.{Seen}
-use Rattle.tp_attempts.specs.Walk.{Piece, last_place, walk_of}
+use Rattle.tp_attempts.specs.Walk.{Piece, joined, last_place, walk_of}
 use Rattle.tp_sender.specs.Sending.{Written}
 use Rattle.tp_unit.specs.Reading.{unit_of}
 use Rattle.tp_unit.specs.Shape.{address_size}
@@ -65,8 +65,17 @@ StillWaits r attempt told since Box = (tick : ℕ) → since ≤ tick → tick �
 StillWaits r attempt told since Room = ⊥
 StillWaits r attempt told since Cf = IsAwaited r attempt told since
 
--- what a result says: whole in the tick of the last counted frame; that a buffer was missing, a number wrong and no destination
--- reading are told by other laws; and there is room for each frame, none is asked to wait and nothing is cancelled
+-- a counted frame of that tick is the next one after the bytes that are told, or the last one of them
+pub record IsFoundBy (address : ℕ) (attempt : Cut Seen) (bytes tick : ℕ) : Type 0 where
+  pub before : List Piece
+  pub piece : Piece
+  pub after : List Piece
+  pub among : (walk_of address attempt).pieces ≡ before ++ piece ∷ after
+  pub at : piece.at ≡ tick
+  pub told : (bytes ≡ length (joined before)) ⊎ (bytes ≡ length (joined (before ++ piece ∷ [])))
+
+-- what a result says: whole in the tick of the last counted frame; no destination reading in the tick of
+-- the frame that finds it; that a buffer was missing and a number wrong is told by other laws; and there is room for each frame, none is asked to wait and nothing is cancelled
 abbrev pub HasCause : Route → Cut Seen → SessionRecord → SessionResult → Type 0
 HasCause r attempt told Whole = told.end.0 ≡ last_place told.begin.0 (walk_of r.rx.a attempt).pieces
 HasCause r attempt told (Overflow change free need) = Unit {0}
@@ -75,7 +84,7 @@ HasCause r attempt told (RxTimeout limit) = IsOverLimit r attempt told limit
 HasCause r attempt told Restarted = NextBegins r told.n told.end.0
 HasCause r attempt told (NoRoom room need) = ⊥
 HasCause r attempt told WaitOver = ⊥
-HasCause r attempt told NoReaders = Unit {0}
+HasCause r attempt told NoReaders = IsFoundBy r.rx.a attempt told.bytes told.end.0
 HasCause r attempt told Cancelled = ⊥
 HasCause r attempt told (RunEnd wait since) = (told.end.0 ≡ r.last) × (since.0 ≤ r.last) × StillWaits r attempt told since.0 wait
 

@@ -1,16 +1,17 @@
 -- What a run over one path with one destination did, tick by tick: the steps of the source channel's receiver and of the
 -- destination's sender, and what the hub said after each bus's work. The newest of everything stands first.
 use Rattle.std.specs.Prelude.{◌≡◌, ◌⊎◌, ℕ, ◌+◌, ◌≤◌, ◌==◌, filter, None, Some, Option, List, [], ◌∷◌, ◌++◌, length, map}
+use Rattle.tp_receiver.specs.State.{RxEvent, Came, Timer, FcLeft, RunEnd, RxTurn, rx_new}
+use Rattle.hub_core.specs.Moves.{move_of}
+use Rattle.tp_receiver.specs.Runs.{HasReceived, frames_in}
+use Rattle.hub_core.specs.Turns.{calls_by, came_by, state_after, records_by}
 use Rattle.std.specs.List.{AllByRecursion}
-use Rattle.hub_core.specs.Floors.{Floors, AreFresh}
 use Rattle.hub_core.specs.Joint.{Joint, number_of}
-use Rattle.hub_core.specs.View.{View, empty_view, grows}
+use Rattle.hub_core.specs.View.{View, Event, Asked, Session, empty_view, grows, session_at}
 use Rattle.hub_core.specs.declared.record.DestRecord.{DestRecord}
 use Rattle.hub_core.specs.declared.record.Move.{Move}
 use Rattle.hub_core.specs.declared.record.SessionRecord.{SessionRecord}
 use Rattle.tp_attempts.specs.Seen.{Seen}
-use Rattle.tp_receiver.specs.Receiving.{RxInput, Came, TimerTurn, FlowControlLeft, RunEnds, move_of}
-use Rattle.tp_receiver.specs.Running.{RxTurn, Happened as Received, calls_by as received_calls, seen_by, state_of, told_by as received_by}
 use Rattle.tp_receiver.specs.declared.set.RxSet.{RxSet}
 use Rattle.tp_sender.specs.Sending.{Answer, Moment, Stepped, OtherLeft, Written, Happened as WasSent, answered_by, box_after, box_then, calls_by as sent_calls, left_by, state_from, told_by as sent_by, written_of}
 use Rattle.tp_sender.specs.Table.{TxMove}
@@ -40,11 +41,11 @@ moments_of (work ∷ earlier) = work.moments ++ moments_of earlier
 -- the hub's view after all that was done
 abbrev pub view_of : List Work → View
 view_of [] = empty_view
-view_of (work ∷ earlier) = grows (sent_calls work.moments) (grows (received_calls work.turns) (view_of earlier))
+view_of (work ∷ earlier) = grows (sent_calls work.moments) (grows (calls_by work.turns) (view_of earlier))
 
 -- the hub's view in the midst of a tick's work, once the source's bus is done
 abbrev pub view_between : List Work → Work → View
-view_between earlier work = grows (received_calls work.turns) (view_of earlier)
+view_between earlier work = grows (calls_by work.turns) (view_of earlier)
 
 -- the tick of the last work, and the one after it; 0 where nothing was done
 abbrev pub tick_after : List Work → ℕ
@@ -52,40 +53,40 @@ tick_after [] = 0
 tick_after (work ∷ earlier) = work.tick + 1
 
 -- what lies in the box of the receiver's flow controls: one that left is gone, and an act offers one, revokes it or keeps it
-abbrev pub control_once : RxInput → Option Meaning → Option Meaning
+abbrev pub control_once : RxEvent → Option Meaning → Option Meaning
 control_once (Came size meaning) lies = lies
-control_once TimerTurn lies = lies
-control_once FlowControlLeft lies = None
-control_once RunEnds lies = lies
+control_once Timer lies = lies
+control_once FcLeft lies = None
+control_once RunEnd lies = lies
 
 abbrev pub control_after : List RxTurn → Option Meaning
 control_after [] = None
-control_after (turn ∷ earlier) = box_then turn.move.act (control_once turn.event (control_after earlier))
+control_after (turn ∷ earlier) = box_then turn.did.act (control_once turn.event (control_after earlier))
 
 -- the flow control that an event says has left, written in the channel's shape
-abbrev pub control_at : Shape → RxInput → ℕ → Option Meaning → List Written
+abbrev pub control_at : Shape → RxEvent → ℕ → Option Meaning → List Written
 control_at shape (Came size meaning) tick lies = []
-control_at shape TimerTurn tick lies = []
-control_at shape FlowControlLeft tick lies = written_of shape tick lies
-control_at shape RunEnds tick lies = []
+control_at shape Timer tick lies = []
+control_at shape FcLeft tick lies = written_of shape tick lies
+control_at shape RunEnd tick lies = []
 
 -- the flow controls that left, the oldest first
 abbrev pub controls_by : Shape → List RxTurn → List Written
 controls_by shape [] = []
-controls_by shape (turn ∷ earlier) = controls_by shape earlier ++ control_at shape turn.event turn.move.tick (control_after earlier)
+controls_by shape (turn ∷ earlier) = controls_by shape earlier ++ control_at shape turn.event turn.did.tick (control_after earlier)
 
 -- a turn in which a frame of that tick came
-abbrev pub CameIn : ℕ → RxInput → ℕ → Type 0
+abbrev pub CameIn : ℕ → RxEvent → ℕ → Type 0
 CameIn tick (Came size meaning) at = at ≡ tick
-CameIn tick TimerTurn at = ⊥
-CameIn tick FlowControlLeft at = ⊥
-CameIn tick RunEnds at = ⊥
+CameIn tick Timer at = ⊥
+CameIn tick FcLeft at = ⊥
+CameIn tick RunEnd at = ⊥
 
 -- what lies in the box leaves in that tick, and where nothing does nothing leaves
 abbrev pub ControlLeaves : ℕ → Option Meaning → List RxTurn → Type 0
 ControlLeaves tick None turns = turns ≡ []
 ControlLeaves tick (Some meaning) [] = ⊥
-ControlLeaves tick (Some meaning) (turn ∷ more) = (turn.event ≡ FlowControlLeft) × (turn.move.tick ≡ tick) × (more ≡ [])
+ControlLeaves tick (Some meaning) (turn ∷ more) = (turn.event ≡ FcLeft) × (turn.did.tick ≡ tick) × (more ≡ [])
 
 -- the receiver's part of a tick: the frames that came, the timer, and its flow control that leaves
 pub record ReceivesIn (tick : ℕ) (earlier turns : List RxTurn) : Type 0 where
@@ -93,9 +94,9 @@ pub record ReceivesIn (tick : ℕ) (earlier turns : List RxTurn) : Type 0 where
   pub timer : RxTurn
   pub left : List RxTurn
   pub turns_are : turns ≡ left ++ timer ∷ came
-  pub came_only : AllByRecursion (λ (turn : RxTurn). CameIn tick turn.event turn.move.tick) came
-  pub timer_is : timer.event ≡ TimerTurn
-  pub timer_tick : timer.move.tick ≡ tick
+  pub came_only : AllByRecursion (λ (turn : RxTurn). CameIn tick turn.event turn.did.tick) came
+  pub timer_is : timer.event ≡ Timer
+  pub timer_tick : timer.did.tick ≡ tick
   pub left_is : ControlLeaves tick (control_after (timer ∷ (came ++ earlier))) left
 
 -- a flow control that came in that tick
@@ -131,10 +132,14 @@ pub record SendsIn (tick : ℕ) (earlier moments : List Moment) : Type 0 where
   pub turn_tick : turn.did.tick ≡ tick
   pub left_is : FrameLeaves tick (box_after (Stepped turn ∷ (answers ++ earlier))) left
 
--- each turn's looks were fresh by some floors, at the view in which it began
+-- each look at the room, among some calls from this view on, counts all of the session's buffer but the cells that were put
+abbrev pub LooksCount : View → List Event → Type 0
+LooksCount v calls = (before after : List Event) (path seq cells readers : ℕ) (s : Session) → calls ≡ before ++ Asked path seq cells readers ∷ after → session_at (grows before v) path seq ≡ Some s → s.size ≤ cells + length s.cells
+
+-- so do the looks of each turn, from the view in which it began
 abbrev pub AreLooks : View → List RxTurn → Type 0
 AreLooks start [] = Unit {0}
-AreLooks start (turn ∷ earlier) = ((floors : Floors) × AreFresh floors (grows (received_calls earlier) start) turn.move.calls) × AreLooks start earlier
+AreLooks start (turn ∷ earlier) = LooksCount (grows (calls_by earlier) start) turn.did.calls × AreLooks start earlier
 
 -- the hub's word and view are joint
 abbrev pub IsJoint : List ℕ → View → Type 0
@@ -142,7 +147,7 @@ IsJoint sizes v = (count : ℕ) × (free : ℕ) × Joint sizes count free v
 
 -- nothing is received and nothing is sent
 pub record IsIdle (works : List Work) : Type 0 where
-  pub receiver : (state_of (turns_of works)).busy ≡ None
+  pub receiver : (state_after rx_new (turns_of works)).busy ≡ None
   pub sender : (state_from (moments_of works)).live ≡ None
 
 -- the work of one tick, after that of earlier ones; no tick is left out but where all is idle
@@ -162,7 +167,7 @@ AreTicks sizes (work ∷ earlier) = IsTick sizes earlier work × AreTicks sizes 
 -- the receiver is told in that tick that the run ends
 abbrev pub EndsReceiving : ℕ → List RxTurn → Type 0
 EndsReceiving last [] = ⊥
-EndsReceiving last (turn ∷ more) = (turn.event ≡ RunEnds) × (turn.move.tick ≡ last) × (more ≡ [])
+EndsReceiving last (turn ∷ more) = (turn.event ≡ RunEnd) × (turn.did.tick ≡ last) × (more ≡ [])
 
 -- the run's end in its last tick, after the work of its ticks: no reception and no transmission goes on, and each session was joined
 pub record IsEnd (sizes : List ℕ) (path last : ℕ) (ticks : List Work) (end : Work) : Type 0 where
@@ -182,7 +187,7 @@ pub record IsRun (rx : RxSet) (tx : TxSet) (sizes : List ℕ) (last count free :
   pub readers : rx.readers ≡ 1
   pub ticks_are : AreTicks sizes ticks
   pub ends : IsEnd sizes rx.path.0 last ticks end
-  pub received : Received rx (turns_of (end ∷ ticks))
+  pub received : HasReceived rx (turns_of (end ∷ ticks))
   pub sent : WasSent tx (moments_of (end ∷ ticks))
   pub joint : Joint sizes count free (view_of (end ∷ ticks))
   pub in_order : CountsFrom 1 (map number_of (view_of (end ∷ ticks)).changes)
@@ -226,11 +231,11 @@ route_of rx tx shape source_budget budget sizes last count free ticks end = reco
   budget = budget;
   sizes = sizes;
   last = last;
-  seen = seen_by (turns_of (end ∷ ticks));
+  seen = came_by frames_in (turns_of (end ∷ ticks));
   answers = answered_by (moments_of (end ∷ ticks));
   controls = controls_by shape (turns_of (end ∷ ticks));
   frames = left_by tx.shape (moments_of (end ∷ ticks));
-  sessions = received_by (turns_of (end ∷ ticks));
+  sessions = records_by (turns_of (end ∷ ticks));
   dests = sent_by (moments_of (end ∷ ticks));
   moves = map move_of (view_of (end ∷ ticks)).changes;
   count = count;

@@ -1,5 +1,5 @@
 -- What the records of a source channel say of the frames that came on it (ISO 15765-2, segmentation and reassembly).
-use Rattle.std.specs.Prelude.{◌≡◌, ℕ, ◌≤◌, ◌↔◌, Bool, true, false, Some, option_map, option_to_list, is_some, not, List, [], ◌++◌, length, map, take}
+use Rattle.std.specs.Prelude.{◌≡◌, ℕ, ◌<◌, ◌≤◌, ◌↔◌, Bool, true, false, Some, option_map, option_to_list, is_some, not, List, [], ◌++◌, length, map, take}
 use Rattle.std.specs.List.{AllByRecursion, AllZip, flat_map}
 pub use Rattle.hub_core.specs.Joint.{CountsFrom}
 use Rattle.hub_core.specs.declared.record.OpenedAt.{OpenedAt}
@@ -24,17 +24,19 @@ is_overflow NoReaders = false
 is_overflow Cancelled = false
 is_overflow (RunEnd wait since) = false
 
--- so many bytes are those of the start and of the first counted frames: all that stand below that tick are among them, and none above it
+-- so many bytes are those of the start and of the first counted frames, the start's at least: all that stand below that tick are among
+-- them, and none above it
 pub record Covers (pieces : List Piece) (bytes end : ℕ) : Type 0 where
   pub first : List Piece
   pub rest : List Piece
   pub all : pieces ≡ first ++ rest
+  pub some : 0 < length first
   pub sum : bytes ≡ length (joined first)
   pub none_above : AllByRecursion (λ (piece : Piece). piece.at ≤ end) first
   pub all_below : AllByRecursion (λ (piece : Piece). end ≤ piece.at) rest
 
--- what the record of an attempt says; `stored` are the bytes that were put into the session of a number
-pub record Tells (chan address : ℕ) (stored : ℕ → List ℕ) (attempt : Cut Seen) (told : SessionRecord) : Type 0 where
+-- what the record of an attempt says
+pub record Tells (chan address : ℕ) (attempt : Cut Seen) (told : SessionRecord) : Type 0 where
   pub chan_is : told.chan.0 ≡ chan
   pub len : told.len ≡ len_of attempt.start.meaning
   pub begin : told.begin.0 ≡ attempt.start.at
@@ -44,9 +46,8 @@ pub record Tells (chan address : ℕ) (stored : ℕ → List ℕ) (attempt : Cut
   pub overflow : is_overflow told.result ≡ true → (told.bytes ≡ 0) × (told.end.0 ≡ told.begin.0)
   pub covers : is_overflow told.result ≡ false → Covers (walk_of address attempt).pieces told.bytes told.end.0
   pub whole : is_overflow told.result ≡ false → (told.result ≡ Whole) ↔ (told.bytes ≡ told.len)
-  -- no more bytes are told than the attempt has, and its first ones, as many as are told, were put into its session
+  -- no more bytes are told than the attempt has
   pub within : told.bytes ≤ length (reassembled address attempt)
-  pub puts : (opened : OpenedAt) → told.opened ≡ Some opened → stored opened.seq ≡ take told.bytes (reassembled address attempt)
   -- a wrong number is told only where all counted frames are told and the next one has it in the tick of the end; and the end comes no later than the first wrong number
   pub wrong : (want got : ℕ) → told.result ≡ WrongSn want got →
       (told.bytes ≡ length (reassembled address attempt)) × ((walk_of address attempt).wrong ≡ Some (record { at = told.end.0; want = want; got = got }))
@@ -59,9 +60,17 @@ opened_by told = option_to_list (option_map (λ (opened : OpenedAt). opened.seq)
 abbrev pub sessions_in : List SessionRecord → List ℕ
 sessions_in records = flat_map opened_by records
 
--- the records of a channel: numbered from 0, one for each start among its frames, and their sessions numbered from 0; no other session has bytes
-pub record SourceLaw (chan address : ℕ) (functional : Bool) (stored : ℕ → List ℕ) (seen : List Seen) (records : List SessionRecord) : Type 0 where
+-- the records of a channel: numbered from 0, one for each start among its frames, and their sessions numbered from 0
+pub record SourceLaw (chan address : ℕ) (functional : Bool) (seen : List Seen) (records : List SessionRecord) : Type 0 where
   pub numbered : CountsFrom 0 (map (λ (told : SessionRecord). told.n) records)
   pub sessions : CountsFrom 0 (sessions_in records)
+  pub tells : AllZip (Tells chan address) (attempts_in functional seen) records
+
+-- an attempt's first bytes, as many as its record tells, were put into its session; `stored` are the bytes of the session of a number
+abbrev pub Puts : (address : ℕ) → (stored : ℕ → List ℕ) → Cut Seen → SessionRecord → Type 0
+Puts address stored attempt told = (opened : OpenedAt) → told.opened ≡ Some opened → stored opened.seq ≡ take told.bytes (reassembled address attempt)
+
+-- what was put into the sessions of a channel is what its records tell, and no other session has bytes
+pub record StoredLaw (address : ℕ) (functional : Bool) (stored : ℕ → List ℕ) (seen : List Seen) (records : List SessionRecord) : Type 0 where
+  pub puts : AllZip (Puts address stored) (attempts_in functional seen) records
   pub no_more : (seq : ℕ) → length (sessions_in records) ≤ seq → stored seq ≡ []
-  pub tells : AllZip (Tells chan address stored) (attempts_in functional seen) records

@@ -1,7 +1,7 @@
 ghost use Rattle.std.specs.Prelude.{List};
+ghost use Rattle.tp_receiver.specs.State.{RxTurn};
 ghost use Rattle.gw_law.specs.Delivery.{AreWholeRuns, DeliveryLaw, delivery_of};
 ghost use Rattle.hub_core.specs.View.{View};
-ghost use Rattle.tp_receiver.specs.Running.{RxTurn};
 ghost use Rattle.tp_receiver.specs.declared.set.RxSet.{RxSet};
 ghost use Rattle.tp_sender.specs.Sending.{Moment};
 ghost use Rattle.tp_sender.specs.declared.set.TxSet.{TxSet};

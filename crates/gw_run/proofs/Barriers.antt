@@ -1,9 +1,10 @@
 -- From the source's part of a tick's work over the destination's part to the barrier after it.
 use Rattle.std.proofs.Common.{◌≡◌, ℕ, ◌+◌, ◌-◌, ◌≤◌, Option, Some, None, List, [], ◌∷◌, ◌++◌, refl, sym, subst, ap, ◌∙◌, append-nil, append_assoc, arith}
+use Rattle.tp_receiver.specs.State.{RxTurn}
+use Rattle.hub_core.specs.Turns.{calls_by}
 use Rattle.hub_core.specs.View.{View, grows}
 use Rattle.gw_law.specs.Run.{FrameLeaves, Work, moments_of, turns_of, view_of}
 use Rattle.tp_attempts.specs.Seen.{Seen}
-use Rattle.tp_receiver.specs.Running.{RxTurn, calls_by as received_calls}
 use Rattle.tp_sender.specs.Sending.{Answer, Moment, Stepped, answer_at, after_left, answered_by, box_after, calls_by as sent_calls, clear_from, written_of}
 use Rattle.tp_sender.specs.declared.event.TxEvent.{TxEvent}
 use Rattle.tp_sender.specs.declared.event.TxEvent.TheVariants.{Turn, Fc, Left}
@@ -30,7 +31,7 @@ calls-join left rest view = ap (λ c. grows c view) (sent-calls left rest) ∙ g
 
 -- the view after the destination's part so far
 abbrev pub view_at : (earlier : List Work) → (turns : List RxTurn) → (moments : List Moment) → View
-view_at earlier turns moments = grows (sent_calls moments) (grows (received_calls turns) (view_of earlier))
+view_at earlier turns moments = grows (sent_calls moments) (grows (calls_by turns) (view_of earlier))
 
 -- a flow control came
 pub answered : (g h : Gateway) (seen : List Seen) (answers : List Answer) (tick fs bs st : ℕ) → InDestination g seen answers tick → TellsSender g h (Fc fs bs st) tick (lying g.frame) g.frames →
@@ -55,7 +56,7 @@ answered g h seen answers tick fs bs st at told =
       looks = at.looks;
       between = at.between;
       only = (subst A (sym step.event_is) step.tick_is, at.only);
-      stands = subst V (sym (grows-append (sent_calls at.moments) move.calls (grows (received_calls at.turns) (view_of at.earlier)))) stands;
+      stands = subst V (sym (grows-append (sent_calls at.moments) move.calls (grows (calls_by at.turns) (view_of at.earlier)))) stands;
       clear = subst C (sym step.event_is) at.clear;
       seen_is = at.seen_is;
       answers_is = ap (λ (e : TxEvent). answered_by moments ++ answer_at e move.did.tick) step.event_is
@@ -102,7 +103,7 @@ pub destination-ends : (g k h : Gateway) (seen : List Seen) (answers : List Answ
 destination-ends g k h seen answers tick at told leaves =
     let move = told.move in
     let step = told.stepped in
-    let start = grows (received_calls at.turns) (view_of at.earlier) in
+    let start = grows (calls_by at.turns) (view_of at.earlier) in
     let all = at.turns ++ turns_of at.earlier in
     let old = at.moments ++ moments_of at.earlier in
     let stands = turn-stands g k seen answers tick at told in

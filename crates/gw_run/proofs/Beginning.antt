@@ -1,10 +1,9 @@
 -- From the barrier before a tick into its work, and the gateway as it begins.
 use Rattle.std.proofs.Common.{◌≡◌, ◌⊎◌, inl, inr, ℕ, ◌-◌, ◌≤◌, List, [], refl, sym, subst, ap, ◌∙◌, arith}
+use Rattle.tp_receiver.specs.State.{RxState, RxTurn}
 use Rattle.hub_core.specs.View.{View}
 use Rattle.gw_law.specs.Run.{IsIdle, Work, moments_of, turns_of, view_of}
 use Rattle.tp_attempts.specs.Seen.{Seen}
-use Rattle.tp_receiver.specs.Receiving.{RxState}
-use Rattle.tp_receiver.specs.Running.{RxTurn}
 use Rattle.tp_sender.specs.Sending.{Answer, Moment}
 use Rattle.tp_sender.specs.State.{TxState}
 use Rattle.gw_run.specs.declared.gateway.Gateway.{Gateway}

@@ -1,14 +1,13 @@
 -- Where all stands, both machines can be told.
 use Rattle.std.proofs.Common.{◌≡◌, ℕ, ◌<◌, ◌≤◌, ◌==◌, ◌&&◌, Bool, true, false, List, length, refl, sym, subst, ap, ◌∙◌, arith}
+use Rattle.tp_receiver.specs.Port.{CanTake, Knows}
+use Rattle.tp_receiver.specs.State.{RxEvent, Came, RxTurn}
 use Rattle.std.proofs.lemmas.Bool.Decides.{nat_tests}
 use Rattle.can_frame.specs.Frame.{CanFrame, IsLawful}
 use Rattle.can_frame.specs.Length.{length_fits}
 use Rattle.gw_base.specs.declared.numbers.PathNo.{PathNo}
 use Rattle.hub_core.specs.View.{View}
 use Rattle.tp_attempts.specs.Seen.{Seen}
-use Rattle.tp_receiver.specs.Known.{CanTake, Knows}
-use Rattle.tp_receiver.specs.Receiving.{RxInput, Came}
-use Rattle.tp_receiver.specs.Running.{RxTurn}
 use Rattle.tp_receiver.specs.declared.set.RxSet.{RxSet}
 use Rattle.tp_sender.specs.Sending.{Answer, Moment}
 use Rattle.tp_sender.specs.State.{HasFrame, IsPlain, Knows as KnowsPort, state_of}
@@ -21,7 +20,7 @@ use Rattle.gw_run.specs.Telling.{CanTell, CanTellSender, means_in}
 use Rattle.gw_run.specs.declared.gateway.Gateway.{Gateway}
 use Rattle.gw_run.proofs.Same.{waits-later}
 
-pub can-tell : (g : Gateway) (t tick : ℕ) (turns : List RxTurn) (moments : List Moment) (view : View) (event : RxInput) → Stands g t turns moments view → t ≤ tick →
+pub can-tell : (g : Gateway) (t tick : ℕ) (turns : List RxTurn) (moments : List Moment) (view : View) (event : RxEvent) → Stands g t turns moments view → t ≤ tick →
     CanTake g.receiver.set (means_in g.hub) g.receiver.next_n event → CanTell g.receiver g.hub event tick
 can-tell g t tick turns moments view event s by can =
     let set = s.receives.set in

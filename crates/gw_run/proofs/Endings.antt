@@ -1,10 +1,15 @@
 -- The run's end: both machines are told, and the whole run is one.
 use Rattle.std.proofs.Common.{◌≡◌, ◌⊎◌, ℕ, zero, suc, ◌+◌, ◌-◌, ◌*◌, ◌<◌, ◌≤◌, Option, Some, None, List, [], ◌∷◌, ◌++◌, length, refl, sym, subst, ap, ◌∙◌, append-nil, length-append, arith}
+use Rattle.tp_receiver.specs.State.{Reception, RxDid, RxState, RunEnd, RxTurn}
+use Rattle.tp_receiver.specs.Table.{EndRow}
+use Rattle.hub_core.specs.Turns.{came_by}
+use Rattle.tp_receiver.specs.Runs.{frames_in}
 use Rattle.std.specs.Prelude.{option_to_list}
 use Rattle.hub_core.specs.Floors.{AreFresh, floors_of}
 use Rattle.hub_core.specs.Joint.{AreInOrder, Joint}
 use Rattle.gw_base.specs.declared.numbers.PathNo.{PathNo}
-use Rattle.hub_core.proofs.Whole.{is-joint}
+use Rattle.hub_core.proofs.Whole.{is-joint, none-missed}
+use Rattle.hub_core.specs.declared.plain.PlainHub.{PlainHub}
 use Rattle.hub_core.specs.View.{Event, Missed, Session, View, grows}
 use Rattle.hub_core.specs.declared.record.DestRecord.{DestRecord}
 use Rattle.hub_core.specs.declared.record.Move.{Move}
@@ -12,12 +17,9 @@ use Rattle.hub_core.specs.declared.record.SessionRecord.{SessionRecord}
 use Rattle.gw_law.specs.Run.{IsIdle, Route, Work, moments_of, turns_of, view_of}
 use Rattle.tick_clock.specs.declared.clock.Clock.{Clock}
 use Rattle.tp_attempts.specs.Seen.{Seen}
-use Rattle.tp_receiver.specs.Receiving.{Busy, RxMove, RxState, RunEnds}
-use Rattle.tp_receiver.specs.Rows.{EndRow}
-use Rattle.tp_receiver.specs.Running.{RxTurn, seen_by}
 use Rattle.tp_receiver.specs.declared.set.RxSet.{RxSet}
 use Rattle.tp_sender.specs.Sending.{Answer, Moment, Stepped, Written, calls_by as sent_calls}
-use Rattle.tp_sender.specs.State.{Sending, TxState, set_of, state_of}
+use Rattle.tp_sender.specs.State.{ActsFor as ActsForSender, Sending, TxState, set_of, state_of}
 use Rattle.tp_sender.specs.Table.{NothingStands, FindsOne, TxMove, TxRow}
 use Rattle.tp_sender.specs.declared.event.TxEvent.{TxEvent}
 use Rattle.tp_sender.specs.declared.event.TxEvent.TheVariants.{RunEnd}
@@ -25,7 +27,7 @@ use Rattle.tp_sender.specs.declared.set.TxSet.{TxSet}
 use Rattle.tp_unit.specs.Unit.{Meaning}
 use Rattle.gw_run.specs.Played.{Told}
 use Rattle.gw_run.specs.Standing.{AtBarrier, Finishes, IsQuiet, RxStands, Stands, TxStands, lying, route_with, view_in}
-use Rattle.gw_run.specs.Telling.{EndsTelling, IsOver, Tells, TellsReceiver, TellsSender}
+use Rattle.gw_run.specs.Telling.{EndsTelling, IsOver, Tells, TellsReceiver, TellsSender, means_in}
 use Rattle.gw_run.specs.declared.gateway.Gateway.{Gateway}
 use Rattle.gw_run.specs.declared.machines.Machines.{Machines}
 use Rattle.gw_run.specs.declared.machines.TheConstants.{BUDGET, BUFFER_CELLS}
@@ -66,21 +68,22 @@ none-told set next (Some s) m entered row none missed = let some = row.0.ended i
 none-told set next None m entered (NothingStands row) none missed = (row.live, omega (arith, missed next [] row.calls_are, row.next_is))
 none-told set next None m entered (FindsOne buf len more joins ends) none missed = let some = ends.ended in cc
 
-missed-fresh : (view : View) (path dest number : ℕ) (calls more : List Event) → AreFresh (floors_of view) view calls → calls ≡ Missed path dest number ∷ more → length (view.sessions path) ≤ number
-missed-fresh view path dest number calls more fresh is = let P : List Event → Type 0 = λ c. AreFresh (floors_of view) view c in (subst P is fresh).0
+missed-fresh : (hub : PlainHub) (path dest number : ℕ) (calls more : List Event) → (means_in hub).reads path dest ≡ true → AreFresh (floors_of (view_in hub)) (view_in hub) calls → calls ≡ Missed path dest number ∷ more →
+    length ((view_in hub).sessions path) ≤ number
+missed-fresh hub path dest number calls more acts fresh is = let P : List Event → Type 0 = λ c. AreFresh (floors_of (view_in hub)) (view_in hub) c in none-missed hub path dest number acts (subst P is fresh).0
 
 ended-none : (before after : List DestRecord) (ended : Option DestRecord) → after ≡ before ++ option_to_list ended → length after ≤ length before → ended ≡ None
 ended-none before after None is few = refl
 ended-none before after (Some told) is few = absurd (omega (arith, ap length is ∙ length-append before (told ∷ []), few))
 
-pub is-over : (g h : Gateway) (last : ℕ) → TellsSender g h RunEnd last (lying g.frame) g.frames → length h.dests ≤ length g.dests → IsOver h
-is-over g h last told few =
+pub is-over : (g h : Gateway) (last : ℕ) → ActsForSender (means_in g.hub) g.sender → TellsSender g h RunEnd last (lying g.frame) g.frames → length h.dests ≤ length g.dests → IsOver h
+is-over g h last acts told few =
     let move = told.move in
     let st = told.stepped in
     let next = ap (λ (s : TxState). s.next) st.state in
     let row : TxRow (set_of g.sender) (state_of g.sender).next (state_of g.sender).live (record move { event = RunEnd }) = (let P : TxEvent → Type 0 = λ e. TxRow (set_of g.sender) (state_of g.sender).next (state_of g.sender).live (record move { event = e }) in subst P st.event_is st.row) in
     let out = none-told (set_of g.sender) (state_of g.sender).next (state_of g.sender).live move (λ path. length ((view_in g.hub).sessions path)) row (ended-none g.dests h.dests move.did.ended told.dests few)
-    (λ number more is. missed-fresh (view_in g.hub) (set_of g.sender).path.0 (set_of g.sender).dest.0 number move.calls more st.fresh is) in
+    (λ number more is. missed-fresh g.hub (set_of g.sender).path.0 (set_of g.sender).dest.0 number move.calls more acts st.fresh is) in
     let joined : length ((view_in h.hub).sessions h.sender.set.path.0) ≡ length ((view_in g.hub).sessions g.sender.set.path.0) =
     ap (λ (s : ℕ → List Session). length (s h.sender.set.path.0)) st.sessions ∙ ap (λ (x : TxSet). length ((view_in g.hub).sessions x.path.0)) st.set in
     record { live = ap (λ (s : TxState). s.live) st.state ∙ out.0; joined = omega (arith, joined, next, out.1) }
@@ -113,7 +116,7 @@ less-remains g h last lies frames told more =
     let most : h.sender.next ≤ length ((view_in h.hub).sessions h.sender.set.path.0) = readings-most _ joint.0 joint.1 (view_in h.hub) h.sender.set.path.0 h.sender.set.dest.0 h.sender.next joint.2 st.knows.next in
     omega (arith, next, live, same, most, out.1, out.2)
 
-end-idle : (set : RxSet) (old : RxState) (busy : Option Busy) (m : RxMove) → old.busy ≡ busy → EndRow set old busy m → m.new.busy ≡ None
+end-idle : (set : RxSet) (old : RxState) (busy : Option Reception) (m : RxDid) → old.busy ≡ busy → EndRow set old busy m → m.new.busy ≡ None
 end-idle set old None m is row = ap (λ (s : RxState). s.busy) row.new ∙ is
 end-idle set old (Some busy) m is row = ap (λ (s : RxState). s.busy) row.new
 
@@ -123,17 +126,17 @@ same-route : (m : Machines) (last count free : ℕ) (seen : List Seen) (answers 
 same-route m last count free seen answers controls frames sessions dests moves told seen_told answers_told a b c d e f g h i = rw (a, b, ← c, ← d, ← e, ← f, ← g, ← h, ← i) refl
 
 -- the receiver was told of the run's end
-pub end-stands : (g k : Gateway) (last : ℕ) (seen : List Seen) (answers : List Answer) (next : ℕ) → next ≤ last + 1 → (at : AtBarrier g seen answers next) → (first : TellsReceiver g k RunEnds last (lying g.control) g.controls) →
-    Stands k last (record { event = RunEnds; move = first.move } ∷ turns_of at.works) (moments_of at.works) (grows first.move.calls (view_of at.works))
+pub end-stands : (g k : Gateway) (last : ℕ) (seen : List Seen) (answers : List Answer) (next : ℕ) → next ≤ last + 1 → (at : AtBarrier g seen answers next) → (first : TellsReceiver g k RunEnd last (lying g.control) g.controls) →
+    Stands k last (record { event = RunEnd; did = first.move } ∷ turns_of at.works) (moments_of at.works) (grows first.move.calls (view_of at.works))
 end-stands g k last seen answers next in_time at first =
-    turn-stands g k last last (turns_of at.works) (moments_of at.works) (view_of at.works) RunEnds (stands-later g (next - 1) last (turns_of at.works) (moments_of at.works) (view_of at.works) (omega arith) at.stands) (omega arith) (told-same g k RunEnds last (lying g.control) first)
+    turn-stands g k last last (turns_of at.works) (moments_of at.works) (view_of at.works) RunEnd (stands-later g (next - 1) last (turns_of at.works) (moments_of at.works) (view_of at.works) (omega arith) at.stands) (omega arith) (told-same g k RunEnd last (lying g.control) first)
 
 pub finishes : (g k h : Gateway) (clock : Clock) (last : ℕ) (seen : List Seen) (answers : List Answer) (next : ℕ) (told : Told) → next ≤ last + 1 → IsQuiet g ⊎ (next ≡ last + 1) → AtBarrier g seen answers next →
-    TellsReceiver g k RunEnds last (lying g.control) g.controls → ((turns : List RxTurn) (moments : List Moment) (view : View) → Stands k last turns moments view → EndsTelling h last turns moments view) → IsOver h → h.machines ≡ k.machines → Tells h clock told →
+    TellsReceiver g k RunEnd last (lying g.control) g.controls → ((turns : List RxTurn) (moments : List Moment) (view : View) → Stands k last turns moments view → EndsTelling h last turns moments view) → IsOver h → h.machines ≡ k.machines → Tells h clock told →
     Finishes g.machines clock last seen answers told
 finishes g k h clock last seen answers next told in_time quiet at first ends over machines tells =
     let works = at.works in
-    let turn : RxTurn = record { event = RunEnds; move = first.move } in
+    let turn : RxTurn = record { event = RunEnd; did = first.move } in
     let stands = end-stands g k last seen answers next in_time at first in
     let out = ends (turn ∷ turns_of works) (moments_of works) (grows first.move.calls (view_of works)) stands in
     let all = out.stands in
@@ -175,7 +178,7 @@ finishes g k h clock last seen answers next told in_time quiet at first ends ove
         joint = subst J all.pool.view_is (subst S all.pool.size tells.joint);
         in_order = subst O all.pool.view_is tells.in_order;
       };
-      route = same-route g.machines last _ _ _ _ _ _ _ _ _ told seen answers (append-nil (seen_by (turns_of works)) ∙ at.seen_is) (end-answers last out.more (moments_of works) out.only ∙ at.answers_is)
+      route = same-route g.machines last _ _ _ _ _ _ _ _ _ told seen answers (append-nil (came_by frames_in (turns_of works)) ∙ at.seen_is) (end-answers last out.more (moments_of works) out.only ∙ at.answers_is)
           (tells.controls ∙ rx.controls_are) (tells.frames ∙ tx.frames_are) (tells.sessions ∙ rx.sessions_are) (tells.dests ∙ tx.dests_are) (tells.moves ∙ all.pool.moves_are) refl refl;
       clock_is = tells.clock_is;
       buffers = tells.buffers;

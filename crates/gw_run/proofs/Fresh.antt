@@ -1,10 +1,10 @@
 -- A gateway that is new stands at the barrier before tick 0.
 use Rattle.std.proofs.Common.{◌≡◌, ℕ, ◌≤◌, Option, None, [], ◌∷◌, refl, sym, subst, ap, arith}
+use Rattle.tp_receiver.specs.Port.{KnowsState}
+use Rattle.tp_receiver.specs.State.{WaitsBy, RxState, reception_in, idle, state_of}
 use Rattle.hub_core.specs.Calls.{Means}
 use Rattle.hub_core.specs.Plain.{hub_means}
 use Rattle.hub_core.specs.View.{View, empty_view}
-use Rattle.tp_receiver.specs.Known.{KnowsState, WaitsBy}
-use Rattle.tp_receiver.specs.Receiving.{RxState, busy_in, idle, state_in}
 use Rattle.tp_receiver.specs.declared.reception.State.{State}
 use Rattle.tp_receiver.specs.declared.reception.State.TheVariants.{Idle, Busy}
 use Rattle.tp_sender.specs.State.{HasFrame, Knows as KnowsPort, Sending, TxState, set_of, since_of, state_new, state_of}
@@ -14,19 +14,19 @@ use Rattle.gw_run.specs.Telling.{means_in}
 use Rattle.gw_run.specs.declared.gateway.Gateway.{Gateway}
 use Rattle.gw_run.specs.declared.machines.TheConstants.{BUFFER_CELLS}
 
-idle-knows : (view : View) (path : ℕ) (state : State) → busy_in state ≡ None → KnowsState view path state
+idle-knows : (view : View) (path : ℕ) (state : State) → reception_in state ≡ None → KnowsState view path state
 idle-knows view path Idle is = tt
 idle-knows view path (Busy r) is = cc
 
-idle-waits : (state : State) (tick : ℕ) → busy_in state ≡ None → WaitsBy state tick
+idle-waits : (state : State) (tick : ℕ) → reception_in state ≡ None → WaitsBy state tick
 idle-waits Idle tick is = tt
 idle-waits (Busy r) tick is = cc
 
-pub begins : (g : Gateway) → view_in g.hub ≡ empty_view → means_in g.hub ≡ hub_means BUFFER_CELLS 1000000 9000000 → g.receiver.set ≡ g.machines.rx → state_in g.receiver ≡ idle 0 0 →
+pub begins : (g : Gateway) → view_in g.hub ≡ empty_view → means_in g.hub ≡ hub_means BUFFER_CELLS 1000000 9000000 → g.receiver.set ≡ g.machines.rx → state_of g.receiver ≡ idle 0 0 →
     set_of g.sender ≡ g.machines.tx → state_of g.sender ≡ state_new → KnowsPort empty_view g.sender → lying g.control ≡ None → lying g.frame ≡ None →
     g.controls ≡ [] → g.frames ≡ [] → g.sessions ≡ [] → g.dests ≡ [] → g.moves ≡ [] → AtBarrier g [] [] 0
 begins g view means rx rx_state tx tx_state knows control frame controls frames sessions dests moves =
-    let busy : busy_in g.receiver.state ≡ None = ap (λ (s : RxState). s.busy) rx_state in
+    let busy : reception_in g.receiver.state ≡ None = ap (λ (s : RxState). s.busy) rx_state in
     let next : g.receiver.next_n ≡ 0 = ap (λ (s : RxState). s.next) rx_state in
     let seq : g.receiver.next_seq ≡ 0 = ap (λ (s : RxState). s.seq) rx_state in
     let live : (state_of g.sender).live ≡ None = ap (λ (s : TxState). s.live) tx_state in

@@ -1,7 +1,7 @@
 -- Where something lay in a box, it left.
 use Rattle.std.proofs.Common.{◌≡◌, ℕ, ◌++◌, false, Option, Some, None}
+use Rattle.tp_receiver.specs.State.{FcLeft}
 use Rattle.std.specs.Prelude.{is_none}
-use Rattle.tp_receiver.specs.Receiving.{FlowControlLeft}
 use Rattle.tp_sender.specs.Sending.{written_of}
 use Rattle.tp_sender.specs.declared.event.TxEvent.TheVariants.{Left}
 use Rattle.tp_unit.specs.declared.unit.Unit.{Unit as ProtocolUnit}
@@ -9,7 +9,7 @@ use Rattle.gw_run.specs.Standing.{lying}
 use Rattle.gw_run.specs.Telling.{LeavesControl, LeavesFrame, TellsReceiver, TellsSender}
 use Rattle.gw_run.specs.declared.gateway.Gateway.{Gateway}
 
-pub control-leaves : (lay : Option ProtocolUnit) (g h : Gateway) (tick : ℕ) → is_none lay ≡ false → TellsReceiver g h FlowControlLeft tick None (g.controls ++ written_of g.machines.shape tick (lying lay)) → LeavesControl (lying lay) g h tick
+pub control-leaves : (lay : Option ProtocolUnit) (g h : Gateway) (tick : ℕ) → is_none lay ≡ false → TellsReceiver g h FcLeft tick None (g.controls ++ written_of g.machines.shape tick (lying lay)) → LeavesControl (lying lay) g h tick
 control-leaves None g h tick some told = cc
 control-leaves (Some unit) g h tick some told = told
 

@@ -1,7 +1,7 @@
 -- What a step leaves in a box fits the channel's shape, and a frame of the sender lies in its box where its session says so.
 use Rattle.std.proofs.Common.{◌≡◌, Option, refl}
+use Rattle.tp_receiver.specs.State.{RxEvent, Came, Timer, FcLeft, RunEnd}
 use Rattle.gw_law.specs.Run.{control_once}
-use Rattle.tp_receiver.specs.Receiving.{RxInput, Came, TimerTurn, FlowControlLeft, RunEnds}
 use Rattle.tp_sender.specs.Sending.{box_once, box_then}
 use Rattle.tp_sender.specs.State.{HasFrame, IsInBox, Sending, StillHasFrame}
 use Rattle.tp_sender.specs.declared.event.TxEvent.{TxEvent}
@@ -28,11 +28,11 @@ fits-put shape Keeps lies act fits = fits
 fits-put shape (Offers meaning) lies act fits = act
 fits-put shape Revokes lies act fits = tt
 
-pub fits-control : (shape : Shape) (event : RxInput) (lies : Option Meaning) → FitsIn shape lies → FitsIn shape (control_once event lies)
+pub fits-control : (shape : Shape) (event : RxEvent) (lies : Option Meaning) → FitsIn shape lies → FitsIn shape (control_once event lies)
 fits-control shape (Came size meaning) lies fits = fits
-fits-control shape TimerTurn lies fits = fits
-fits-control shape FlowControlLeft lies fits = tt
-fits-control shape RunEnds lies fits = fits
+fits-control shape Timer lies fits = fits
+fits-control shape FcLeft lies fits = tt
+fits-control shape RunEnd lies fits = fits
 
 pub fits-frame : (shape : Shape) (event : TxEvent) (lies : Option Meaning) → FitsIn shape lies → FitsIn shape (box_once event lies)
 fits-frame shape Turn lies fits = fits

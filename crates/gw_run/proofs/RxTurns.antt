@@ -1,15 +1,17 @@
 -- One more turn of the receiver, and all stands.
 use Rattle.std.proofs.Common.{◌≡◌, ℕ, ◌+◌, ◌*◌, ◌≤◌, Option, List, [], ◌∷◌, ◌++◌, length, map, refl, sym, subst, ap, ◌∙◌, append-nil, append_assoc, length-append, arith}
+use Rattle.tp_receiver.specs.Port.{Knows, cells_for, takes_for}
+use Rattle.tp_receiver.specs.State.{RxEvent, RxDid, RxState, Came, Timer, FcLeft, RunEnd, RxTurn, rx_new}
+use Rattle.hub_core.specs.Moves.{move_of, moves_in, moves_of}
+use Rattle.tp_receiver.specs.Table.{RxStep}
+use Rattle.hub_core.specs.Turns.{came_by, state_after}
+use Rattle.tp_receiver.specs.Runs.{frames_in}
 use Rattle.std.proofs.lemmas.List.{map-append}
 use Rattle.hub_core.specs.View.{View, Event, grow, grows}
 use Rattle.hub_core.specs.View.{Taken, Took, Refused, Entered, Asked, Put, Published, Joining, Missed, Saw, Read, Closed, Parted}
 use Rattle.hub_core.specs.declared.plain.PlainHub.{PlainHub}
 use Rattle.hub_core.specs.declared.record.DestRecord.{DestRecord}
 use Rattle.hub_core.specs.declared.record.SessionRecord.{SessionRecord}
-use Rattle.tp_receiver.specs.Known.{Knows, cells_for, takes_for}
-use Rattle.tp_receiver.specs.Receiving.{RxInput, RxMove, RxState, Came, TimerTurn, FlowControlLeft, RunEnds, move_of, moves_in, moves_of}
-use Rattle.tp_receiver.specs.Rows.{RxStep}
-use Rattle.tp_receiver.specs.Running.{RxTurn, seen_by, seen_in, state_of}
 use Rattle.tp_receiver.specs.declared.receiver.Receiver.{Receiver}
 use Rattle.tp_receiver.specs.declared.set.RxSet.{RxSet}
 use Rattle.tp_sender.specs.Sending.{Moment, Written, box_then}
@@ -46,28 +48,28 @@ moves-grows [] v = sym (append-nil (map move_of v.changes))
 moves-grows (call ∷ calls) v = moves-grows calls (grow call v) ∙ ap (λ ms. ms ++ moves_in calls) (moves-grow call v) ∙ append_assoc (map move_of v.changes) (moves_of call) (moves_in calls)
 
 -- a frame that came is one more, and needs a take and nine cells
-came-takes : (tick : ℕ) (event : RxInput) → length (seen_in tick event) ≡ takes_for event
+came-takes : (tick : ℕ) (event : RxEvent) → length (frames_in tick event) ≡ takes_for event
 came-takes tick (Came size meaning) = refl
-came-takes tick TimerTurn = refl
-came-takes tick FlowControlLeft = refl
-came-takes tick RunEnds = refl
+came-takes tick Timer = refl
+came-takes tick FcLeft = refl
+came-takes tick RunEnd = refl
 
-came-cells : (event : RxInput) → cells_for event ≡ 9 * takes_for event
+came-cells : (event : RxEvent) → cells_for event ≡ 9 * takes_for event
 came-cells (Came size meaning) = refl
-came-cells TimerTurn = refl
-came-cells FlowControlLeft = refl
-came-cells RunEnds = refl
+came-cells Timer = refl
+came-cells FcLeft = refl
+came-cells RunEnd = refl
 
-came-more : (turns : List RxTurn) (tick : ℕ) (event : RxInput) → length (seen_by turns ++ seen_in tick event) ≡ length (seen_by turns) + takes_for event
-came-more turns tick event = length-append (seen_by turns) (seen_in tick event) ∙ ap (λ n. length (seen_by turns) + n) (came-takes tick event)
+came-more : (turns : List RxTurn) (tick : ℕ) (event : RxEvent) → length (came_by frames_in turns ++ frames_in tick event) ≡ length (came_by frames_in turns) + takes_for event
+came-more turns tick event = length-append (came_by frames_in turns) (frames_in tick event) ∙ ap (λ n. length (came_by frames_in turns) + n) (came-takes tick event)
 
 -- the receiver's part
-receiver-turn : (rx : RxSet) (shape : Shape) (t tick : ℕ) (turns : List RxTurn) (view later : View) (receiver next : Receiver) (lies now : Option Meaning) (controls after : List Written) (sessions told : List SessionRecord) (hub new : PlainHub) (event : RxInput) (move : RxMove) →
+receiver-turn : (rx : RxSet) (shape : Shape) (t tick : ℕ) (turns : List RxTurn) (view later : View) (receiver next : Receiver) (lies now : Option Meaning) (controls after : List Written) (sessions told : List SessionRecord) (hub new : PlainHub) (event : RxEvent) (move : RxDid) →
     RxStands rx shape t turns view receiver lies controls sessions → t ≤ tick → RxStepped receiver hub next new event tick move → view_in new ≡ later → now ≡ box_then move.act (control_once event lies) →
-    after ≡ controls ++ control_at shape event tick lies → told ≡ sessions ++ move.records → RxStands rx shape tick (record { event = event; move = move } ∷ turns) later next now after told
+    after ≡ controls ++ control_at shape event tick lies → told ≡ sessions ++ move.records → RxStands rx shape tick (record { event = event; did = move } ∷ turns) later next now after told
 receiver-turn rx shape t tick turns view later receiver next lies now controls after sessions told hub new event move stands by st later_is now_is after_is told_is =
     let more = came-more turns move.tick event in
-    let row : RxStep rx (state_of turns) event move = (let P : RxSet → Type 0 = λ s. RxStep s (state_of turns) event move in subst P stands.set (let Q : RxState → Type 0 = λ s. RxStep receiver.set s event move in subst Q stands.state st.row)) in
+    let row : RxStep rx (state_after rx_new turns) event move = (let P : RxSet → Type 0 = λ s. RxStep s (state_after rx_new turns) event move in subst P stands.set (let Q : RxState → Type 0 = λ s. RxStep receiver.set s event move in subst Q stands.state st.row)) in
     record {
       happened = (omega (arith, st.tick_is, stands.now), row, stands.happened);
       set = st.set ∙ stands.set;
@@ -77,7 +79,7 @@ receiver-turn rx shape t tick turns view later receiver next lies now controls a
       now = omega (arith, st.tick_is);
       waits = st.waits;
       lies_is = now_is ∙ ap (λ l. box_then move.act (control_once event l)) stands.lies_is;
-      fits = subst (FitsIn shape) (sym now_is) (fits-put shape move.act _ (fits-offers shape move.act (λ meaning is. offered-fits-shape rx shape (state_of turns) event move meaning row is)) (fits-control shape event lies stands.fits));
+      fits = subst (FitsIn shape) (sym now_is) (fits-put shape move.act _ (fits-offers shape move.act (λ meaning is. offered-fits-shape rx shape (state_after rx_new turns) event move meaning row is)) (fits-control shape event lies stands.fits));
       controls_are = after_is ∙ rw (stands.controls_are, ← st.tick_is, ← stands.lies_is) refl;
       sessions_are = told_is ∙ ap (λ l. l ++ move.records) stands.sessions_are;
     }
@@ -101,9 +103,9 @@ sender-stays tx t tick moments view later sender lies frames dests same by s = r
 }
 
 -- all of it
-pub turn-stands : (g h : Gateway) (t tick : ℕ) (turns : List RxTurn) (moments : List Moment) (view : View) (event : RxInput) → Stands g t turns moments view → t ≤ tick →
+pub turn-stands : (g h : Gateway) (t tick : ℕ) (turns : List RxTurn) (moments : List Moment) (view : View) (event : RxEvent) → Stands g t turns moments view → t ≤ tick →
     (told : TellsReceiver g h event tick (control_once event (lying g.control)) (g.controls ++ control_at g.machines.shape event tick (lying g.control))) →
-    Stands h tick (record { event = event; move = told.move } ∷ turns) moments (grows told.move.calls view)
+    Stands h tick (record { event = event; did = told.move } ∷ turns) moments (grows told.move.calls view)
 turn-stands g h t tick turns moments view event s by told =
     let move = told.move in
     let st = told.stepped in
@@ -112,7 +114,7 @@ turn-stands g h t tick turns moments view event s by told =
     let readings : (grows move.calls view).readings ≡ view.readings = sym (ap (λ (v : View). v.readings) grown) ∙ st.readings ∙ ap (λ (v : View). v.readings) pool.view_is in
     let more = came-more turns move.tick event in
     let cells = came-cells event in
-    let R : Gateway → Type 0 = λ x. RxStands x.machines.rx x.machines.shape tick (record { event = event; move = move } ∷ turns) (grows move.calls view) h.receiver (lying h.control) h.controls h.sessions in
+    let R : Gateway → Type 0 = λ x. RxStands x.machines.rx x.machines.shape tick (record { event = event; did = move } ∷ turns) (grows move.calls view) h.receiver (lying h.control) h.controls h.sessions in
     let T : Gateway → Type 0 = λ x. TxStands x.machines.tx tick moments (grows move.calls view) x.sender (lying x.frame) x.frames x.dests in
     record {
       receives = subst R (sym told.rest) (receiver-turn g.machines.rx g.machines.shape t tick turns view (grows move.calls view) g.receiver h.receiver (lying g.control) (lying h.control) g.controls h.controls g.sessions h.sessions g.hub h.hub event move s.receives by st grown told.lies_is told.controls_are told.sessions);

@@ -1,10 +1,11 @@
 -- What the receiver knows of the hub depends on its sessions alone, and what the sender knows of it on its readings alone.
 use Rattle.std.proofs.Common.{◌≡◌, ℕ, ◌≤◌, length, Option, Some, None, ap, ◌∙◌, arith}
+use Rattle.tp_receiver.specs.Port.{Knows, KnowsState}
+use Rattle.tp_receiver.specs.State.{WaitsBy}
 use Rattle.std.specs.Prelude.{slice_get}
 use Rattle.hub_core.specs.View.{View}
 use Rattle.hub_core.specs.declared.token.Opened.{Opened}
 use Rattle.hub_core.specs.Tokens.{Writes}
-use Rattle.tp_receiver.specs.Known.{Knows, KnowsState, WaitsBy}
 use Rattle.tp_receiver.specs.declared.reception.State.{State}
 use Rattle.tp_receiver.specs.declared.reception.State.TheVariants.{Idle, Busy}
 use Rattle.tp_receiver.specs.declared.receiver.Receiver.{Receiver}

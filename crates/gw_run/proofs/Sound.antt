@@ -1,11 +1,11 @@
 -- What a step of the sender says of its calls: the move that it tells is the one that they made, and what it offers fits the shape.
 use Rattle.std.proofs.Common.{◌≡◌, ℕ, Option, Some, None, List, [], ◌∷◌, ◌++◌, map, refl, sym, subst, ap, ◌∙◌}
+use Rattle.hub_core.specs.Moves.{move_of, moves_in, moves_of}
 use Rattle.std.specs.Prelude.{option_to_list}
 use Rattle.hub_core.specs.View.{Event, Read}
 use Rattle.hub_core.specs.declared.port.Seen.{Seen}
 use Rattle.hub_core.specs.declared.record.DestResult.{DestResult}
 use Rattle.hub_core.specs.declared.record.Move.{Move}
-use Rattle.tp_receiver.specs.Receiving.{move_of, moves_in, moves_of}
 use Rattle.tp_sender.specs.State.{Sending, TxState}
 use Rattle.tp_sender.specs.Table.{Answered, Did, Ends, Fetches, FrameLeft, GoesOn, IdleRow, InAnswer, InBytes, InGap, InStart, InTurn, InWait, IsFree, Lacks, LiveRow, NoneStands, TxMove, TxStep, fetched, freed_of, look_at, revoked}
 use Rattle.tp_sender.specs.Table.{WriterGone, TooLate, MayCome, Enough, Short, Reached, NeverReached, NotReached, Due, NotDue, GapOver, GapLasts, NothingToSend, Joins, NothingStands, FindsOne, LastLeft, FirstLeft, NextLeft, Continues, AsksToWait, Overflows, IsInvalid}

@@ -1,13 +1,15 @@
 -- From step to step within a tick's work.
 use Rattle.std.proofs.Common.{◌≡◌, ℕ, Option, Some, None, List, [], ◌∷◌, ◌++◌, length, refl, sym, subst, ap, ◌∙◌, append-nil, append_assoc, arith}
+use Rattle.tp_receiver.specs.State.{RxEvent, Came, Timer, FcLeft, RxTurn}
+use Rattle.hub_core.specs.Turns.{calls_by, came_by}
+use Rattle.tp_receiver.specs.Runs.{frames_in}
 use Rattle.can_frame.specs.Frame.{CanFrame}
-use Rattle.hub_core.specs.Floors.{AreFresh, Floors, floors_of}
+use Rattle.hub_core.specs.Floors.{floors_of}
 use Rattle.hub_core.specs.View.{View, grows}
 use Rattle.hub_core.proofs.Whole.{is-joint}
-use Rattle.gw_law.specs.Run.{AreLooks, ControlLeaves, IsJoint, control_after, moments_of, turns_of, view_of}
+use Rattle.gw_law.proofs.RxLooks.{fresh-counts}
+use Rattle.gw_law.specs.Run.{AreLooks, ControlLeaves, IsJoint, LooksCount, control_after, moments_of, turns_of, view_of}
 use Rattle.tp_attempts.specs.Seen.{Seen, seen_frame}
-use Rattle.tp_receiver.specs.Receiving.{RxInput, Came, TimerTurn, FlowControlLeft}
-use Rattle.tp_receiver.specs.Running.{RxTurn, calls_by as received_calls, seen_by}
 use Rattle.tp_sender.specs.Sending.{Answer, Moment, Written, written_of}
 use Rattle.tp_unit.specs.Reading.{unit_of}
 use Rattle.tp_unit.specs.Unit.{Meaning}
@@ -27,25 +29,25 @@ stands-joint g t turns moments view s =
     subst P s.pool.view_is (subst Q s.pool.size (is-joint g.hub))
 
 -- the same step, with the flow controls that had left written otherwise
-abbrev pub told-with : (g h : Gateway) (event : RxInput) (tick : ℕ) (lies : Option Meaning) (controls other : List Written) → controls ≡ other → TellsReceiver g h event tick lies controls → TellsReceiver g h event tick lies other
+abbrev pub told-with : (g h : Gateway) (event : RxEvent) (tick : ℕ) (lies : Option Meaning) (controls other : List Written) → controls ≡ other → TellsReceiver g h event tick lies controls → TellsReceiver g h event tick lies other
 told-with g h event tick lies controls other is told = record { move = told.move; stepped = told.stepped; lies_is = told.lies_is; controls_are = told.controls_are ∙ is; sessions = told.sessions; moves = told.moves; rest = told.rest }
 
-abbrev pub told-same : (g h : Gateway) (event : RxInput) (tick : ℕ) (lies : Option Meaning) → TellsReceiver g h event tick lies g.controls → TellsReceiver g h event tick lies (g.controls ++ [])
+abbrev pub told-same : (g h : Gateway) (event : RxEvent) (tick : ℕ) (lies : Option Meaning) → TellsReceiver g h event tick lies g.controls → TellsReceiver g h event tick lies (g.controls ++ [])
 told-same g h event tick lies told = told-with g h event tick lies g.controls (g.controls ++ []) (sym (append-nil g.controls)) told
 
--- the step's looks are fresh at the view in which it began
-fresh-at : (g h : Gateway) (t tick : ℕ) (turns : List RxTurn) (moments : List Moment) (view : View) (event : RxInput) (lies : Option Meaning) (controls : List Written) → Stands g t turns moments view →
-    (told : TellsReceiver g h event tick lies controls) → (floors : Floors) × AreFresh floors view told.move.calls
-fresh-at g h t tick turns moments view event lies controls s told =
-    let P : View → Type 0 = λ v. AreFresh (floors_of (view_in g.hub)) v told.move.calls in (floors_of (view_in g.hub), subst P s.pool.view_is told.stepped.fresh)
+-- the step's looks at the room count all but what was put
+counts-at : (g h : Gateway) (t tick : ℕ) (turns : List RxTurn) (moments : List Moment) (view : View) (event : RxEvent) (lies : Option Meaning) (controls : List Written) → Stands g t turns moments view →
+    (told : TellsReceiver g h event tick lies controls) → LooksCount view told.move.calls
+counts-at g h t tick turns moments view event lies controls s told =
+    let P : View → Type 0 = λ v. LooksCount v told.move.calls in subst P s.pool.view_is (fresh-counts (floors_of (view_in g.hub)) (view_in g.hub) told.move.calls told.stepped.fresh)
 
 -- a frame of the source channel came
 pub received : (g h : Gateway) (seen : List Seen) (answers : List Answer) (tick : ℕ) (frame : CanFrame) → InSource g seen answers tick →
     TellsReceiver g h (Came (length frame.bytes) (unit_of 0 frame)) tick (lying g.control) g.controls → InSource h (seen ++ seen_frame 0 tick frame ∷ []) answers tick
 received g h seen answers tick frame at told =
     let event = Came (length frame.bytes) (unit_of 0 frame) in
-    let turn : RxTurn = record { event = event; move = told.move } in
-    let view = grows (received_calls at.turns) (view_of at.earlier) in
+    let turn : RxTurn = record { event = event; did = told.move } in
+    let view = grows (calls_by at.turns) (view_of at.earlier) in
     let told_so = told-same g h event tick (lying g.control) told in
     let stands = turn-stands g h tick tick (at.turns ++ turns_of at.earlier) (moments_of at.earlier) view event at.stands (omega arith) told_so in
     let V : View → Type 0 = λ v. Stands h tick (turn ∷ (at.turns ++ turns_of at.earlier)) (moments_of at.earlier) v in
@@ -56,10 +58,10 @@ received g h seen answers tick frame at told =
       later = at.later;
       next = at.next;
       came = (told.stepped.tick_is, at.came);
-      looks = (fresh-at g h tick tick _ _ view event (lying g.control) g.controls at.stands told, at.looks);
-      stands = subst V (sym (grows-append (received_calls at.turns) told.move.calls (view_of at.earlier))) stands;
+      looks = (counts-at g h tick tick _ _ view event (lying g.control) g.controls at.stands told, at.looks);
+      stands = subst V (sym (grows-append (calls_by at.turns) told.move.calls (view_of at.earlier))) stands;
       clear = at.clear;
-      seen_is = ap (λ (k : ℕ). seen_by (at.turns ++ turns_of at.earlier) ++ (record { at = k; size = length frame.bytes; meaning = unit_of 0 frame } ∷ [])) told.stepped.tick_is
+      seen_is = ap (λ (k : ℕ). came_by frames_in (at.turns ++ turns_of at.earlier) ++ (record { at = k; size = length frame.bytes; meaning = unit_of 0 frame } ∷ [])) told.stepped.tick_is
           ∙ ap (λ (l : List Seen). l ++ seen_frame 0 tick frame ∷ []) at.seen_is;
       answers_is = at.answers_is;
     }
@@ -68,9 +70,9 @@ received g h seen answers tick frame at told =
 record ControlLeft (h : Gateway) (tick : ℕ) (turns : List RxTurn) (moments : List Moment) (view : View) : Type 0 where
   left : List RxTurn
   left_is : ControlLeaves tick (control_after turns) left
-  none_seen : seen_by (left ++ turns) ≡ seen_by turns
+  none_seen : came_by frames_in (left ++ turns) ≡ came_by frames_in turns
   looks : AreLooks view left
-  stands : Stands h tick (left ++ turns) moments (grows (received_calls left) view)
+  stands : Stands h tick (left ++ turns) moments (grows (calls_by left) view)
 
 control-left : (g h : Gateway) (tick : ℕ) (turns : List RxTurn) (moments : List Moment) (view : View) (lies : Option Meaning) → lying g.control ≡ lies → Stands g tick turns moments view → LeavesControl lies g h tick → ControlLeft h tick turns moments view
 control-left g h tick turns moments view None is s same =
@@ -78,48 +80,48 @@ control-left g h tick turns moments view None is s same =
     let H : Gateway → Type 0 = λ x. Stands x tick turns moments view in
     record { left = []; left_is = subst P (sym is ∙ s.receives.lies_is) refl; none_seen = refl; looks = tt; stands = subst H (sym same) s }
 control-left g h tick turns moments view (Some meaning) is s told =
-    let turn : RxTurn = record { event = FlowControlLeft; move = told.move } in
+    let turn : RxTurn = record { event = FcLeft; did = told.move } in
     let P : Option Meaning → Type 0 = λ l. ControlLeaves tick l (turn ∷ []) in
     let same = ap (λ l. g.controls ++ written_of g.machines.shape tick l) (sym is) in
     record {
       left = turn ∷ [];
       left_is = subst P (sym is ∙ s.receives.lies_is) (refl, told.stepped.tick_is, refl);
-      none_seen = append-nil (seen_by turns);
-      looks = (fresh-at g h tick tick turns moments view FlowControlLeft None _ s told, tt);
-      stands = turn-stands g h tick tick turns moments view FlowControlLeft s (omega arith) (told-with g h FlowControlLeft tick None _ _ same told);
+      none_seen = append-nil (came_by frames_in turns);
+      looks = (counts-at g h tick tick turns moments view FcLeft None _ s told, tt);
+      stands = turn-stands g h tick tick turns moments view FcLeft s (omega arith) (told-with g h FcLeft tick None _ _ same told);
     }
 
-grows-join : (left rest : List RxTurn) (view : View) → grows (received_calls (left ++ rest)) view ≡ grows (received_calls left) (grows (received_calls rest) view)
-grows-join left rest view = ap (λ c. grows c view) (received-calls left rest) ∙ grows-append (received_calls rest) (received_calls left) view
+grows-join : (left rest : List RxTurn) (view : View) → grows (calls_by (left ++ rest)) view ≡ grows (calls_by left) (grows (calls_by rest) view)
+grows-join left rest view = ap (λ c. grows c view) (received-calls left rest) ∙ grows-append (calls_by rest) (calls_by left) view
 
-looks-join : (left rest : List RxTurn) (view : View) → AreLooks (grows (received_calls rest) view) left → AreLooks view rest → AreLooks view (left ++ rest)
+looks-join : (left rest : List RxTurn) (view : View) → AreLooks (grows (calls_by rest) view) left → AreLooks view rest → AreLooks view (left ++ rest)
 looks-join [] rest view one other = other
 looks-join (turn ∷ left) rest view one other =
-    let P : View → Type 0 = λ v. (floors : Floors) × AreFresh floors v turn.move.calls in (subst P (sym (grows-join left rest view)) one.0, looks-join left rest view one.1 other)
+    let P : View → Type 0 = λ v. LooksCount v turn.did.calls in (subst P (sym (grows-join left rest view)) one.0, looks-join left rest view one.1 other)
 
 -- the receiver's timer
-pub timer-stands : (g k : Gateway) (seen : List Seen) (answers : List Answer) (tick : ℕ) → (at : InSource g seen answers tick) → (told : TellsReceiver g k TimerTurn tick (lying g.control) g.controls) →
-    Stands k tick (record { event = TimerTurn; move = told.move } ∷ (at.turns ++ turns_of at.earlier)) (moments_of at.earlier) (grows told.move.calls (grows (received_calls at.turns) (view_of at.earlier)))
+pub timer-stands : (g k : Gateway) (seen : List Seen) (answers : List Answer) (tick : ℕ) → (at : InSource g seen answers tick) → (told : TellsReceiver g k Timer tick (lying g.control) g.controls) →
+    Stands k tick (record { event = Timer; did = told.move } ∷ (at.turns ++ turns_of at.earlier)) (moments_of at.earlier) (grows told.move.calls (grows (calls_by at.turns) (view_of at.earlier)))
 timer-stands g k seen answers tick at told =
-    turn-stands g k tick tick (at.turns ++ turns_of at.earlier) (moments_of at.earlier) (grows (received_calls at.turns) (view_of at.earlier)) TimerTurn at.stands (omega arith) (told-same g k TimerTurn tick (lying g.control) told)
+    turn-stands g k tick tick (at.turns ++ turns_of at.earlier) (moments_of at.earlier) (grows (calls_by at.turns) (view_of at.earlier)) Timer at.stands (omega arith) (told-same g k Timer tick (lying g.control) told)
 
 -- the source's part of a tick ends
-pub source-ends : (g k h : Gateway) (seen : List Seen) (answers : List Answer) (tick : ℕ) → InSource g seen answers tick → TellsReceiver g k TimerTurn tick (lying g.control) g.controls →
+pub source-ends : (g k h : Gateway) (seen : List Seen) (answers : List Answer) (tick : ℕ) → InSource g seen answers tick → TellsReceiver g k Timer tick (lying g.control) g.controls →
     LeavesControl (lying k.control) k h tick → InDestination h seen answers tick
 source-ends g k h seen answers tick at told leaves =
-    let timer : RxTurn = record { event = TimerTurn; move = told.move } in
-    let view = grows (received_calls at.turns) (view_of at.earlier) in
+    let timer : RxTurn = record { event = Timer; did = told.move } in
+    let view = grows (calls_by at.turns) (view_of at.earlier) in
     let stands = timer-stands g k seen answers tick at told in
     let out = control-left k h tick (timer ∷ (at.turns ++ turns_of at.earlier)) (moments_of at.earlier) (grows told.move.calls view) (lying k.control) refl stands leaves in
-    let mid : grows (received_calls (timer ∷ at.turns)) (view_of at.earlier) ≡ grows told.move.calls view = grows-append (received_calls at.turns) told.move.calls (view_of at.earlier) in
-    let all : grows (received_calls (out.left ++ timer ∷ at.turns)) (view_of at.earlier) ≡ grows (received_calls out.left) (grows told.move.calls view) =
-    grows-join out.left (timer ∷ at.turns) (view_of at.earlier) ∙ ap (λ v. grows (received_calls out.left) v) mid in
+    let mid : grows (calls_by (timer ∷ at.turns)) (view_of at.earlier) ≡ grows told.move.calls view = grows-append (calls_by at.turns) told.move.calls (view_of at.earlier) in
+    let all : grows (calls_by (out.left ++ timer ∷ at.turns)) (view_of at.earlier) ≡ grows (calls_by out.left) (grows told.move.calls view) =
+    grows-join out.left (timer ∷ at.turns) (view_of at.earlier) ∙ ap (λ v. grows (calls_by out.left) v) mid in
     let turns_are : (out.left ++ timer ∷ at.turns) ++ turns_of at.earlier ≡ out.left ++ timer ∷ (at.turns ++ turns_of at.earlier) = append_assoc out.left (timer ∷ at.turns) (turns_of at.earlier) in
-    let L : List RxTurn → Type 0 = λ l. Stands h tick l (moments_of at.earlier) (grows (received_calls out.left) (grows told.move.calls view)) in
+    let L : List RxTurn → Type 0 = λ l. Stands h tick l (moments_of at.earlier) (grows (calls_by out.left) (grows told.move.calls view)) in
     let V : View → Type 0 = λ v. Stands h tick ((out.left ++ timer ∷ at.turns) ++ turns_of at.earlier) (moments_of at.earlier) v in
-    let now : Stands h tick ((out.left ++ timer ∷ at.turns) ++ turns_of at.earlier) (moments_of at.earlier) (grows (received_calls (out.left ++ timer ∷ at.turns)) (view_of at.earlier)) =
+    let now : Stands h tick ((out.left ++ timer ∷ at.turns) ++ turns_of at.earlier) (moments_of at.earlier) (grows (calls_by (out.left ++ timer ∷ at.turns)) (view_of at.earlier)) =
     subst V (sym all) (subst L (sym turns_are) out.stands) in
-    let looks_left : AreLooks (grows (received_calls (timer ∷ at.turns)) (view_of at.earlier)) out.left = (let P : View → Type 0 = λ v. AreLooks v out.left in subst P (sym mid) out.looks) in
+    let looks_left : AreLooks (grows (calls_by (timer ∷ at.turns)) (view_of at.earlier)) out.left = (let P : View → Type 0 = λ v. AreLooks v out.left in subst P (sym mid) out.looks) in
     record {
       earlier = at.earlier;
       turns = out.left ++ timer ∷ at.turns;
@@ -128,11 +130,11 @@ source-ends g k h seen answers tick at told leaves =
       later = at.later;
       next = at.next;
       receives = record { came = at.turns; timer = timer; left = out.left; turns_are = refl; came_only = at.came; timer_is = refl; timer_tick = told.stepped.tick_is; left_is = out.left_is };
-      looks = looks-join out.left (timer ∷ at.turns) (view_of at.earlier) looks_left (fresh-at g k tick tick _ _ view TimerTurn (lying g.control) g.controls at.stands told, at.looks);
+      looks = looks-join out.left (timer ∷ at.turns) (view_of at.earlier) looks_left (counts-at g k tick tick _ _ view Timer (lying g.control) g.controls at.stands told, at.looks);
       between = stands-joint h tick _ _ _ now;
       only = tt;
       stands = now;
       clear = at.clear;
-      seen_is = ap seen_by turns_are ∙ out.none_seen ∙ append-nil (seen_by (at.turns ++ turns_of at.earlier)) ∙ at.seen_is;
+      seen_is = ap (came_by frames_in) turns_are ∙ out.none_seen ∙ append-nil (came_by frames_in (at.turns ++ turns_of at.earlier)) ∙ at.seen_is;
       answers_is = at.answers_is;
     }

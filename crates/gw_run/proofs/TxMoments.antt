@@ -1,12 +1,12 @@
 -- One more step of the sender, and all stands.
 use Rattle.std.proofs.Common.{◌≡◌, ℕ, ◌≤◌, Option, List, ◌∷◌, ◌++◌, sym, subst, ap, ◌∙◌, arith}
+use Rattle.hub_core.specs.Moves.{moves_in}
+use Rattle.tp_receiver.specs.State.{RxTurn}
 use Rattle.std.specs.Prelude.{option_to_list}
 use Rattle.hub_core.specs.View.{View, grows}
 use Rattle.hub_core.specs.declared.plain.PlainHub.{PlainHub}
 use Rattle.hub_core.specs.declared.record.DestRecord.{DestRecord}
 use Rattle.hub_core.specs.declared.record.SessionRecord.{SessionRecord}
-use Rattle.tp_receiver.specs.Receiving.{moves_in}
-use Rattle.tp_receiver.specs.Running.{RxTurn}
 use Rattle.tp_receiver.specs.declared.receiver.Receiver.{Receiver}
 use Rattle.tp_receiver.specs.declared.set.RxSet.{RxSet}
 use Rattle.tp_sender.specs.Sending.{InOrder, Moment, Stepped, Written, box_after, box_once, box_then, left_by, state_from, written_at}

@@ -1,5 +1,10 @@
 -- The gateway at its work: what its fields are after what the receiver and the sender did, and where in a tick its work stands.
 use Rattle.std.specs.Prelude.{◌≡◌, ◌⊎◌, ℕ, ◌+◌, ◌-◌, ◌*◌, ◌≤◌, true, None, Some, Option, option_map, List, [], ◌∷◌, ◌++◌, length, map}
+use Rattle.tp_receiver.specs.Port.{Knows}
+use Rattle.tp_receiver.specs.State.{WaitsBy, state_of, RxTurn, rx_new}
+use Rattle.hub_core.specs.Moves.{move_of}
+use Rattle.tp_receiver.specs.Runs.{HasReceived, frames_in}
+use Rattle.hub_core.specs.Turns.{calls_by, now_of, came_by, state_after, records_by}
 use Rattle.std.specs.List.{AllByRecursion}
 use Rattle.gw_law.specs.Run.{AreLooks, AreTicks, CameIn, IsAnswerIn, IsIdle, IsJoint, IsRun, ReceivesIn, Route, Work, control_after, controls_by, moments_of, route_of, tick_after, turns_of, view_of}
 use Rattle.hub_core.specs.Plain.{hub_view}
@@ -10,9 +15,6 @@ use Rattle.hub_core.specs.declared.record.Move.{Move}
 use Rattle.hub_core.specs.declared.record.SessionRecord.{SessionRecord}
 use Rattle.tick_clock.specs.declared.clock.Clock.{Clock}
 use Rattle.tp_attempts.specs.Seen.{Seen}
-use Rattle.tp_receiver.specs.Known.{Knows, WaitsBy}
-use Rattle.tp_receiver.specs.Receiving.{move_of, state_in}
-use Rattle.tp_receiver.specs.Running.{RxTurn, Happened as Received, calls_by as received_calls, now_of as received_at, seen_by, state_of, told_by as received_by}
 use Rattle.tp_receiver.specs.declared.receiver.Receiver.{Receiver}
 use Rattle.tp_receiver.specs.declared.set.RxSet.{RxSet}
 use Rattle.tp_sender.specs.Sending.{Answer, Moment, Written, Happened as WasSent, answered_by, box_after, calls_by as sent_calls, clear_from, left_by, now_of as sent_at, state_from, told_by as sent_by}
@@ -48,17 +50,17 @@ view_in hub = hub_view hub.size hub.place hub.past.items hub.changes.items hub.r
 
 -- the receiver after these turns, the last of them no later than the tick, with what lies in its box, what left and what is told
 pub record RxStands (rx : RxSet) (shape : Shape) (tick : ℕ) (turns : List RxTurn) (view : View) (receiver : Receiver) (lies : Option Meaning) (controls : List Written) (sessions : List SessionRecord) : Type 0 where
-  pub happened : Received rx turns
+  pub happened : HasReceived rx turns
   pub set : receiver.set ≡ rx
-  pub state : state_in receiver ≡ state_of turns
+  pub state : state_after rx_new receiver ≡ state_after rx_new turns
   pub knows : Knows view receiver
-  pub number : receiver.next_n ≤ length (seen_by turns)
-  pub now : received_at turns ≤ tick
+  pub number : receiver.next_n ≤ length (came_by frames_in turns)
+  pub now : now_of turns ≤ tick
   pub waits : WaitsBy receiver.state tick
   pub lies_is : lies ≡ control_after turns
   pub fits : FitsIn shape lies
   pub controls_are : controls ≡ controls_by shape turns
-  pub sessions_are : sessions ≡ received_by turns
+  pub sessions_are : sessions ≡ records_by turns
 
 -- the sender after these moments, the last of them no later than the tick, with what lies in its box, what left and what is told
 pub record TxStands (tx : TxSet) (tick : ℕ) (moments : List Moment) (view : View) (sender : Sender) (lies : Option Meaning) (frames : List Written) (dests : List DestRecord) : Type 0 where
@@ -87,11 +89,11 @@ pub record PoolStands (came : ℕ) (view : View) (hub : PlainHub) (moves : List 
 pub record Stands (g : Gateway) (tick : ℕ) (turns : List RxTurn) (moments : List Moment) (view : View) : Type 0 where
   pub receives : RxStands g.machines.rx g.machines.shape tick turns view g.receiver (lying g.control) g.controls g.sessions
   pub sends : TxStands g.machines.tx tick moments view g.sender (lying g.frame) g.frames g.dests
-  pub pool : PoolStands (length (seen_by turns)) view g.hub g.moves
+  pub pool : PoolStands (length (came_by frames_in turns)) view g.hub g.moves
 
 -- nothing is received and nothing is sent
 pub record IsQuiet (g : Gateway) : Type 0 where
-  pub receiver : (state_in g.receiver).busy ≡ None
+  pub receiver : (state_after rx_new g.receiver).busy ≡ None
   pub sender : (sender_state g.sender).live ≡ None
 
 -- between two ticks: these frames and flow controls came so far, and the next tick is this one or, where nothing goes on, any later one
@@ -101,7 +103,7 @@ pub record AtBarrier (g : Gateway) (seen : List Seen) (answers : List Answer) (n
   pub next_is : tick_after works ≡ next
   pub stands : Stands g (next - 1) (turns_of works) (moments_of works) (view_of works)
   pub clear : clear_from (moments_of works) ≤ next
-  pub seen_is : seen_by (turns_of works) ≡ seen
+  pub seen_is : came_by frames_in (turns_of works) ≡ seen
   pub answers_is : answered_by (moments_of works) ≡ answers
 
 -- at the source's part of a tick's work: these turns are those of its frames that came so far
@@ -111,11 +113,11 @@ pub record InSource (g : Gateway) (seen : List Seen) (answers : List Answer) (ti
   pub ticks : AreTicks (BUFFER_CELLS ∷ []) earlier
   pub later : tick_after earlier ≤ tick
   pub next : IsIdle earlier ⊎ (tick ≡ tick_after earlier)
-  pub came : AllByRecursion (λ (turn : RxTurn). CameIn tick turn.event turn.move.tick) turns
+  pub came : AllByRecursion (λ (turn : RxTurn). CameIn tick turn.event turn.did.tick) turns
   pub looks : AreLooks (view_of earlier) turns
-  pub stands : Stands g tick (turns ++ turns_of earlier) (moments_of earlier) (grows (received_calls turns) (view_of earlier))
+  pub stands : Stands g tick (turns ++ turns_of earlier) (moments_of earlier) (grows (calls_by turns) (view_of earlier))
   pub clear : clear_from (moments_of earlier) ≤ tick
-  pub seen_is : seen_by (turns ++ turns_of earlier) ≡ seen
+  pub seen_is : came_by frames_in (turns ++ turns_of earlier) ≡ seen
   pub answers_is : answered_by (moments_of earlier) ≡ answers
 
 -- at the destination's part of a tick's work: these moments are those of the flow controls that came so far
@@ -128,11 +130,11 @@ pub record InDestination (g : Gateway) (seen : List Seen) (answers : List Answer
   pub next : IsIdle earlier ⊎ (tick ≡ tick_after earlier)
   pub receives : ReceivesIn tick (turns_of earlier) turns
   pub looks : AreLooks (view_of earlier) turns
-  pub between : IsJoint (BUFFER_CELLS ∷ []) (grows (received_calls turns) (view_of earlier))
+  pub between : IsJoint (BUFFER_CELLS ∷ []) (grows (calls_by turns) (view_of earlier))
   pub only : AllByRecursion (IsAnswerIn tick) moments
-  pub stands : Stands g tick (turns ++ turns_of earlier) (moments ++ moments_of earlier) (grows (sent_calls moments) (grows (received_calls turns) (view_of earlier)))
+  pub stands : Stands g tick (turns ++ turns_of earlier) (moments ++ moments_of earlier) (grows (sent_calls moments) (grows (calls_by turns) (view_of earlier)))
   pub clear : clear_from (moments ++ moments_of earlier) ≤ tick
-  pub seen_is : seen_by (turns ++ turns_of earlier) ≡ seen
+  pub seen_is : came_by frames_in (turns ++ turns_of earlier) ≡ seen
   pub answers_is : answered_by (moments ++ moments_of earlier) ≡ answers
 
 -- what is told of a run in which these frames and flow controls came

@@ -1,5 +1,9 @@
 -- One step of the gateway: what a step of the receiver or of the sender over the hub needs, what it comes to, and what is noted of it.
 use Rattle.std.specs.Prelude.{◌≡◌, ℕ, ◌+◌, ◌≤◌, None, Some, Option, option_to_list, List, [], ◌∷◌, ◌++◌, length}
+use Rattle.tp_receiver.specs.Port.{ActsFor, CanTake, Knows, cells_for, takes_for}
+use Rattle.tp_receiver.specs.State.{WaitsBy, RxEvent, RxDid, FcLeft, state_of, RxTurn}
+use Rattle.hub_core.specs.Moves.{moves_in}
+use Rattle.tp_receiver.specs.Table.{RxStep}
 use Rattle.std.specs.List.{AllByRecursion}
 use Rattle.gw_law.specs.Run.{IsStepIn}
 use Rattle.hub_core.specs.Calls.{Means}
@@ -9,10 +13,6 @@ use Rattle.hub_core.specs.Plain.{hub_means}
 use Rattle.hub_core.specs.View.{View, grows}
 use Rattle.hub_core.specs.declared.plain.PlainHub.{PlainHub}
 use Rattle.tick_clock.specs.declared.clock.Clock.{Clock}
-use Rattle.tp_receiver.specs.Known.{ActsFor, CanTake, Knows, WaitsBy, cells_for, takes_for}
-use Rattle.tp_receiver.specs.Receiving.{RxInput, RxMove, FlowControlLeft, moves_in, state_in}
-use Rattle.tp_receiver.specs.Rows.{RxStep}
-use Rattle.tp_receiver.specs.Running.{RxTurn}
 use Rattle.tp_receiver.specs.declared.receiver.Receiver.{Receiver}
 use Rattle.tp_sender.specs.Sending.{Moment, Written, box_then, calls_by, written_of}
 use Rattle.tp_sender.specs.State.{HasFrame, IsInBox, IsPlain, Knows as KnowsPort, StillHasFrame, ActsFor as ActsForSender, set_of, since_of, state_of}
@@ -30,20 +30,20 @@ abbrev pub means_in : PlainHub → Means
 means_in hub = hub_means hub.size hub.takes hub.spare
 
 -- the receiver can be told of this in that tick
-pub record CanTell (receiver : Receiver) (hub : PlainHub) (event : RxInput) (tick : ℕ) : Type 0 where
+pub record CanTell (receiver : Receiver) (hub : PlainHub) (event : RxEvent) (tick : ℕ) : Type 0 where
   pub acts : ActsFor receiver.set (means_in hub)
   pub knows : Knows (view_in hub) receiver
   pub waits : WaitsBy receiver.state tick
   pub can : CanTake receiver.set (means_in hub) receiver.next_n event
 
 -- a step of the receiver over the hub
-pub record RxStepped (receiver : Receiver) (hub : PlainHub) (next : Receiver) (later : PlainHub) (event : RxInput) (tick : ℕ) (move : RxMove) : Type 0 where
+pub record RxStepped (receiver : Receiver) (hub : PlainHub) (next : Receiver) (later : PlainHub) (event : RxEvent) (tick : ℕ) (move : RxDid) : Type 0 where
   pub tick_is : move.tick ≡ tick
-  pub row : RxStep receiver.set (state_in receiver) event move
+  pub row : RxStep receiver.set (state_of receiver) event move
   pub fresh : AreFresh (floors_of (view_in hub)) (view_in hub) move.calls
   pub grown : view_in later ≡ grows move.calls (view_in hub)
   pub set : next.set ≡ receiver.set
-  pub state : state_in next ≡ move.new
+  pub state : state_of next ≡ move.new
   pub knows : Knows (view_in later) next
   pub waits : WaitsBy next.state tick
   pub number : next.next_n ≤ receiver.next_n + takes_for event
@@ -53,8 +53,8 @@ pub record RxStepped (receiver : Receiver) (hub : PlainHub) (next : Receiver) (l
   pub spare : hub.spare ≤ later.spare + cells_for event
 
 -- the receiver was told of this in that tick, where this lay in its box and these flow controls had left, and its step is noted
-pub record TellsReceiver (g h : Gateway) (event : RxInput) (tick : ℕ) (lies : Option Meaning) (controls : List Written) : Type 0 where
-  pub move : RxMove
+pub record TellsReceiver (g h : Gateway) (event : RxEvent) (tick : ℕ) (lies : Option Meaning) (controls : List Written) : Type 0 where
+  pub move : RxDid
   pub stepped : RxStepped g.receiver g.hub h.receiver h.hub event tick move
   pub lies_is : lying h.control ≡ box_then move.act lies
   pub controls_are : h.controls ≡ controls
@@ -65,7 +65,7 @@ pub record TellsReceiver (g h : Gateway) (event : RxInput) (tick : ℕ) (lies : 
 -- the flow control that lies in the box leaves, and the receiver is told; where nothing lies there nothing is done
 abbrev pub LeavesControl : Option Meaning → (g h : Gateway) → (tick : ℕ) → Type 0
 LeavesControl None g h tick = h ≡ g
-LeavesControl (Some meaning) g h tick = TellsReceiver g h FlowControlLeft tick None (g.controls ++ written_of g.machines.shape tick (Some meaning))
+LeavesControl (Some meaning) g h tick = TellsReceiver g h FcLeft tick None (g.controls ++ written_of g.machines.shape tick (Some meaning))
 
 -- the sender can be told of this in that tick
 pub record CanTellSender (sender : Sender) (hub : PlainHub) (event : TxEvent) (tick : ℕ) : Type 0 where

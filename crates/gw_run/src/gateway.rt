@@ -1,10 +1,9 @@
 //! The receiver of the source channel and the sender of the destination at work over one hub, step by step.
 ghost use Rattle.std.specs.Prelude.{◌≡◌, ◌⊎◌, ◌+◌, ◌<◌, ◌≤◌, [], ◌∷◌, ◌++◌, List, ℕ, false, length, IfOk, OnOk};
+ghost use Rattle.tp_receiver.specs.State.{FcLeft, event_of, RxTurn};
 ghost use Rattle.std.specs.Bool.{MatchBool};
 ghost use Rattle.hub_core.specs.View.{View};
 ghost use Rattle.tp_attempts.specs.Seen.{Seen, seen_frame};
-ghost use Rattle.tp_receiver.specs.Receiving.{FlowControlLeft, input_of};
-ghost use Rattle.tp_receiver.specs.Running.{RxTurn};
 ghost use Rattle.tp_sender.specs.Sending.{Answer, Moment};
 ghost use Rattle.tp_sender.specs.declared.event.TxEvent.TheVariants.{Left, RunEnd};
 ghost use Rattle.tp_unit.specs.Reading.{unit_of};
@@ -157,8 +156,8 @@ impl Gateway {
 impl Gateway {
     /// A step of the receiver, and what it tells is noted.
     fn tell_receiver(&mut self, event: RxEvent, tick: Tick) -> Result<(), Memory>
-        requires { CanTell self.old.receiver self.old.hub (input_of event) tick.0 }
-        ensures { OnOk result (TellsReceiver self.old self.new (input_of event) tick.0 (lying self.old.control) self.old.controls) }
+        requires { CanTell self.old.receiver self.old.hub (event_of event) tick.0 }
+        ensures { OnOk result (TellsReceiver self.old self.new (event_of event) tick.0 (lying self.old.control) self.old.controls) }
     {
         let RxActs { fc, records, moves } = self.receiver.step(event, tick, &mut self.hub);
         put(&mut self.control, fc);
@@ -169,7 +168,7 @@ impl Gateway {
 
     /// The flow control that lies in the box leaves, and the receiver is told.
     fn leave_control(&mut self, tick: Tick) -> Result<(), Memory>
-        requires ready { CanTell self.old.receiver self.old.hub FlowControlLeft tick.0 }
+        requires ready { CanTell self.old.receiver self.old.hub FcLeft tick.0 }
         requires fits { FitsIn self.old.machines.shape (lying self.old.control) }
         ensures { OnOk result (LeavesControl (lying self.old.control) self.old self.new tick.0) }
     {

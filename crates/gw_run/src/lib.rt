@@ -21,8 +21,6 @@ mod say;
 mod setup;
 mod start;
 mod status;
-#[cfg(test)]
-mod tests;
 mod top;
 mod words;
 

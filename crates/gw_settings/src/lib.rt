@@ -7,8 +7,6 @@ mod fault;
 mod key;
 mod settings;
 mod table_kind;
-#[cfg(test)]
-mod tests;
 
 pub use fault::{ConfigError, ConfigFault, FaultKind};
 pub use key::Key;

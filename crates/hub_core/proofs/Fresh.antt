@@ -1,12 +1,13 @@
 -- Floors rise with each event, what is fresh at some floors is fresh at lower ones, and at present floors a fresh look is exact.
 use Rattle.std.proofs.Common.{◌≡◌, ℕ, ◌+◌, ◌-◌, ◌≤◌, zero, suc, Bool, true, false, List, [], ◌∷◌, ◌++◌, length, take, Option, Some, None, inl, inr, refl, ap, sym, ◌∙◌, subst, arith, length-append}
+use Rattle.std.proofs.lemmas.Bool.{cases_lt, le-ltb, ltb-false}
 use Rattle.std.proofs.lemmas.Bool.Decides.{eqb_tells}
-use Rattle.std.proofs.lemmas.Option.{slice_get_cases, slice_get_past}
-use Rattle.std.specs.Prelude.{slice_get, if◌then◌else◌, MatchBool}
+use Rattle.std.proofs.lemmas.Option.{slice_get_cases}
+use Rattle.std.specs.Prelude.{slice_get, if◌then◌else◌, nat_lt}
 use Rattle.gw_base.specs.Cell.{counted}
-use Rattle.hub_core.specs.Alone.{IsRoomBeside, IsRoomOf, IsNextOf, IsSeenOf}
-use Rattle.hub_core.specs.Floors.{Floors, Rise, IsRoomFresh, IsFresh, AreFresh, staying, number_in, has_left, floors_of}
-use Rattle.hub_core.specs.Joint.{IsStream, AreStreams}
+use Rattle.hub_core.specs.Alone.{IsRoomOf, IsNextOf, IsSeenOf}
+use Rattle.hub_core.specs.Floors.{Floors, Rise, IsRoomFresh, IsFresh, AreFresh, staying, number_in, has_left, is_for, floors_of}
+use Rattle.hub_core.specs.Joint.{IsStream, AreStreams, position}
 use Rattle.hub_core.specs.View.{View, Event, Taken, Session, Reading, at_one, at_two, change_at, session_new, reading_new, session_at, reading_at, grow, grows}
 use Rattle.hub_core.specs.View.{Took, Refused, Entered, Asked, Put, Published, Joining, Missed, Saw, Read, Closed, Parted}
 use Rattle.hub_core.specs.declared.port.Room.{Room}
@@ -16,7 +17,7 @@ use Rattle.hub_core.proofs.Growing.{length-change_at, reading-changed}
 pub rise-same : (f : Floors) → Rise f f
 rise-same f = record {
   changes = omega arith;
-  entered = λ path. omega arith;
+  entered = λ path dest seq is. is;
   shown = λ path seq. omega arith;
   closed = λ path seq left. left;
   read = λ path dest seq. omega arith;
@@ -26,7 +27,7 @@ rise-same f = record {
 pub rise-twice : (f g h : Floors) → Rise f g → Rise g h → Rise f h
 rise-twice f g h first second = record {
   changes = omega (arith, first.changes, second.changes);
-  entered = λ path. omega (arith, first.entered path, second.entered path);
+  entered = λ path dest seq is. second.entered path dest seq (first.entered path dest seq is);
   shown = λ path seq. omega (arith, first.shown path seq, second.shown path seq);
   closed = λ path seq left. second.closed path seq (first.closed path seq left);
   read = λ path dest seq. omega (arith, first.read path dest seq, second.read path dest seq);
@@ -63,7 +64,7 @@ fresh-lower low high v (Asked path seq cells readers) rise fresh = λ s there. r
 fresh-lower low high v (Put path seq cell) rise fresh = tt
 fresh-lower low high v (Published path seq bytes) rise fresh = tt
 fresh-lower low high v (Joining path dest seq buf len) rise fresh = tt
-fresh-lower low high v (Missed path dest seq) rise fresh = omega (arith, rise.entered path, fresh)
+fresh-lower low high v (Missed path dest seq) rise fresh = not-yet (low.entered path dest seq) (high.entered path dest seq) (rise.entered path dest seq) fresh
 fresh-lower low high v (Saw path dest seq cells bytes writer) rise fresh =
     (omega (arith, rise.shown path seq, fresh.0), λ stood. not-yet (low.closed path seq) (high.closed path seq) (rise.closed path seq) (fresh.1 stood))
 fresh-lower low high v (Read path dest seq cell) rise fresh = tt
@@ -79,92 +80,98 @@ pub are-fresh-append : (low high : Floors) (v w : View) (es more : List Event) �
 are-fresh-append low high v w [] more led rise fresh later = let P : View → Type 0 = λ x. AreFresh low x more in subst P led (are-fresh-lower low high w more rise later)
 are-fresh-append low high v w (e ∷ es) more led rise fresh later = (fresh.0, are-fresh-append low high (grow e v) w es more led rise fresh.1 later)
 
--- an item's number doesn't fall, and it doesn't come back once it left
-record Rises {A : Type 0} (count : A → ℕ) (stands : A → Bool) (x y : A) : Type 0 where
+-- an item's number doesn't fall, it doesn't come back once it left, and it keeps what it is for
+record Rises {A : Type 0} (count : A → ℕ) (stands : A → Bool) (dests : A → ℕ) (x y : A) : Type 0 where
   number : count x ≤ count y
+  same : dests x ≡ dests y
   left : stands x ≡ false → stands y ≡ false
 
 -- a list keeps its items, each as it was or risen, and may have more of them
-record Grown {A : Type 0} (count : A → ℕ) (stands : A → Bool) (xs ys : List A) : Type 0 where
+record Grown {A : Type 0} (count : A → ℕ) (stands : A → Bool) (dests : A → ℕ) (xs ys : List A) : Type 0 where
   number : length xs ≤ length ys
-  each : (k : ℕ) (x : A) → slice_get xs k ≡ Some x → (y : A) × (slice_get ys k ≡ Some y) × Rises count stands x y
+  each : (k : ℕ) (x : A) → slice_get xs k ≡ Some x → (y : A) × (slice_get ys k ≡ Some y) × Rises count stands dests x y
 
-grown-same : {A : Type 0} (count : A → ℕ) (stands : A → Bool) (xs : List A) → Grown count stands xs xs
-grown-same count stands xs = record { number = omega arith; each = λ k x is. (x, is, record { number = omega arith; left = λ left. left }) }
+grown-same : {A : Type 0} (count : A → ℕ) (stands : A → Bool) (dests : A → ℕ) (xs : List A) → Grown count stands dests xs xs
+grown-same count stands dests xs = record { number = omega arith; each = λ k x is. (x, is, record { number = omega arith; same = refl; left = λ left. left }) }
 
-grown-pushed : {A : Type 0} (count : A → ℕ) (stands : A → Bool) (xs : List A) (z : A) → Grown count stands xs (xs ++ z ∷ [])
-grown-pushed {A = A} count stands xs z = record { number = omega (arith, length-append xs (z ∷ [])); each = λ k x is. (x, stays xs k x is, record { number = omega arith; left = λ left. left }) }
+grown-pushed : {A : Type 0} (count : A → ℕ) (stands : A → Bool) (dests : A → ℕ) (xs : List A) (z : A) → Grown count stands dests xs (xs ++ z ∷ [])
+grown-pushed {A = A} count stands dests xs z = record { number = omega (arith, length-append xs (z ∷ [])); each = λ k x is. (x, stays xs k x is, record { number = omega arith; same = refl; left = λ left. left }) }
   where
     stays : (l : List A) (k : ℕ) (x : A) → slice_get l k ≡ Some x → slice_get (l ++ z ∷ []) k ≡ Some x
     stays [] k x is = absurd cc
     stays (y ∷ l) zero x is = is
     stays (y ∷ l) (suc k) x is = stays l k x is
 
-grown-changed : {A : Type 0} (count : A → ℕ) (stands : A → Bool) (k : ℕ) (f : A → A) (xs : List A) → ((x : A) → slice_get xs k ≡ Some x → Rises count stands x (f x)) → Grown count stands xs (change_at k f xs)
-grown-changed {A = A} count stands k f xs risen = record { number = omega (arith, length-change_at k f xs); each = items k xs risen }
+grown-changed : {A : Type 0} (count : A → ℕ) (stands : A → Bool) (dests : A → ℕ) (k : ℕ) (f : A → A) (xs : List A) → ((x : A) → slice_get xs k ≡ Some x → Rises count stands dests x (f x)) → Grown count stands dests xs (change_at k f xs)
+grown-changed {A = A} count stands dests k f xs risen = record { number = omega (arith, length-change_at k f xs); each = items k xs risen }
   where
-    items : (k : ℕ) (l : List A) → ((x : A) → slice_get l k ≡ Some x → Rises count stands x (f x)) → (at : ℕ) (x : A) → slice_get l at ≡ Some x → (y : A) × (slice_get (change_at k f l) at ≡ Some y) × Rises count stands x y
+    items : (k : ℕ) (l : List A) → ((x : A) → slice_get l k ≡ Some x → Rises count stands dests x (f x)) → (at : ℕ) (x : A) → slice_get l at ≡ Some x → (y : A) × (slice_get (change_at k f l) at ≡ Some y) × Rises count stands dests x y
     items k [] is-risen at x is = absurd cc
-    items zero (z ∷ l) is-risen zero x is = let same : z ≡ x = cc in let P : A → Type 0 = λ y. Rises count stands y (f z) in (f z, refl, subst P same (is-risen z refl))
-    items zero (z ∷ l) is-risen (suc at) x is = (x, is, record { number = omega arith; left = λ left. left })
-    items (suc k) (z ∷ l) is-risen zero x is = (x, is, record { number = omega arith; left = λ left. left })
+    items zero (z ∷ l) is-risen zero x is = let same : z ≡ x = cc in let P : A → Type 0 = λ y. Rises count stands dests y (f z) in (f z, refl, subst P same (is-risen z refl))
+    items zero (z ∷ l) is-risen (suc at) x is = (x, is, record { number = omega arith; same = refl; left = λ left. left })
+    items (suc k) (z ∷ l) is-risen zero x is = (x, is, record { number = omega arith; same = refl; left = λ left. left })
     items (suc k) (z ∷ l) is-risen (suc at) x is = items k l is-risen at x is
 
 -- lists by a number, or by two, of which one has grown
-one-grown : {A : Type 0} (count : A → ℕ) (stands : A → Bool) (p : ℕ) (ys : List A) (lists : ℕ → List A) → Grown count stands (lists p) ys → (q : ℕ) → Grown count stands (lists q) (at_one p ys lists q)
-one-grown count stands p ys lists grown q =
-    let G : Bool → Type 0 = λ b. Grown count stands (lists q) (if b then ys else lists q) in
-    let H : ℕ → Type 0 = λ n. Grown count stands (lists n) ys in
-    elim (eqb_tells q p) [ inl at ↦ subst G (sym at.0) (subst H (sym at.1) grown) | inr other ↦ subst G (sym other.0) (grown-same count stands (lists q)) ]
+one-grown : {A : Type 0} (count : A → ℕ) (stands : A → Bool) (dests : A → ℕ) (p : ℕ) (ys : List A) (lists : ℕ → List A) → Grown count stands dests (lists p) ys → (q : ℕ) → Grown count stands dests (lists q) (at_one p ys lists q)
+one-grown count stands dests p ys lists grown q =
+    let G : Bool → Type 0 = λ b. Grown count stands dests (lists q) (if b then ys else lists q) in
+    let H : ℕ → Type 0 = λ n. Grown count stands dests (lists n) ys in
+    elim (eqb_tells q p) [ inl at ↦ subst G (sym at.0) (subst H (sym at.1) grown) | inr other ↦ subst G (sym other.0) (grown-same count stands dests (lists q)) ]
 
-two-grown : {A : Type 0} (count : A → ℕ) (stands : A → Bool) (p d : ℕ) (ys : List A) (lists : ℕ → ℕ → List A) → Grown count stands (lists p d) ys → (q e : ℕ) → Grown count stands (lists q e) (at_two p d ys lists q e)
-two-grown count stands p d ys lists grown q e =
-    let G : Bool → Type 0 = λ b. Grown count stands (lists q e) ((if b then at_one d ys (lists p) else lists q) e) in
-    let H : ℕ → Type 0 = λ n. Grown count stands (lists n e) (at_one d ys (lists p) e) in
-    elim (eqb_tells q p) [ inl at ↦ subst G (sym at.0) (subst H (sym at.1) (one-grown count stands d ys (lists p) grown e)) | inr other ↦ subst G (sym other.0) (grown-same count stands (lists q e)) ]
+two-grown : {A : Type 0} (count : A → ℕ) (stands : A → Bool) (dests : A → ℕ) (p d : ℕ) (ys : List A) (lists : ℕ → ℕ → List A) → Grown count stands dests (lists p d) ys → (q e : ℕ) → Grown count stands dests (lists q e) (at_two p d ys lists q e)
+two-grown count stands dests p d ys lists grown q e =
+    let G : Bool → Type 0 = λ b. Grown count stands dests (lists q e) ((if b then at_one d ys (lists p) else lists q) e) in
+    let H : ℕ → Type 0 = λ n. Grown count stands dests (lists n e) (at_one d ys (lists p) e) in
+    elim (eqb_tells q p) [ inl at ↦ subst G (sym at.0) (subst H (sym at.1) (one-grown count stands dests d ys (lists p) grown e)) | inr other ↦ subst G (sym other.0) (grown-same count stands dests (lists q e)) ]
 
-number-rises : {A : Type 0} (count : A → ℕ) (stands : A → Bool) (a b : Option A) → ((x : A) → a ≡ Some x → (y : A) × (b ≡ Some y) × Rises count stands x y) → number_in count a ≤ number_in count b
-number-rises count stands None b each = omega arith
-number-rises count stands (Some x) b each = let found = each x refl in omega (arith, found.2.number, ap (number_in count) found.1)
+number-rises : {A : Type 0} (count : A → ℕ) (stands : A → Bool) (dests : A → ℕ) (a b : Option A) → ((x : A) → a ≡ Some x → (y : A) × (b ≡ Some y) × Rises count stands dests x y) → number_in count a ≤ number_in count b
+number-rises count stands dests None b each = omega arith
+number-rises count stands dests (Some x) b each = let found = each x refl in omega (arith, found.2.number, ap (number_in count) found.1)
 
-stays-left : {A : Type 0} (count : A → ℕ) (stands : A → Bool) (a b : Option A) → ((x : A) → a ≡ Some x → (y : A) × (b ≡ Some y) × Rises count stands x y) → has_left stands a ≡ true → has_left stands b ≡ true
-stays-left count stands None b each left = absurd cc
-stays-left count stands (Some x) b each left = let found = each x refl in ap (has_left stands) found.1 ∙ ap (λ (t : Bool). if t then false else true) (found.2.left (gone (stands x) left))
+stays-left : {A : Type 0} (count : A → ℕ) (stands : A → Bool) (dests : A → ℕ) (a b : Option A) → ((x : A) → a ≡ Some x → (y : A) × (b ≡ Some y) × Rises count stands dests x y) → has_left stands a ≡ true → has_left stands b ≡ true
+stays-left count stands dests None b each left = absurd cc
+stays-left count stands dests (Some x) b each left = let found = each x refl in ap (has_left stands) found.1 ∙ ap (λ (t : Bool). if t then false else true) (found.2.left (gone (stands x) left))
   where
     gone : (t : Bool) → (if t then false else true) ≡ true → t ≡ false
     gone true is = absurd cc
     gone false is = refl
 
 abbrev SessionsGrow : List Session → List Session → Type 0
-SessionsGrow = Grown (λ s. s.shown) (λ s. s.stands)
+SessionsGrow = Grown (λ s. s.shown) (λ s. s.stands) (λ s. s.dests)
 
 abbrev ReadingsGrow : List Reading → List Reading → Type 0
-ReadingsGrow = Grown (λ r. length r.cells) (λ r. r.stands)
+ReadingsGrow = Grown (λ r. length r.cells) (λ r. r.stands) (λ r. 0)
+
+-- a session that is entered for a destination stays so
+stays-for : (dest : ℕ) (a b : Option Session) → ((x : Session) → a ≡ Some x → (y : Session) × (b ≡ Some y) × Rises (λ s. s.shown) (λ s. s.stands) (λ s. s.dests) x y) → is_for dest a ≡ true → is_for dest b ≡ true
+stays-for dest None b each is = absurd cc
+stays-for dest (Some x) b each is = let found = each x refl in ap (is_for dest) found.1 ∙ ap (nat_lt dest) (sym found.2.same) ∙ is
 
 rise-of : (e : Event) (v : View) → length v.changes ≤ length (grow e v).changes → ((path : ℕ) → SessionsGrow (v.sessions path) ((grow e v).sessions path)) →
     ((path dest : ℕ) → ReadingsGrow (v.readings path dest) ((grow e v).readings path dest)) → Rise (floors_of v) (floors_of (grow e v))
 rise-of e v changes sessions readings = record {
   changes = changes;
-  entered = λ path. (sessions path).number;
-  shown = λ path seq. number-rises (λ s. s.shown) (λ s. s.stands) (session_at v path seq) (session_at (grow e v) path seq) ((sessions path).each seq);
-  closed = λ path seq. stays-left (λ s. s.shown) (λ s. s.stands) (session_at v path seq) (session_at (grow e v) path seq) ((sessions path).each seq);
-  read = λ path dest seq. number-rises (λ r. length r.cells) (λ r. r.stands) (reading_at v path dest seq) (reading_at (grow e v) path dest seq) ((readings path dest).each seq);
-  parted = λ path dest seq. stays-left (λ r. length r.cells) (λ r. r.stands) (reading_at v path dest seq) (reading_at (grow e v) path dest seq) ((readings path dest).each seq);
+  entered = λ path dest seq. stays-for dest (session_at v path seq) (session_at (grow e v) path seq) ((sessions path).each seq);
+  shown = λ path seq. number-rises (λ s. s.shown) (λ s. s.stands) (λ s. s.dests) (session_at v path seq) (session_at (grow e v) path seq) ((sessions path).each seq);
+  closed = λ path seq. stays-left (λ s. s.shown) (λ s. s.stands) (λ s. s.dests) (session_at v path seq) (session_at (grow e v) path seq) ((sessions path).each seq);
+  read = λ path dest seq. number-rises (λ r. length r.cells) (λ r. r.stands) (λ r. 0) (reading_at v path dest seq) (reading_at (grow e v) path dest seq) ((readings path dest).each seq);
+  parted = λ path dest seq. stays-left (λ r. length r.cells) (λ r. r.stands) (λ r. 0) (reading_at v path dest seq) (reading_at (grow e v) path dest seq) ((readings path dest).each seq);
 }
 
 same-sessions : (v : View) (path : ℕ) → SessionsGrow (v.sessions path) (v.sessions path)
-same-sessions v path = grown-same _ _ (v.sessions path)
+same-sessions v path = grown-same _ _ _ (v.sessions path)
 
 same-readings : (v : View) (path dest : ℕ) → ReadingsGrow (v.readings path dest) (v.readings path dest)
-same-readings v path dest = grown-same _ _ (v.readings path dest)
+same-readings v path dest = grown-same _ _ _ (v.readings path dest)
 
-session-rises : (path seq : ℕ) (f : Session → Session) (v : View) → ((s : Session) → session_at v path seq ≡ Some s → (s.shown ≤ (f s).shown) × (s.stands ≡ false → (f s).stands ≡ false)) →
+session-rises : (path seq : ℕ) (f : Session → Session) (v : View) → ((s : Session) → session_at v path seq ≡ Some s → (s.shown ≤ (f s).shown) × (s.stands ≡ false → (f s).stands ≡ false) × (s.dests ≡ (f s).dests)) →
     (q : ℕ) → SessionsGrow (v.sessions q) (at_one path (change_at seq f (v.sessions path)) v.sessions q)
-session-rises path seq f v risen = one-grown _ _ path (change_at seq f (v.sessions path)) v.sessions (grown-changed _ _ seq f (v.sessions path) (λ s there. record { number = (risen s there).0; left = (risen s there).1 }))
+session-rises path seq f v risen = one-grown _ _ _ path (change_at seq f (v.sessions path)) v.sessions (grown-changed _ _ _ seq f (v.sessions path) (λ s there. record { number = (risen s there).0; same = (risen s there).2; left = (risen s there).1 }))
 
 reading-rises : (path dest seq : ℕ) (f : Reading → Reading) (v : View) → ((r : Reading) → (length r.cells ≤ length (f r).cells) × (r.stands ≡ false → (f r).stands ≡ false)) →
     (q e : ℕ) → ReadingsGrow (v.readings q e) (at_two path dest (change_at seq f (v.readings path dest)) v.readings q e)
-reading-rises path dest seq f v risen = two-grown _ _ path dest (change_at seq f (v.readings path dest)) v.readings (grown-changed _ _ seq f (v.readings path dest) (λ r there. record { number = (risen r).0; left = (risen r).1 }))
+reading-rises path dest seq f v risen = two-grown _ _ _ path dest (change_at seq f (v.readings path dest)) v.readings (grown-changed _ _ _ seq f (v.readings path dest) (λ r there. record { number = (risen r).0; same = refl; left = (risen r).1 }))
 
 -- no event lowers the present floors
 rises : (e : Event) (v : View) → AreStreams v → Rise (floors_of v) (floors_of (grow e v))
@@ -172,22 +179,22 @@ unfolding grow
 rises (Took number buf size need) v streams = rise-of (Took number buf size need) v (omega (arith, length-append v.changes (Taken number buf need ∷ []))) (same-sessions v) (same-readings v)
 rises (Refused number free need) v streams = rise-same (floors_of v)
 rises (Entered path seq buf number size len readers) v streams =
-    rise-of (Entered path seq buf number size len readers) v (omega arith) (one-grown _ _ path _ v.sessions (grown-pushed _ _ (v.sessions path) (session_new buf number size len readers))) (same-readings v)
+    rise-of (Entered path seq buf number size len readers) v (omega arith) (one-grown _ _ _ path _ v.sessions (grown-pushed _ _ _ (v.sessions path) (session_new buf number size len readers))) (same-readings v)
 rises (Asked path seq cells readers) v streams =
-    rise-of (Asked path seq cells readers) v (omega arith) (session-rises path seq (λ s. record s { room = cells; readers = readers }) v (λ s there. (omega arith, λ left. left))) (same-readings v)
+    rise-of (Asked path seq cells readers) v (omega arith) (session-rises path seq (λ s. record s { room = cells; readers = readers }) v (λ s there. (omega arith, λ left. left, refl))) (same-readings v)
 rises (Put path seq cell) v streams =
-    rise-of (Put path seq cell) v (omega arith) (session-rises path seq (λ s. record s { cells = s.cells ++ cell ∷ []; room = s.room - 1 }) v (λ s there. (omega arith, λ left. left))) (same-readings v)
+    rise-of (Put path seq cell) v (omega arith) (session-rises path seq (λ s. record s { cells = s.cells ++ cell ∷ []; room = s.room - 1 }) v (λ s there. (omega arith, λ left. left, refl))) (same-readings v)
 rises (Published path seq bytes) v streams =
-    rise-of (Published path seq bytes) v (omega arith) (session-rises path seq (λ s. record s { shown = length s.cells; told = s.told + bytes }) v (λ s there. ((streams.written path seq s there).shown, λ left. left))) (same-readings v)
+    rise-of (Published path seq bytes) v (omega arith) (session-rises path seq (λ s. record s { shown = length s.cells; told = s.told + bytes }) v (λ s there. ((streams.written path seq s there).shown, λ left. left, refl))) (same-readings v)
 rises (Joining path dest seq buf len) v streams =
-    rise-of (Joining path dest seq buf len) v (omega arith) (same-sessions v) (two-grown _ _ path dest _ v.readings (grown-pushed _ _ (v.readings path dest) (reading_new buf len)))
+    rise-of (Joining path dest seq buf len) v (omega arith) (same-sessions v) (two-grown _ _ _ path dest _ v.readings (grown-pushed _ _ _ (v.readings path dest) (reading_new buf len)))
 rises (Missed path dest seq) v streams = rise-same (floors_of v)
 rises (Saw path dest seq cells bytes writer) v streams =
     rise-of (Saw path dest seq cells bytes writer) v (omega arith) (same-sessions v) (reading-rises path dest seq (λ r. record r { seen = cells; bytes = bytes; writer = writer }) v (λ r. (omega arith, λ left. left)))
 rises (Read path dest seq cell) v streams =
     rise-of (Read path dest seq cell) v (omega arith) (same-sessions v) (reading-rises path dest seq (λ r. record r { cells = r.cells ++ cell ∷ [] }) v (λ r. (omega (arith, length-append r.cells (cell ∷ [])), λ left. left)))
 rises (Closed path seq freed) v streams =
-    rise-of (Closed path seq freed) v (omega (arith, length-append v.changes freed)) (session-rises path seq (λ s. record s { stands = false }) v (λ s there. (omega arith, λ left. refl))) (same-readings v)
+    rise-of (Closed path seq freed) v (omega (arith, length-append v.changes freed)) (session-rises path seq (λ s. record s { stands = false }) v (λ s there. (omega arith, λ left. refl, refl))) (same-readings v)
 rises (Parted path dest seq freed) v streams =
     rise-of (Parted path dest seq freed) v (omega (arith, length-append v.changes freed)) (same-sessions v) (reading-rises path dest seq (λ r. record r { stands = false }) v (λ r. (omega arith, λ left. refl)))
 
@@ -198,29 +205,44 @@ rise-grow e v w streams grown = let P : View → Type 0 = λ x. Rise (floors_of 
 pub past-end : {A : Type 0} (xs : List A) (k : ℕ) → slice_get xs k ≡ None → length xs ≤ k
 past-end xs k none = elim (slice_get_cases xs k).1 [ inl there ↦ absurd (let some = there.2 in cc) | inr past ↦ past.0 ]
 
--- an exact room is fresh at present floors, for a session with one destination
-pub room-fresh : (v : View) (path seq : ℕ) (room : Room) → ((s : Session) → session_at v path seq ≡ Some s → s.dests ≡ 1) → IsRoomOf v path seq room → IsFresh v (floors_of v) (Asked path seq room.cells room.readers)
-room-fresh v path seq room single is = λ s there. known s (single s there) (reading_at v path 0 seq) refl (is s there)
+-- who hasn't left takes part, and its position is the cells that it read
+pub stays-now : (found : Option Reading) → ((r : Reading) × (found ≡ Some r) × (r.stands ≡ false) → ⊥) → has_left (λ r. r.stands) found ≡ false
+stays-now None stays = refl
+stays-now (Some r) stays = stands r.stands refl
   where
-    fresh : (s : Session) → s.dests ≡ 1 → (parted : Bool) (read : ℕ) → has_left (λ r. r.stands) (reading_at v path 0 seq) ≡ parted → number_in (λ r. length r.cells) (reading_at v path 0 seq) ≡ read →
-        room.readers ≤ (if parted then 0 else 1) + 0 → ((least : ℕ) → least ≤ length s.cells → (parted ≡ false → least ≤ read) → s.size + least ≤ room.cells + length s.cells) →
-        IsRoomFresh (floors_of v) path seq s room.cells room.readers
-    fresh s one parted read left cells readers leaves = record {
-      dests = omega (arith, readers, ap (staying (λ dest. (floors_of v).parted path dest seq)) one, ap (λ (b : Bool). (if b then 0 else 1) + 0) left);
-      room = λ least within have. leaves least within (λ stays. omega (arith, have 0 (omega (arith, one)) (left ∙ stays), cells));
+    stands : (b : Bool) → r.stands ≡ b → (if b then false else true) ≡ false
+    stands true is = refl
+    stands false is = absurd (stays (r, refl, is))
+
+position-is : (found : Option Reading) → number_in (λ r. length r.cells) found ≡ position found
+position-is None = refl
+position-is (Some r) = refl
+
+-- an exact room is fresh at present floors
+pub room-fresh : (v : View) (path seq : ℕ) (room : Room) → IsRoomOf v path seq room → IsFresh v (floors_of v) (Asked path seq room.cells room.readers)
+room-fresh v path seq room is = λ s there.
+    let exact = is s there in
+    record {
+      dests = omega (arith, exact.readers);
+      room = λ least within have. elim (cases_lt 0 room.readers) [
+        | inl some ↦
+            let last = exact.least some in
+            omega (arith, last.3, position-is (reading_at v path last.0 seq), have last.0 last.1 (stays-now (reading_at v path last.0 seq) last.2))
+        | inr none ↦ omega (arith, exact.all (omega (arith, none)), within)
+      ];
     }
 
-    known : (s : Session) → s.dests ≡ 1 → (found : Option Reading) → reading_at v path 0 seq ≡ found → IsRoomBeside s found room → IsRoomFresh (floors_of v) path seq s room.cells room.readers
-    known s one None at exact = fresh s one false 0 (ap (has_left (λ (x : Reading). x.stands)) at) (ap (number_in (λ (x : Reading). length x.cells)) at) (omega (arith, exact.0)) (λ least within have. omega (arith, have refl, exact.1))
-    known s one (Some r) at exact = stood r.stands refl exact
-      where
-        stood : (b : Bool) → r.stands ≡ b → MatchBool b ((room.readers ≡ 1) × (room.cells + length s.cells ≡ length r.cells + s.size)) ((room.readers ≡ 0) × (room.cells ≡ s.size)) → IsRoomFresh (floors_of v) path seq s room.cells room.readers
-        stood true stands beside = fresh s one false (length r.cells) (ap (has_left (λ (x : Reading). x.stands)) at ∙ ap (λ (x : Bool). if x then false else true) stands) (ap (number_in (λ (x : Reading). length x.cells)) at) (omega (arith, beside.0)) (λ least within have. omega (arith, have refl, beside.1))
-        stood false stands beside = fresh s one true (length r.cells) (ap (has_left (λ (x : Reading). x.stands)) at ∙ ap (λ (x : Bool). if x then false else true) stands) (ap (number_in (λ (x : Reading). length x.cells)) at) (omega (arith, beside.0)) (λ least within have. omega (arith, within, beside.1))
-
 -- over present floors a look that misses the session is exact
-pub missed-exact : (v : View) (path dest seq : ℕ) → IsFresh v (floors_of v) (Missed path dest seq) → IsNextOf v path seq None
-missed-exact v path dest seq fresh = slice_get_past (v.sessions path) seq fresh
+pub missed-exact : (v : View) (path dest seq : ℕ) → IsFresh v (floors_of v) (Missed path dest seq) → IsNextOf v path dest seq None
+missed-exact v path dest seq fresh s there = ltb-false dest s.dests (sym (ap (is_for dest) there) ∙ fresh)
+
+-- and where no session is for the destination, a look that misses it is fresh
+pub missed-fresh : (v : View) (path dest seq : ℕ) → IsNextOf v path dest seq None → IsFresh v (floors_of v) (Missed path dest seq)
+missed-fresh v path dest seq none = found (session_at v path seq) none
+  where
+    found : (s : Option Session) → ((x : Session) → s ≡ Some x → x.dests ≤ dest) → is_for dest s ≡ false
+    found None none = refl
+    found (Some x) none = le-ltb dest x.dests (none x refl)
 
 -- and so is a look at what is published, where the views of all ports are streams
 pub saw-exact : (v : View) (path dest seq : ℕ) (seen : Seen) (r : Reading) → AreStreams (grow (Saw path dest seq seen.cells seen.bytes seen.writer) v) → reading_at v path dest seq ≡ Some r →

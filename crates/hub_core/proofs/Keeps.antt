@@ -1,5 +1,5 @@
 -- What the plain hub keeps of its sessions, after each call.
-use Rattle.std.proofs.Common.{◌≡◌, ℕ, ◌+◌, ◌-◌, ◌<◌, ◌≤◌, Bool, true, false, List, [], ◌∷◌, ◌++◌, length, map, take, drop, get_or, All, refl, ap, sym, ◌∙◌, subst, arith, length-append, length-take, length-drop}
+use Rattle.std.proofs.Common.{◌≡◌, ℕ, ◌+◌, ◌-◌, ◌<◌, ◌≤◌, Bool, true, false, true≢false, List, [], ◌∷◌, ◌++◌, length, map, take, drop, get_or, All, ◌⊎◌, inl, inr, refl, ap, sym, ◌∙◌, subst, arith, length-append, length-take, length-drop}
 use Rattle.std.proofs.Math.Seq.{take-length}
 use Rattle.std.proofs.lemmas.List.{take-append-le, drop-append-le, take-take, take_more, get_or-drop}
 use Rattle.std.proofs.lemmas.List.Elements.{All-head, All-tail, All-push, All-get_or, All-weaker}
@@ -59,6 +59,7 @@ row-grows size cells more row is = record {
   bytes = is.bytes ∙ ap counted (sym (slice-grows row.from row.seen cells more (omega (arith, is.within, is.shown, is.seen))));
   gone = is.gone;
   unjoined = is.unjoined;
+  unended = is.unended;
 }
 
 past-grows : (size : ℕ) (cells more : List ℕ) (row : Row) → IsPast size cells row → IsPast size (cells ++ more) row
@@ -118,6 +119,7 @@ open-put size cells row cell is some fits =
         bytes = grows.bytes;
         gone = grows.gone;
         unjoined = grows.unjoined;
+        unended = grows.unended;
       };
       last = omega (arith, is.last, number);
       room = omega (arith, is.room);
@@ -159,6 +161,7 @@ open-published size cells row t bytes is says all = record {
     bytes = is.numbers.bytes;
     gone = λ gone. absurd (let stands = says.stands in let left = is.writer gone in cc);
     unjoined = is.numbers.unjoined;
+    unended = is.numbers.unended;
   };
   last = is.last;
   room = is.room;
@@ -169,9 +172,57 @@ open-published size cells row t bytes is says all = record {
   party = is.party;
 }
 
+-- after a look at the destination's position
+pub open-asked : (size : ℕ) (cells : List ℕ) (row : Row) (room : Room) → IsOpen size cells row → row.writes ≡ true → room ≡ room_in size row → IsOpen size cells (record row { room = room.cells; readers = room.readers })
+open-asked size cells row room is writes looked = cases row.reads refl looked
+  where
+    stood : row.saw_writer ≡ true
+    stood = elim (cases_eq row.saw_writer) [ inl gone ↦ absurd (true≢false (sym writes ∙ is.writer gone)) | inr stands ↦ stands ]
+      where
+        cases_eq : (b : Bool) → (b ≡ false) ⊎ (b ≡ true)
+        cases_eq true = inr refl
+        cases_eq false = inl refl
+
+    cases : (b : Bool) → row.reads ≡ b → room ≡ (if b then record { cells = size - (row.put - row.at); readers = 1 } else record { cells = size; readers = 0 }) →
+        IsOpen size cells (record row { room = room.cells; readers = room.readers })
+    cases b reads seen = record {
+      numbers = record {
+        within = is.numbers.within;
+        some = is.numbers.some;
+        fits = is.numbers.fits;
+        shown = is.numbers.shown;
+        told = is.numbers.told;
+        at = is.numbers.at;
+        seen = is.numbers.seen;
+        bytes = is.numbers.bytes;
+        gone = is.numbers.gone;
+        unjoined = is.numbers.unjoined;
+        unended = λ none. stood;
+      };
+      last = is.last;
+      room = least b seen;
+      ring = λ stands. fits b (sym reads ∙ stands) seen stands;
+      writer = is.writer;
+      unjoined = is.unjoined;
+      none = λ none. gone b reads seen none;
+      party = is.party;
+    }
+      where
+        least : (b : Bool) → room ≡ (if b then record { cells = size - (row.put - row.at); readers = 1 } else record { cells = size; readers = 0 }) → room.cells ≤ size
+        least true seen = omega (arith, ap (λ (r : Room). r.cells) seen)
+        least false seen = omega (arith, ap (λ (r : Room). r.cells) seen)
+
+        fits : (b : Bool) → b ≡ true → room ≡ (if b then record { cells = size - (row.put - row.at); readers = 1 } else record { cells = size; readers = 0 }) → row.reads ≡ true → row.put + room.cells ≤ row.at + size
+        fits true is-true seen stands = omega (arith, ap (λ (r : Room). r.cells) seen, is.ring stands, is.numbers.shown, is.numbers.seen, is.numbers.at)
+        fits false is-true seen stands = absurd cc
+
+        gone : (b : Bool) → row.reads ≡ b → room ≡ (if b then record { cells = size - (row.put - row.at); readers = 1 } else record { cells = size; readers = 0 }) → room.readers ≡ 0 → row.reads ≡ false
+        gone true reads seen none = absurd (omega (arith, ap (λ (r : Room). r.readers) seen, none))
+        gone false reads seen none = reads
+
 -- after a look at the count
-pub open-seen : (size : ℕ) (cells : List ℕ) (row : Row) → IsOpen size cells row → row.joined ≡ true → IsOpen size cells (record row { seen = row.shown; bytes = row.told; saw_writer = row.writes })
-open-seen size cells row is joined = record {
+pub open-seen : (size : ℕ) (cells : List ℕ) (row : Row) → IsOpen size cells row → row.joined ≡ true → row.reads ≡ true → IsOpen size cells (record row { seen = row.shown; bytes = row.told; saw_writer = row.writes })
+open-seen size cells row is joined stands = record {
   numbers = record {
     within = is.numbers.within;
     some = is.numbers.some;
@@ -183,6 +234,7 @@ open-seen size cells row is joined = record {
     bytes = is.numbers.told;
     gone = λ gone. refl;
     unjoined = λ not-joined. absurd cc;
+    unended = λ none. absurd (true≢false (sym stands ∙ is.none none));
   };
   last = is.last;
   room = is.room;
@@ -207,6 +259,7 @@ open-read size cells row is more = record {
     bytes = is.numbers.bytes;
     gone = is.numbers.gone;
     unjoined = is.numbers.unjoined;
+    unended = is.numbers.unended;
   };
   last = is.last;
   room = is.room;
@@ -254,6 +307,7 @@ open-joined size cells row is = record {
     bytes = is.numbers.bytes;
     gone = is.numbers.gone;
     unjoined = λ not-joined. absurd cc;
+    unended = is.numbers.unended;
   };
   last = is.last;
   room = is.room;
@@ -288,8 +342,8 @@ reading-joined size cells row is unjoined =
 
 -- a row's numbers don't speak of its parties
 numbers-left : (end : End) (size : ℕ) (cells : List ℕ) (row : Row) → IsRow size cells row → IsRow size cells (left_by end row)
-numbers-left (Write t) size cells row is = record { within = is.within; some = is.some; fits = is.fits; shown = is.shown; told = is.told; at = is.at; seen = is.seen; bytes = is.bytes; gone = is.gone; unjoined = is.unjoined }
-numbers-left (Read t) size cells row is = record { within = is.within; some = is.some; fits = is.fits; shown = is.shown; told = is.told; at = is.at; seen = is.seen; bytes = is.bytes; gone = is.gone; unjoined = is.unjoined }
+numbers-left (Write t) size cells row is = record { within = is.within; some = is.some; fits = is.fits; shown = is.shown; told = is.told; at = is.at; seen = is.seen; bytes = is.bytes; gone = is.gone; unjoined = is.unjoined; unended = is.unended }
+numbers-left (Read t) size cells row is = record { within = is.within; some = is.some; fits = is.fits; shown = is.shown; told = is.told; at = is.at; seen = is.seen; bytes = is.bytes; gone = is.gone; unjoined = is.unjoined; unended = is.unended }
 
 -- a destination that leaves has joined
 abbrev pub HasJoined : End → Row → Type 0

@@ -73,7 +73,7 @@ hub-session f size place past changes refused cells more row next path seq is fi
 pub reading-in-joined : (cells : List ℕ) (row : Row) → row.joined ≡ true → reading_in cells (Occupied row) ≡ reading_of cells row ∷ []
 reading-in-joined cells row joined = ap (λ (b : Bool). if b then reading_of cells row ∷ [] else []) joined
 
-reading-in-unjoined : (cells : List ℕ) (row : Row) → row.joined ≡ false → reading_in cells (Occupied row) ≡ []
+pub reading-in-unjoined : (cells : List ℕ) (row : Row) → row.joined ≡ false → reading_in cells (Occupied row) ≡ []
 reading-in-unjoined cells row unjoined = ap (λ (b : Bool). if b then reading_of cells row ∷ [] else []) unjoined
 
 -- after a change of the reading in the buffer

@@ -4,7 +4,7 @@ use Rattle.std.proofs.lemmas.Bool.{cases_lt}
 use Rattle.std.proofs.lemmas.Bool.Decides.{eqb_tells}
 use Rattle.std.proofs.lemmas.Option.{slice_get-get_or, slice_get_within}
 use Rattle.std.specs.Prelude.{slice_get, ◌||◌, if◌then◌else◌}
-use Rattle.hub_core.specs.Joint.{number_of, numbered, changed_buf, HasLeft, HasNoReaders, IsOver, AreOwned, Joint}
+use Rattle.hub_core.specs.Joint.{number_of, numbered, changed_buf, IsOver, AreOwned, Joint}
 use Rattle.hub_core.specs.Plain.{Kept, Moves, IsPast, IsMove, change_of, number_in, taken, free_set, hub_view, session_of, reading_of, session_in, reading_in}
 use Rattle.hub_core.specs.View.{Change, Taken, Freed, Session, Reading, session_at, reading_at}
 use Rattle.hub_core.specs.declared.row.ChangeRow.{ChangeRow}
@@ -116,18 +116,16 @@ mapped-at f (first ∷ past) ys (suc k) row is = mapped-at f past ys k row is
 
 -- the one destination of a session has left, where its row has no reader
 no-readers : (size : ℕ) (place : Place) (past : List Row) (changes : List ChangeRow) (refused : List RefusalRow) (cells : List ℕ) (path seq : ℕ) (s : Session) → Kept size place past cells →
-    (has : Has size place past cells path seq s) → has.row.reads ≡ false → HasNoReaders (hub_view size place past changes refused cells) path seq s
+    (has : Has size place past cells path seq s) → has.row.reads ≡ false → (dest : ℕ) → dest < s.dests → reading_at (hub_view size place past changes refused cells) path dest seq ≡ Some (reading_of cells has.row)
 no-readers size place past changes refused cells path seq s kept has left dest fewer =
     let only : dest ≡ 0 = omega (arith, fewer, ap (λ (x : Session). x.dests) has.is) in
     let view = hub_view size place past changes refused cells in
-    let P : ℕ → ℕ → Type 0 = λ p d. HasLeft view p d seq in
     let reading : reading_at view 0 0 seq ≡ Some (reading_of cells has.row) =
     elim has.stands [
       | inl gone ↦ mapped-at (reading_of cells) past (reading_in cells place) seq has.row gone.0
       | inr open' ↦ reading-here size place past changes refused cells has.row 0 seq open'.0 refl open'.1 ∙ ap (λ (l : List Reading). slice_get l 0) (reading-in-joined cells has.row (joined-left size cells has.row (kept.at_work has.row open'.0) left))
     ] in
-    let Q : ℕ → Type 0 = λ p. P p dest in
-    subst Q (sym has.first) (subst (P 0) (sym only) (reading_of cells has.row, reading, left))
+    ap (λ p. reading_at view p dest seq) has.first ∙ ap (λ d. reading_at view 0 d seq) only ∙ reading
 
 -- a row, for a place past the end
 empty-row : Row
@@ -142,7 +140,7 @@ most-one (Occupied row) = omega arith
 past-over : (size : ℕ) (place : Place) (past : List Row) (changes : List ChangeRow) (refused : List RefusalRow) (cells : List ℕ) (path seq : ℕ) (s : Session) → Kept size place past cells →
     (has : Has size place past cells path seq s) → IsPast size cells has.row → IsOver (hub_view size place past changes refused cells) path seq s
 past-over size place past changes refused cells path seq s kept has gone =
-    record { writer = ap (λ (x : Session). x.stands) has.is ∙ gone.writes; dests = no-readers size place past changes refused cells path seq s kept has gone.reads }
+    record { writer = ap (λ (x : Session). x.stands) has.is ∙ gone.writes; dests = λ dest below. (reading_of cells has.row, no-readers size place past changes refused cells path seq s kept has gone.reads dest below, gone.reads) }
 
 -- the session in the buffer isn't over
 open-stands : (size : ℕ) (place : Place) (past : List Row) (changes : List ChangeRow) (refused : List RefusalRow) (cells : List ℕ) (path seq : ℕ) (s : Session) → Kept size place past cells →
@@ -243,12 +241,14 @@ hub-owned size place past changes refused cells kept moves = record {
       let has = has-session size place past changes refused cells path seq s kept known in
       let at = only-there-two (map (reading_of cells) past ++ reading_in cells place) path dest seq r read in
       omega (arith, at.1, ap (λ (x : Session). x.dests) has.is);
-  no_readers = λ path seq s known none.
+  no_readers = λ path seq s known none dest below.
       let has = has-session size place past changes refused cells path seq s kept known in
-      no-readers size place past changes refused cells path seq s kept has (elim has.stands [
-        | inl gone ↦ gone.1.reads
-        | inr open' ↦ (kept.at_work has.row open'.0).none (sym (ap (λ (x : Session). x.readers) has.is) ∙ none)
-      ]);
+      let zero-readers : has.row.readers ≡ 0 = sym (ap (λ (x : Session). x.readers) has.is) ∙ none in
+      let left : (has.row.reads ≡ false) × (has.row.saw_writer ≡ true) = elim has.stands [
+        | inl gone ↦ (gone.1.reads, gone.1.numbers.unended zero-readers)
+        | inr open' ↦ ((kept.at_work has.row open'.0).none zero-readers, (kept.at_work has.row open'.0).numbers.unended zero-readers)
+      ] in
+      (reading_of cells has.row, no-readers size place past changes refused cells path seq s kept has left.0 dest below, left.0, left.1);
 }
 
 pub hub-joint : (size : ℕ) (place : Place) (past : List Row) (changes : List ChangeRow) (refused : List RefusalRow) (cells : List ℕ) (count free : ℕ) →

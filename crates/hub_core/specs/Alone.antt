@@ -1,9 +1,10 @@
 -- What a hub answers that acts for all parties itself: each look is exact.
-use Rattle.std.specs.Prelude.{◌≡◌, ℕ, ◌+◌, List, length, Option, Some, None, MatchBool}
+use Rattle.std.specs.Prelude.{◌≡◌, ℕ, ◌+◌, ◌<◌, ◌≤◌, List, length, Option, Some, None}
 use Rattle.gw_base.specs.Fit.{IsSmallest}
 use Rattle.hub_core.specs.Calls.{path_of, seq_of}
-use Rattle.hub_core.specs.Joint.{replay, IsOver}
-use Rattle.hub_core.specs.View.{View, Session, Reading, session_at, reading_at}
+use Rattle.hub_core.specs.Floors.{staying, floors_of}
+use Rattle.hub_core.specs.Joint.{replay, position, HasLeft, HasRoom, IsOver}
+use Rattle.hub_core.specs.View.{View, Session, session_at, reading_at}
 use Rattle.hub_core.specs.declared.port.Left.{Left}
 use Rattle.hub_core.specs.declared.port.Left.TheVariants.{Others, Last}
 use Rattle.hub_core.specs.declared.port.Room.{Room}
@@ -13,19 +14,24 @@ use Rattle.hub_core.specs.declared.port.Take.TheVariants.{Granted, Overflow}
 use Rattle.hub_core.specs.declared.token.End.{End}
 use Rattle.hub_core.specs.declared.token.Joined.{Joined}
 
--- the room that one destination leaves in its session's buffer: it holds what isn't read, until the destination leaves
-abbrev pub IsRoomBeside : Session → Option Reading → Room → Type 0
-IsRoomBeside s None room = (room.readers ≡ 1) × (room.cells + length s.cells ≡ s.size)
-IsRoomBeside s (Some r) room = MatchBool r.stands ((room.readers ≡ 1) × (room.cells + length s.cells ≡ length r.cells + s.size)) ((room.readers ≡ 0) × (room.cells ≡ s.size))
+-- the room that the destinations leave in their session's buffer: it holds what one of them that takes part hasn't read
+pub record IsRoomBeside (v : View) (path seq : ℕ) (s : Session) (room : Room) : Type 0 where
+  -- who hasn't left takes part
+  pub readers : room.readers ≡ staying (λ dest. (floors_of v).parted path dest seq) s.dests
+  -- where all have left, the whole buffer is room
+  pub all : room.readers ≡ 0 → room.cells ≡ s.size
+  -- no cell is counted that one of them hasn't read, and one of them has read no more
+  pub each : HasRoom v path seq s room.cells
+  pub least : 0 < room.readers → (dest : ℕ) × (dest < s.dests) × (HasLeft v path dest seq → ⊥) × (length s.cells + room.cells ≡ position (reading_at v path dest seq) + s.size)
 
 -- the room of the session with that path and number
 abbrev pub IsRoomOf : View → ℕ → ℕ → Room → Type 0
-IsRoomOf v path seq room = (s : Session) → session_at v path seq ≡ Some s → IsRoomBeside s (reading_at v path 0 seq) room
+IsRoomOf v path seq room = (s : Session) → session_at v path seq ≡ Some s → IsRoomBeside v path seq s room
 
--- the session of that path and number is joined where there is one, with its buffer and length
-abbrev pub IsNextOf : View → ℕ → ℕ → Option Joined → Type 0
-IsNextOf v path seq None = session_at v path seq ≡ None
-IsNextOf v path seq (Some t) = (s : Session) × (session_at v path seq ≡ Some s) × (t.buf.0 ≡ s.buf) × (t.len ≡ s.len)
+-- the session of that path and number is joined where there is one that is for the destination, with its buffer and length
+abbrev pub IsNextOf : View → (path dest seq : ℕ) → Option Joined → Type 0
+IsNextOf v path dest seq None = (s : Session) → session_at v path seq ≡ Some s → s.dests ≤ dest
+IsNextOf v path dest seq (Some t) = (s : Session) × (session_at v path seq ≡ Some s) × (t.buf.0 ≡ s.buf) × (t.len ≡ s.len)
 
 -- what is published of the session with that path and number, and whether its writer takes part
 abbrev pub IsSeenOf : View → ℕ → ℕ → Seen → Type 0

@@ -1,5 +1,5 @@
 -- How old a look may be: what no look of a port falls behind, and when an answer is as fresh as that.
-use Rattle.std.specs.Prelude.{◌≡◌, ℕ, ◌+◌, ◌<◌, ◌≤◌, if◌then◌else◌, zero, suc, Bool, true, false, List, [], ◌∷◌, length, Option, Some, None}
+use Rattle.std.specs.Prelude.{◌≡◌, ℕ, ◌+◌, ◌<◌, ◌≤◌, if◌then◌else◌, nat_lt, zero, suc, Bool, true, false, List, [], ◌∷◌, length, Option, Some, None}
 use Rattle.hub_core.specs.View.{View, Event, Session, session_at, reading_at, grow}
 use Rattle.hub_core.specs.View.{Took, Refused, Entered, Asked, Put, Published, Joining, Missed, Saw, Read, Closed, Parted}
 
@@ -7,8 +7,8 @@ use Rattle.hub_core.specs.View.{Took, Refused, Entered, Asked, Put, Published, J
 pub record Floors : Type 0 where
   -- the pool's changes
   pub changes : ℕ
-  -- by path: the sessions that were entered
-  pub entered : ℕ → ℕ
+  -- by path, destination and session: whether the session was entered, and is for that destination
+  pub entered : ℕ → ℕ → ℕ → Bool
   -- by path and session: the cells published, and whether the writer left
   pub shown : ℕ → ℕ → ℕ
   pub closed : ℕ → ℕ → Bool
@@ -19,7 +19,7 @@ pub record Floors : Type 0 where
 -- no number falls, and no fact is taken back
 pub record Rise (old new : Floors) : Type 0 where
   pub changes : old.changes ≤ new.changes
-  pub entered : (path : ℕ) → old.entered path ≤ new.entered path
+  pub entered : (path dest seq : ℕ) → old.entered path dest seq ≡ true → new.entered path dest seq ≡ true
   pub shown : (path seq : ℕ) → old.shown path seq ≤ new.shown path seq
   pub closed : (path seq : ℕ) → old.closed path seq ≡ true → new.closed path seq ≡ true
   pub read : (path dest seq : ℕ) → old.read path dest seq ≤ new.read path dest seq
@@ -34,11 +34,16 @@ abbrev pub has_left : {A : Type 0} → (A → Bool) → Option A → Bool
 has_left stands None = false
 has_left stands (Some x) = if stands x then false else true
 
+-- whether a session is there, and is for the destination
+abbrev pub is_for : ℕ → Option Session → Bool
+is_for dest None = false
+is_for dest (Some s) = nat_lt dest s.dests
+
 -- the present numbers and facts of a view
 abbrev pub floors_of : View → Floors
 floors_of v = record {
   changes = length v.changes;
-  entered = λ path. length (v.sessions path);
+  entered = λ path dest seq. is_for dest (session_at v path seq);
   shown = λ path seq. number_in (λ s. s.shown) (session_at v path seq);
   closed = λ path seq. has_left (λ s. s.stands) (session_at v path seq);
   read = λ path dest seq. number_in (λ r. length r.cells) (reading_at v path dest seq);
@@ -68,7 +73,7 @@ IsFresh v f (Asked path seq cells readers) = (s : Session) → session_at v path
 IsFresh v f (Put path seq cell) = Unit {0}
 IsFresh v f (Published path seq bytes) = Unit {0}
 IsFresh v f (Joining path dest seq buf len) = Unit {0}
-IsFresh v f (Missed path dest seq) = f.entered path ≤ seq
+IsFresh v f (Missed path dest seq) = f.entered path dest seq ≡ false
 IsFresh v f (Saw path dest seq cells bytes writer) = (f.shown path seq ≤ cells) × (writer ≡ true → f.closed path seq ≡ false)
 IsFresh v f (Read path dest seq cell) = Unit {0}
 IsFresh v f (Closed path seq freed) = Unit {0}

@@ -96,6 +96,19 @@ pub record IsNextChange (changes : List Change) (buf number next : ℕ) : Type 0
 abbrev pub HasLeft : View → (path dest seq : ℕ) → Type 0
 HasLeft v path dest seq = (r : Reading) × (reading_at v path dest seq ≡ Some r) × (r.stands ≡ false)
 
+-- a destination joined that session, left it, and never saw its writer gone
+abbrev pub HasLeftWriter : View → (path dest seq : ℕ) → Type 0
+HasLeftWriter v path dest seq = (r : Reading) × (reading_at v path dest seq ≡ Some r) × (r.stands ≡ false) × (r.writer ≡ true)
+
+-- a destination's position: the cells that it read, none until it joins
+abbrev pub position : Option Reading → ℕ
+position None = 0
+position (Some r) = length r.cells
+
+-- so many cells more are no more than the buffer has beyond what each destination that takes part hasn't read
+abbrev pub HasRoom : View → (path seq : ℕ) → Session → (cells : ℕ) → Type 0
+HasRoom v path seq s cells = (dest : ℕ) → dest < s.dests → (HasLeft v path dest seq → ⊥) → length s.cells + cells ≤ position (reading_at v path dest seq) + s.size
+
 -- no destination of a session takes part any more; one that hasn't joined yet takes part
 abbrev pub HasNoReaders : View → (path seq : ℕ) → Session → Type 0
 HasNoReaders v path seq s = (dest : ℕ) → dest < s.dests → HasLeft v path dest seq
@@ -127,8 +140,8 @@ pub record AreOwned (sizes : List ℕ) (v : View) : Type 0 where
   pub freed : (path seq : ℕ) (s : Session) → session_at v path seq ≡ Some s → IsOver v path seq s → (later : ℕ) × (s.number < later) × (numbered v.changes later ≡ Some (Freed later s.buf))
   -- only its own destinations join a session
   pub joined : (path dest seq : ℕ) (s : Session) (r : Reading) → session_at v path seq ≡ Some s → reading_at v path dest seq ≡ Some r → dest < s.dests
-  -- a session whose writer saw no destination has none
-  pub no_readers : (path seq : ℕ) (s : Session) → session_at v path seq ≡ Some s → s.readers ≡ 0 → HasNoReaders v path seq s
+  -- a session whose writer saw no destination has none, and none of them saw the writer gone
+  pub no_readers : (path seq : ℕ) (s : Session) → session_at v path seq ≡ Some s → s.readers ≡ 0 → (dest : ℕ) → dest < s.dests → HasLeftWriter v path dest seq
 
 -- the views of all ports, joined, with the number of changes and the free set of the pool word
 pub record Joint (sizes : List ℕ) (count free : ℕ) (v : View) : Type 0 where

@@ -1,8 +1,12 @@
 pub mod Alone
 pub mod Calls
+pub mod Core
 pub mod Floors
+pub mod Groups
 pub mod Joint
+pub mod Moves
 pub mod Plain
 pub mod Records
 pub mod Tokens
+pub mod Turns
 pub mod View

@@ -70,6 +70,7 @@ pub record IsRow (size : ℕ) (cells : List ℕ) (row : Row) : Type 0 where
   pub bytes : row.bytes ≡ counted (take row.seen (drop row.from cells))
   pub gone : row.saw_writer ≡ false → row.seen ≡ row.shown
   pub unjoined : row.joined ≡ false → (row.seen ≡ 0) × (row.saw_writer ≡ true)
+  pub unended : row.readers ≡ 0 → row.saw_writer ≡ true
 
 -- a session that is over: its destination joined, and both parties left
 pub record IsPast (size : ℕ) (cells : List ℕ) (row : Row) : Type 0 where

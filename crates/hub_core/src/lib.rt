@@ -2,14 +2,14 @@
 //! and a plain hub.
 #![tactic(auto)]
 
+mod law;
 mod plain;
 mod port;
 mod record;
 mod row;
-#[cfg(test)]
-mod tests;
 mod token;
 
+pub use law::core_law;
 pub use plain::PlainHub;
 pub use port::{Left, Port, Room, Seen, Take};
 pub use record::{

@@ -267,7 +267,7 @@ impl Port for PlainHub {
         at.told = at.given;
     }
 
-    /// As for any port; `None` exactly where the path has no session of that number.
+    /// As for any port; `None` exactly where the path has no session of that number for the destination.
     fn next(&mut self, path: PathNo, dest: DestNo, seq: u32) -> Option<Joined>
         requires acts { (⟦<PlainHub as Port>⟧.means self.old).reads path.0 dest.0 ≡ true }
         requires seq { length ((⟦<PlainHub as Port>⟧.view self.old).readings path.0 dest.0) ≡ seq }
@@ -279,7 +279,7 @@ impl Port for PlainHub {
         ensures rise { Rise (⟦<PlainHub as Port>⟧.floors self.old) (⟦<PlainHub as Port>⟧.floors self.new) }
 
         // Beside the port's: the look is exact.
-        ensures exact { IsNextOf (⟦<PlainHub as Port>⟧.view self.old) path.0 seq result }
+        ensures exact { IsNextOf (⟦<PlainHub as Port>⟧.view self.old) path.0 dest.0 seq result }
     {
         let Place::Occupied(row) = self.place else {
             return None;

@@ -7,8 +7,6 @@ mod entries;
 mod holds;
 mod names;
 mod search;
-#[cfg(test)]
-mod tests;
 
 pub use checked::{Checked, Refused, check};
 pub use conflict::{Conflict, ConflictKind, Place};

@@ -1,5 +1,6 @@
 -- Cells that are put one after another.
 use Rattle.std.proofs.Common.{◌≡◌, ℕ, ◌+◌, ◌<◌, ◌≤◌, List, ◌∷◌, ◌++◌, length, drop, get_or, refl, ap, sym, ◌∙◌, arith, add-one}
+use Rattle.tp_receiver.specs.Port.{Kept}
 use Rattle.std.specs.Prelude.{map}
 use Rattle.std.proofs.Math.Seq.{drop-cons}
 use Rattle.std.proofs.lemmas.List.Sums.{sum_by-cons}
@@ -8,7 +9,6 @@ use Rattle.hub_core.specs.Calls.{Means, CellUsed, ByWriter}
 use Rattle.hub_core.specs.Tokens.{Writes, SameOpened, put_one}
 use Rattle.hub_core.specs.View.{View, Event, Put, grow, grows}
 use Rattle.hub_core.specs.declared.token.Opened.{Opened}
-use Rattle.tp_receiver.specs.Known.{Kept}
 
 -- the cells from a place on are still to be put
 pub record IsPutting (cells : List ℕ) (place : ℕ) (old new : View) (before after : Means) (first now : Opened) : Type 0 where

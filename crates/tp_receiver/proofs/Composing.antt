@@ -1,5 +1,10 @@
 -- Parts of a step, one after another.
 use Rattle.std.proofs.Common.{◌≡◌, ℕ, ◌+◌, ◌%◌, ◌<◌, ◌≤◌, true, List, [], ◌∷◌, ◌++◌, length, refl, ap, sym, ◌∙◌, subst, arith}
+use Rattle.tp_receiver.specs.Port.{HasOpened, carried}
+use Rattle.tp_receiver.specs.State.{Reception, RxState, RxDid, reception_of, idle, state_of}
+use Rattle.tp_receiver.specs.Table.{awaited_since, gone_on, later_act, After, Begins, Interrupts, Opens, Starts, asks, cells_of, puts}
+use Rattle.hub_core.specs.Moves.{moves_of, moves_in}
+use Rattle.hub_core.specs.Turns.{Over}
 use Rattle.std.proofs.lemmas.Grind.{flat_map-append}
 use Rattle.cell_stream.specs.Packing.{IsPacked}
 use Rattle.gw_base.specs.Cell.{counted}
@@ -15,13 +20,10 @@ use Rattle.hub_core.specs.declared.record.SessionRecord.{SessionRecord}
 use Rattle.hub_core.specs.declared.token.Held.{Held}
 use Rattle.hub_core.specs.declared.token.Opened.{Opened}
 use Rattle.hub_core.proofs.Fresh.{are-fresh-append}
-use Rattle.tp_receiver.specs.declared.reception.Reception.{Reception}
+use Rattle.tp_receiver.specs.declared.reception.Reception.{Reception as HeldReception}
 use Rattle.tp_receiver.specs.declared.reception.State.TheVariants.{Idle}
 use Rattle.tp_receiver.specs.declared.receiver.Receiver.{Receiver}
 use Rattle.tp_receiver.specs.declared.set.RxSet.{RxSet}
-use Rattle.tp_receiver.specs.Known.{HasOpened, carried}
-use Rattle.tp_receiver.specs.Receiving.{Busy, RxState, RxMove, awaited_since, busy_of, gone_on, idle, later_act, moves_of, moves_in, state_in}
-use Rattle.tp_receiver.specs.Rows.{After, Begins, Interrupts, Opens, Over, Starts, asks, cells_of, puts}
 use Rattle.tp_unit.specs.Unit.{Meaning, BoxMeaning, Keeps, Offers, Revokes}
 use Rattle.hub_core.proofs.Growing.{grows-append}
 
@@ -42,7 +44,7 @@ later-keeps (Offers meaning) = refl
 later-keeps Revokes = refl
 
 -- an idle receiver's state
-pub state-idle : (r : Receiver) (next seq : ℕ) → r.state ≡ Idle → r.next_n ≡ next → r.next_seq ≡ seq → state_in r ≡ idle next seq
+pub state-idle : (r : Receiver) (next seq : ℕ) → r.state ≡ Idle → r.next_n ≡ next → r.next_seq ≡ seq → state_of r ≡ idle next seq
 state-idle r next seq is nexts seqs = rw (is, nexts, seqs) refl
 
 -- what a part says in other words
@@ -50,7 +52,7 @@ pub over-by : {f : Floors} {v w : View} {moves : List Move} {Row Other : List Ev
 over-by over says = record { calls = over.calls; grown = over.grown; fresh = over.fresh; moves_are = over.moves_are; row = says over.calls over.row }
 
 -- first calls, and then a part
-pub over-after : {low high : Floors} (u v w : View) (before : List Event) (tick : ℕ) (act : BoxMeaning) (records : List SessionRecord) (new : RxState) (first moves : List Move) (Row : RxMove → Type 0) →
+pub over-after : {low high : Floors} (u v w : View) (before : List Event) (tick : ℕ) (act : BoxMeaning) (records : List SessionRecord) (new : RxState) (first moves : List Move) (Row : RxDid → Type 0) →
     v ≡ grows before u → Rise low high → AreFresh low u before → first ≡ moves_in before → Over high v w moves (λ calls. Row (record { tick = tick; calls = calls; act = act; records = records; new = new })) →
     Over low u w (first ++ moves) (λ calls. After before (record { tick = tick; calls = calls; act = act; records = records; new = new }) Row)
 over-after {low = low} {high = high} u v w before tick act records new first moves Row grown rise fresh firsts over = record {
@@ -62,26 +64,26 @@ over-after {low = low} {high = high} u v w before tick act records new first mov
 }
 
 -- a look at the room, and then a part
-pub over-asked : {low high : Floors} (u v w : View) (set : RxSet) (r : Reception) (room : Room) (t : Opened) (tick : ℕ) (act : BoxMeaning) (records : List SessionRecord) (new : RxState) (moves : List Move) (Row : Busy → RxMove → Type 0) →
+pub over-asked : {low high : Floors} (u v w : View) (set : RxSet) (r : HeldReception) (room : Room) (t : Opened) (tick : ℕ) (act : BoxMeaning) (records : List SessionRecord) (new : RxState) (moves : List Move) (Row : Reception → RxDid → Type 0) →
     r.writer.path.0 ≡ set.path.0 → t ≡ asked room r.writer → v ≡ grow (Asked r.writer.path.0 r.writer.seq room.cells room.readers) u →
-    Rise low high → IsFresh u low (Asked r.writer.path.0 r.writer.seq room.cells room.readers) → Over high v w moves (λ calls. Row (busy_of (record r { writer = t })) (record { tick = tick; calls = calls; act = act; records = records; new = new })) →
-    Over low u w moves (λ calls. After (asks set (busy_of r) room.cells room.readers) (record { tick = tick; calls = calls; act = act; records = records; new = new }) (Row (busy_of r)))
+    Rise low high → IsFresh u low (Asked r.writer.path.0 r.writer.seq room.cells room.readers) → Over high v w moves (λ calls. Row (reception_of (record r { writer = t })) (record { tick = tick; calls = calls; act = act; records = records; new = new })) →
+    Over low u w moves (λ calls. After (asks set (reception_of r) room.cells room.readers) (record { tick = tick; calls = calls; act = act; records = records; new = new }) (Row (reception_of r)))
 over-asked {high = high} u v w set r room t tick act records new moves Row path is grown rise fresh over =
-    let P : Opened → Type 0 = λ s. Over high v w moves (λ calls. Row (busy_of (record r { writer = s })) (record { tick = tick; calls = calls; act = act; records = records; new = new })) in
-    over-after u v w (asks set (busy_of r) room.cells room.readers) tick act records new [] moves (Row (busy_of r))
+    let P : Opened → Type 0 = λ s. Over high v w moves (λ calls. Row (reception_of (record r { writer = s })) (record { tick = tick; calls = calls; act = act; records = records; new = new })) in
+    over-after u v w (asks set (reception_of r) room.cells room.readers) tick act records new [] moves (Row (reception_of r))
     (grown ∙ ap (λ p. grow (Asked p r.writer.seq room.cells room.readers) u) path) rise (rw (← path) fresh, tt) refl (subst P is over)
 
 -- cells are put, and then a part
-pub over-put : {low high : Floors} (u v w : View) (set : RxSet) (r next : Reception) (t : Opened) (cells : List ℕ) (count tick : ℕ) (act : BoxMeaning) (records : List SessionRecord) (new : RxState) (moves : List Move) (Row : Busy → RxMove → Type 0) →
+pub over-put : {low high : Floors} (u v w : View) (set : RxSet) (r next : HeldReception) (t : Opened) (cells : List ℕ) (count tick : ℕ) (act : BoxMeaning) (records : List SessionRecord) (new : RxState) (moves : List Move) (Row : Reception → RxDid → Type 0) →
     r.writer.path.0 ≡ set.path.0 → counted cells ≡ count → SameOpened t (carried cells r.writer) → v ≡ grows (puts r.writer.path.0 r.writer.seq cells) u → Rise low high →
-    busy_of next ≡ record (busy_of (record r { writer = t })) { number = (r.number + 1) % 16; since = awaited_since r.wait r.since.0 tick } →
-    Over high v w moves (λ calls. Row (busy_of next) (record { tick = tick; calls = calls; act = act; records = records; new = new })) →
-    Over low u w moves (λ calls. After (puts set.path.0 r.writer.seq cells) (record { tick = tick; calls = calls; act = act; records = records; new = new }) (Row (gone_on (busy_of r) count tick)))
+    reception_of next ≡ record (reception_of (record r { writer = t })) { number = (r.number + 1) % 16; since = awaited_since r.wait r.since.0 tick } →
+    Over high v w moves (λ calls. Row (reception_of next) (record { tick = tick; calls = calls; act = act; records = records; new = new })) →
+    Over low u w moves (λ calls. After (puts set.path.0 r.writer.seq cells) (record { tick = tick; calls = calls; act = act; records = records; new = new }) (Row (gone_on (reception_of r) count tick)))
 over-put {low = low} {high = high} u v w set r next t cells count tick act records new moves Row path counts is grown rise goes over =
     let given : t.given ≡ r.writer.given + count = is.given ∙ ap (λ n. r.writer.given + n) counts in
-    let gone : busy_of next ≡ gone_on (busy_of r) count tick = goes ∙ rw (is.len, given, is.seq, is.buf) refl in
-    let P : Busy → Type 0 = λ b. Over high v w moves (λ calls. Row b (record { tick = tick; calls = calls; act = act; records = records; new = new })) in
-    over-after u v w (puts set.path.0 r.writer.seq cells) tick act records new [] moves (Row (gone_on (busy_of r) count tick))
+    let gone : reception_of next ≡ gone_on (reception_of r) count tick = goes ∙ rw (is.len, given, is.seq, is.buf) refl in
+    let P : Reception → Type 0 = λ b. Over high v w moves (λ calls. Row b (record { tick = tick; calls = calls; act = act; records = records; new = new })) in
+    over-after u v w (puts set.path.0 r.writer.seq cells) tick act records new [] moves (Row (gone_on (reception_of r) count tick))
     (grown ∙ ap (λ p. grows (puts p r.writer.seq cells) u) path) rise (puts-fresh low u set.path.0 r.writer.seq cells (counted cells)) (sym (moves_in-puts set.path.0 r.writer.seq cells (counted cells))) (subst P gone over)
 
 -- a session that is opened
@@ -113,7 +115,7 @@ has-opened {low = low} set next seq len size tick need change bytes cells u v w 
     }
 
 -- a session is opened, and then a part
-pub over-opened : {low high : Floors} (u v w : View) (set : RxSet) (seq len : ℕ) (bytes : List ℕ) (opened : OpenedAt) (tick : ℕ) (act acts : BoxMeaning) (records told : List SessionRecord) (new : RxState) (first moves both : List Move) (Row : RxMove → Type 0) →
+pub over-opened : {low high : Floors} (u v w : View) (set : RxSet) (seq len : ℕ) (bytes : List ℕ) (opened : OpenedAt) (tick : ℕ) (act acts : BoxMeaning) (records told : List SessionRecord) (new : RxState) (first moves both : List Move) (Row : RxDid → Type 0) →
     Over low u v first (Opens set seq len bytes opened) → Rise low high → Over high v w moves (λ calls. Row (record { tick = tick; calls = calls; act = act; records = records; new = new })) →
     both ≡ first ++ moves → acts ≡ act → told ≡ records →
     Over low u w both (λ calls. (opening : List Event) × Opens set seq len bytes opened opening × After opening (record { tick = tick; calls = calls; act = acts; records = told; new = new }) Row)
@@ -121,13 +123,13 @@ over-opened u v w set seq len bytes opened tick act acts records told new first 
     rw (boths, acts_are, tolds) (over-by (over-after u v w opens.calls tick act records new first moves Row opens.grown rise opens.fresh opens.moves_are over) (λ calls row. (opens.calls, opens.row, row)))
 
 -- a part in other words of its numbers
-pub over-same : {f : Floors} (v w : View) (set own : RxSet) (next next_is seq seq_is : ℕ) (busy busy_is : Busy) (moves : List Move) (Row : RxSet → ℕ → ℕ → Busy → List Event → Type 0) →
+pub over-same : {f : Floors} (v w : View) (set own : RxSet) (next next_is seq seq_is : ℕ) (busy busy_is : Reception) (moves : List Move) (Row : RxSet → ℕ → ℕ → Reception → List Event → Type 0) →
     own ≡ set → next_is ≡ next → seq_is ≡ seq → busy_is ≡ busy → Over f v w moves (Row own next_is seq_is busy_is) → Over f v w moves (Row set next seq busy)
 over-same {f = f} v w set own next next_is seq seq_is busy busy_is moves Row sets nexts seqs busies over =
     let P : RxSet → Type 0 = λ s. Over f v w moves (Row s next_is seq_is busy_is) in
     let Q : ℕ → Type 0 = λ n. Over f v w moves (Row set n seq_is busy_is) in
     let R : ℕ → Type 0 = λ n. Over f v w moves (Row set next n busy_is) in
-    let S : Busy → Type 0 = λ b. Over f v w moves (Row set next seq b) in
+    let S : Reception → Type 0 = λ b. Over f v w moves (Row set next seq b) in
     subst S busies (subst R seqs (subst Q nexts (subst P sets over)))
 
 -- what was ends, and a start begins

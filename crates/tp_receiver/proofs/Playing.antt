@@ -1,8 +1,9 @@
 -- A receiver that is told rows one after another.
 use Rattle.std.proofs.Common.{◌≡◌, ℕ, ◌+◌, ◌*◌, ◌≤◌}
+use Rattle.tp_receiver.specs.Port.{ActsFor, Knows}
+use Rattle.tp_receiver.specs.State.{WaitsBy}
 use Rattle.hub_core.specs.Calls.{Means}
 use Rattle.hub_core.specs.View.{View}
-use Rattle.tp_receiver.specs.Known.{ActsFor, Knows, WaitsBy}
 use Rattle.tp_receiver.specs.declared.receiver.Receiver.{Receiver}
 
 -- after so many rows

@@ -1,7 +1,7 @@
 -- How many bytes a unit has that was read of a frame.
 use Rattle.std.proofs.Common.{◌≡◌, ℕ, ◌+◌, ◌-◌, ◌<◌, ◌≤◌, Bool, true, false, ◌&&◌, ◌==◌, nat_le, nat_lt, if◌then◌else◌, List, length, take, drop, slice_index, refl, ap, arith, length-drop, length-take}
+use Rattle.tp_receiver.specs.Port.{IsRead}
 use Rattle.std.proofs.lemmas.Bool.Decides.{nat_tests}
-use Rattle.tp_receiver.specs.Known.{IsRead}
 use Rattle.tp_unit.specs.Reading.{unit_in, kind_at, low_nibble_at, short_length, long_length, least_segmented, short_single_frame, long_single_frame, first_frame, long_first_frame}
 use Rattle.tp_unit.specs.Unit.{Meaning, SingleFrame, FirstFrame}
 

@@ -1,5 +1,5 @@
-pub mod Known
-pub mod Receiving
-pub mod Rows
-pub mod Running
+pub mod Port
+pub mod Runs
 pub mod Set
+pub mod State
+pub mod Table

@@ -1,7 +1,8 @@
 ghost use Rattle.std.specs.Prelude.{◌≡◌, ◌+◌, ◌≤◌, [], ◌∷◌, ◌++◌, length, map};
+ghost use Rattle.tp_receiver.specs.Table.{later_act};
+ghost use Rattle.hub_core.specs.Moves.{move_of};
 ghost use Rattle.hub_core.specs.Calls.{freed_by};
 ghost use Rattle.tp_unit.specs.Unit.{box_meaning_of, Keeps};
-ghost use Rattle.tp_receiver.specs.Receiving.{later_act, move_of};
 
 use arrayvec::ArrayVec;
 use hub_core::{Left, Move, SessionRecord};

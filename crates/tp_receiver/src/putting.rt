@@ -1,10 +1,10 @@
 ghost use Rattle.std.specs.Prelude.{◌≡◌, ◌+◌, ◌≤◌, length, All};
+ghost use Rattle.tp_receiver.specs.Port.{Kept, carried};
+ghost use Rattle.tp_receiver.specs.Table.{puts};
 ghost use Rattle.gw_base.specs.Cell.{IsCell, counted};
 ghost use Rattle.hub_core.specs.Floors.{Rise};
 ghost use Rattle.hub_core.specs.Tokens.{Writes, SameOpened};
 ghost use Rattle.hub_core.specs.View.{grows};
-ghost use Rattle.tp_receiver.specs.Known.{Kept, carried};
-ghost use Rattle.tp_receiver.specs.Rows.{puts};
 
 use hub_core::{Opened, Port};
 

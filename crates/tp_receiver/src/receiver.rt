@@ -32,12 +32,13 @@ pub struct Receiver {
 
 impl Receiver {
     ghost use Rattle.std.specs.Prelude.{◌≡◌, ◌+◌, ◌<◌, ◌≤◌, ◌%◌, [], ◌∷◌, None, Some, IfOk, IfErr, MatchResult, IsTrue, ◌↔◌, is_some, length, take};
+    ghost use Rattle.tp_receiver.specs.Port.{ActsFor, CanTake, HasOpened, IsRead, IsServed, Kept, Knows, KnowsReception, cells_for, did_by, takes_for, Refuses};
+    ghost use Rattle.tp_receiver.specs.State.{WaitsBy, Came, reception_of, reception_in, idle, busy_with, event_of, state_of};
+    ghost use Rattle.hub_core.specs.Turns.{Over};
+    ghost use Rattle.tp_receiver.specs.Table.{RxStep, Ends, Interrupts, Starts, Grants, Continues, Carries, ConsecutiveRow, TimerRow, LeftRow, EndRow};
     ghost use Rattle.hub_core.specs.Floors.{Rise};
     ghost use Rattle.hub_core.specs.Tokens.{Writes};
     ghost use Rattle.hub_core.specs.View.{View};
-    ghost use Rattle.tp_receiver.specs.Known.{ActsFor, CanTake, HasOpened, IsRead, IsServed, Kept, Knows, KnowsReception, WaitsBy, cells_for, takes_for};
-    ghost use Rattle.tp_receiver.specs.Receiving.{RxMove, Came, busy_of, busy_in, idle, busy_with, input_of, state_in};
-    ghost use Rattle.tp_receiver.specs.Rows.{Over, RxStep, Ends, Interrupts, Starts, Refuses, Grants, Continues, Carries, ConsecutiveRow, TimerRow, LeftRow, EndRow};
     ghost use Rattle.tp_unit.specs.Unit.{meaning_of, SingleFrame, FirstFrame};
 
     /// A receiver that is idle, and whose channel had no start yet. A path has 1 to 8 destinations, and a frame at most
@@ -45,7 +46,7 @@ impl Receiver {
     pub fn new(set: RxSet) -> Receiver
         requires { IsRxSet set }
         ensures set { result.set ≡ set }
-        ensures state { state_in result ≡ idle 0 0 }
+        ensures state { state_of result ≡ idle 0 0 }
     {
         Receiver {
             set,
@@ -57,7 +58,7 @@ impl Receiver {
 
     /// Whether a reception is in progress.
     pub fn busy(&self) -> bool
-        ensures { result ≡ is_some (state_in self.now).busy }
+        ensures { result ≡ is_some (state_of self.now).busy }
     {
         matches!(self.state, State::Busy(_))
     }
@@ -71,13 +72,13 @@ impl Receiver {
         requires acts { ActsFor self.old.set (P.means port.old) }
         requires knows { Knows (P.view port.old) self.old }
         requires tick { WaitsBy self.old.state tick.0 }
-        requires unit { CanTake self.old.set (P.means port.old) self.old.next_n (input_of event) }
-        ensures over { Over (P.floors port.old) (P.view port.old) (P.view port.new) result.moves.items (λ calls. RxStep self.old.set (state_in self.old) (input_of event) (record { tick = tick.0; calls = calls; act = box_meaning_of result.fc; records = result.records.items; new = state_in self.new })) }
+        requires unit { CanTake self.old.set (P.means port.old) self.old.next_n (event_of event) }
+        ensures over { Over (P.floors port.old) (P.view port.old) (P.view port.new) result.moves.items (λ calls. RxStep self.old.set (state_of self.old) (event_of event) (did_by tick.0 calls result (state_of self.new))) }
         ensures set { self.new.set ≡ self.old.set }
         ensures knows { Knows (P.view port.new) self.new }
         ensures tick { WaitsBy self.new.state tick.0 }
-        ensures count { self.new.next_n ≤ self.old.next_n + takes_for (input_of event) }
-        ensures kept { Kept self.old.set.path.0 (takes_for (input_of event)) (cells_for (input_of event)) (P.view port.old) (P.view port.new) (P.means port.old) (P.means port.new) }
+        ensures count { self.new.next_n ≤ self.old.next_n + takes_for (event_of event) }
+        ensures kept { Kept self.old.set.path.0 (takes_for (event_of event)) (cells_for (event_of event)) (P.view port.old) (P.view port.new) (P.means port.old) (P.means port.new) }
         ensures rise { Rise (P.floors port.old) (P.floors port.new) }
     {
         match event {
@@ -94,7 +95,7 @@ impl Receiver {
         requires knows { Knows (P.view port.old) self.old }
         requires served { IsServed (P.means port.old) self.old.next_n }
         requires read { IsRead self.old.set.a size (meaning_of unit) }
-        ensures over { Over (P.floors port.old) (P.view port.old) (P.view port.new) result.moves.items (λ calls. RxStep self.old.set (state_in self.old) (Came size (meaning_of unit)) (record { tick = tick.0; calls = calls; act = box_meaning_of result.fc; records = result.records.items; new = state_in self.new })) }
+        ensures over { Over (P.floors port.old) (P.view port.old) (P.view port.new) result.moves.items (λ calls. RxStep self.old.set (state_of self.old) (Came size (meaning_of unit)) (did_by tick.0 calls result (state_of self.new))) }
         ensures set { self.new.set ≡ self.old.set }
         ensures knows { Knows (P.view port.new) self.new }
         ensures tick { WaitsBy self.old.state tick.0 → WaitsBy self.new.state tick.0 }
@@ -129,7 +130,7 @@ impl Receiver {
         requires served { IsServed (P.means port.old) self.old.next_n }
         requires some { 0 < length bytes.now }
         requires most { length bytes.now ≤ 62 }
-        ensures over { Over (P.floors port.old) (P.view port.old) (P.view port.new) result.moves.items (λ calls. Starts self.old.set (state_in self.old) size (SingleFrame bytes.now) (record { tick = tick.0; calls = calls; act = box_meaning_of result.fc; records = result.records.items; new = state_in self.new })) }
+        ensures over { Over (P.floors port.old) (P.view port.old) (P.view port.new) result.moves.items (λ calls. Starts self.old.set (state_of self.old) size (SingleFrame bytes.now) (did_by tick.0 calls result (state_of self.new))) }
         ensures set { self.new.set ≡ self.old.set }
         ensures knows { Knows (P.view port.new) self.new }
         ensures state { self.new.state ≡ State.Idle }
@@ -166,7 +167,7 @@ impl Receiver {
         requires served { IsServed (P.means port.old) self.old.next_n }
         requires more { length bytes.now < len }
         requires most { length bytes.now ≤ 62 }
-        ensures over { Over (P.floors port.old) (P.view port.old) (P.view port.new) result.moves.items (λ calls. Starts self.old.set (state_in self.old) size (FirstFrame len bytes.now) (record { tick = tick.0; calls = calls; act = box_meaning_of result.fc; records = result.records.items; new = state_in self.new })) }
+        ensures over { Over (P.floors port.old) (P.view port.old) (P.view port.new) result.moves.items (λ calls. Starts self.old.set (state_of self.old) size (FirstFrame len bytes.now) (did_by tick.0 calls result (state_of self.new))) }
         ensures set { self.new.set ≡ self.old.set }
         ensures knows { Knows (P.view port.new) self.new }
         ensures tick { WaitsBy self.new.state tick.0 }
@@ -192,7 +193,7 @@ impl Receiver {
     /// Ends a reception that another start interrupts.
     fn interrupt<P: Port>(&mut self, tick: Tick, port: &mut P) -> RxActs
         requires knows { Knows (P.view port.old) self.old }
-        ensures over { Over (P.floors port.old) (P.view port.old) (P.view port.new) result.moves.items (λ calls. Interrupts self.old.set self.old.next_n self.old.next_seq (busy_in self.old.state) (record { tick = tick.0; calls = calls; act = box_meaning_of result.fc; records = result.records.items; new = idle self.old.next_n self.old.next_seq })) }
+        ensures over { Over (P.floors port.old) (P.view port.old) (P.view port.new) result.moves.items (λ calls. Interrupts self.old.set self.old.next_n self.old.next_seq (reception_in self.old.state) (did_by tick.0 calls result (idle self.old.next_n self.old.next_seq))) }
         ensures receiver { self.new ≡ record self.old { state = State.Idle } }
         ensures number { length ((P.view port.new).sessions self.old.set.path.0) ≡ self.old.next_seq }
         ensures records { length result.records.items ≤ 1 }
@@ -271,7 +272,7 @@ impl Receiver {
         requires state { self.old.state ≡ State.Idle }
         requires number { length ((P.view port.old).sessions self.old.set.path.0) ≡ self.old.next_seq }
         requires knows { KnowsReception (P.view port.old) self.old.set.path.0 reception }
-        ensures over { Over (P.floors port.old) (P.view port.old) (P.view port.new) result.moves.items (λ calls. Grants self.old.set self.old.next_n self.old.next_seq (busy_of reception) (record { tick = tick.0; calls = calls; act = box_meaning_of result.fc; records = result.records.items; new = state_in self.new })) }
+        ensures over { Over (P.floors port.old) (P.view port.old) (P.view port.new) result.moves.items (λ calls. Grants self.old.set self.old.next_n self.old.next_seq (reception_of reception) (did_by tick.0 calls result (state_of self.new))) }
         ensures set { self.new.set ≡ self.old.set }
         ensures next_n { self.new.next_n ≡ self.old.next_n }
         ensures knows { Knows (P.view port.new) self.new }
@@ -303,7 +304,7 @@ impl Receiver {
         requires knows { Knows (P.view port.old) self.old }
         requires spare { 9 ≤ (P.means port.old).spare }
         requires most { length bytes.now ≤ 63 }
-        ensures over { Over (P.floors port.old) (P.view port.old) (P.view port.new) result.moves.items (λ calls. ConsecutiveRow self.old.set (state_in self.old) size sn bytes.now (busy_in self.old.state) (record { tick = tick.0; calls = calls; act = box_meaning_of result.fc; records = result.records.items; new = state_in self.new })) }
+        ensures over { Over (P.floors port.old) (P.view port.old) (P.view port.new) result.moves.items (λ calls. ConsecutiveRow self.old.set (state_of self.old) size sn bytes.now (reception_in self.old.state) (did_by tick.0 calls result (state_of self.new))) }
         ensures set { self.new.set ≡ self.old.set }
         ensures next_n { self.new.next_n ≡ self.old.next_n }
         ensures knows { Knows (P.view port.new) self.new }
@@ -332,7 +333,7 @@ impl Receiver {
         requires knows { KnowsReception (P.view port.old) self.old.set.path.0 reception }
         requires spare { 9 ≤ (P.means port.old).spare }
         requires most { length bytes.now ≤ 63 }
-        ensures over { Over (P.floors port.old) (P.view port.old) (P.view port.new) result.moves.items (λ calls. Continues self.old.set self.old.next_n self.old.next_seq (busy_of reception) size sn bytes.now (record { tick = tick.0; calls = calls; act = box_meaning_of result.fc; records = result.records.items; new = state_in self.new })) }
+        ensures over { Over (P.floors port.old) (P.view port.old) (P.view port.new) result.moves.items (λ calls. Continues self.old.set self.old.next_n self.old.next_seq (reception_of reception) size sn bytes.now (did_by tick.0 calls result (state_of self.new))) }
         ensures set { self.new.set ≡ self.old.set }
         ensures next_n { self.new.next_n ≡ self.old.next_n }
         ensures knows { Knows (P.view port.new) self.new }
@@ -373,7 +374,7 @@ impl Receiver {
         requires spare { 9 ≤ (P.means port.old).spare }
         requires most { length bytes.now ≤ 63 }
         requires within { reception.writer.given + length bytes.now ≤ reception.writer.len }
-        ensures over { Over (P.floors port.old) (P.view port.old) (P.view port.new) result.moves.items (λ calls. Carries self.old.set self.old.next_n self.old.next_seq (busy_of reception) bytes.now (record { tick = tick.0; calls = calls; act = box_meaning_of result.fc; records = result.records.items; new = state_in self.new })) }
+        ensures over { Over (P.floors port.old) (P.view port.old) (P.view port.new) result.moves.items (λ calls. Carries self.old.set self.old.next_n self.old.next_seq (reception_of reception) bytes.now (did_by tick.0 calls result (state_of self.new))) }
         ensures set { self.new.set ≡ self.old.set }
         ensures next_n { self.new.next_n ≡ self.old.next_n }
         ensures knows { Knows (P.view port.new) self.new }
@@ -404,7 +405,7 @@ impl Receiver {
     fn timer<P: Port>(&mut self, tick: Tick, port: &mut P) -> RxActs
         requires knows { Knows (P.view port.old) self.old }
         requires tick { WaitsBy self.old.state tick.0 }
-        ensures over { Over (P.floors port.old) (P.view port.old) (P.view port.new) result.moves.items (λ calls. TimerRow self.old.set (state_in self.old) (busy_in self.old.state) (record { tick = tick.0; calls = calls; act = box_meaning_of result.fc; records = result.records.items; new = state_in self.new })) }
+        ensures over { Over (P.floors port.old) (P.view port.old) (P.view port.new) result.moves.items (λ calls. TimerRow self.old.set (state_of self.old) (reception_in self.old.state) (did_by tick.0 calls result (state_of self.new))) }
         ensures set { self.new.set ≡ self.old.set }
         ensures next_n { self.new.next_n ≡ self.old.next_n }
         ensures knows { Knows (P.view port.new) self.new }
@@ -427,7 +428,7 @@ impl Receiver {
     /// The flow control left: a consecutive frame is awaited from now on.
     fn flow_control_left(&mut self, tick: Tick) -> RxActs
         requires { WaitsBy self.old.state tick.0 }
-        ensures row { LeftRow (state_in self.old) (busy_in self.old.state) (record { tick = tick.0; calls = []; act = box_meaning_of result.fc; records = result.records.items; new = state_in self.new }) }
+        ensures row { LeftRow (state_of self.old) (reception_in self.old.state) (did_by tick.0 [] result (state_of self.new)) }
         ensures moves { result.moves.items ≡ [] }
         ensures set { self.new.set ≡ self.old.set }
         ensures next_n { self.new.next_n ≡ self.old.next_n }
@@ -446,7 +447,7 @@ impl Receiver {
     /// The run ends.
     fn run_end<P: Port>(&mut self, tick: Tick, port: &mut P) -> RxActs
         requires knows { Knows (P.view port.old) self.old }
-        ensures over { Over (P.floors port.old) (P.view port.old) (P.view port.new) result.moves.items (λ calls. EndRow self.old.set (state_in self.old) (busy_in self.old.state) (record { tick = tick.0; calls = calls; act = box_meaning_of result.fc; records = result.records.items; new = state_in self.new })) }
+        ensures over { Over (P.floors port.old) (P.view port.old) (P.view port.new) result.moves.items (λ calls. EndRow self.old.set (state_of self.old) (reception_in self.old.state) (did_by tick.0 calls result (state_of self.new))) }
         ensures receiver { self.new ≡ record self.old { state = State.Idle } }
         ensures knows { Knows (P.view port.new) self.new }
         ensures kept { Kept self.old.set.path.0 0 0 (P.view port.old) (P.view port.new) (P.means port.old) (P.means port.new) }
@@ -474,7 +475,7 @@ impl Receiver {
     ) -> RxActs
         requires path { reception.writer.path.0 ≡ self.now.set.path.0 }
         requires writes { Writes (P.view port.old) reception.writer }
-        ensures over { Over (P.floors port.old) (P.view port.old) (P.view port.new) result.moves.items (λ calls. Ends self.now.set self.now.next_n self.now.next_seq (busy_of reception) how (record { tick = tick.0; calls = calls; act = box_meaning_of result.fc; records = result.records.items; new = idle self.now.next_n self.now.next_seq })) }
+        ensures over { Over (P.floors port.old) (P.view port.old) (P.view port.new) result.moves.items (λ calls. Ends self.now.set self.now.next_n self.now.next_seq (reception_of reception) how (did_by tick.0 calls result (idle self.now.next_n self.now.next_seq))) }
         ensures number { length ((P.view port.new).sessions self.now.set.path.0) ≡ length ((P.view port.old).sessions self.now.set.path.0) }
         ensures records { length result.records.items ≡ 1 }
         ensures moves { length result.moves.items ≤ 1 }

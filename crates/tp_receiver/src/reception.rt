@@ -1,7 +1,7 @@
 ghost use Rattle.std.specs.Prelude.{◌≡◌, ◌+◌, ◌%◌, ◌<◌, ◌≤◌, true, IsTrue, ◌↔◌};
+ghost use Rattle.tp_receiver.specs.Table.{awaited_since, ended, due, revoking, IsLate};
+ghost use Rattle.tp_receiver.specs.State.{reception_of};
 ghost use Rattle.tp_unit.specs.Unit.{box_meaning_of};
-ghost use Rattle.tp_receiver.specs.Receiving.{awaited_since, busy_of, ended, due, revoking};
-ghost use Rattle.tp_receiver.specs.Rows.{IsLate};
 
 use crate::RxSet;
 use gw_base::Tick;
@@ -40,7 +40,7 @@ pub(crate) enum State {
 impl Reception {
     /// The bytes that the next consecutive frame must carry: a whole frame's, or what remains.
     pub(crate) fn due(&self, a: u8) -> usize
-        ensures { result ≡ due a (busy_of self.now) }
+        ensures { result ≡ due a (reception_of self.now) }
     {
         let whole = usize::from(self.size)
             .saturating_sub(1)
@@ -61,7 +61,7 @@ impl Reception {
 
     /// Its record, where it ends so in this tick.
     pub(crate) fn ended(&self, set: &RxSet, how: SessionResult, tick: Tick) -> SessionRecord
-        ensures { result ≡ ended set.now (busy_of self.now) how tick.0 }
+        ensures { result ≡ ended set.now (reception_of self.now) how tick.0 }
     {
         SessionRecord {
             chan: set.chan,
@@ -93,7 +93,7 @@ impl Reception {
     /// Whether a consecutive frame is awaited, and its time is over.
     pub(crate) fn is_late(&self, set: &RxSet, tick: Tick) -> bool
         requires { self.now.since.0 ≤ tick.0 }
-        ensures { IsTrue result ↔ IsLate set.now (busy_of self.now) tick.0 }
+        ensures { IsTrue result ↔ IsLate set.now (reception_of self.now) tick.0 }
     {
         let timer = Timer {
             since: self.since,
@@ -107,7 +107,7 @@ impl Reception {
         requires { self.number < 16 }
         ensures writer { result.writer ≡ self.writer }
         ensures number { result.number < 16 }
-        ensures busy { busy_of result ≡ record (busy_of self) { number = (self.number + 1) % 16; since = awaited_since self.wait self.since.0 tick.0 } }
+        ensures busy { reception_of result ≡ record (reception_of self) { number = (self.number + 1) % 16; since = awaited_since self.wait self.since.0 tick.0 } }
     {
         let since = match self.wait {
             RxWait::Cf => tick,

@@ -1,7 +1,7 @@
 ghost use Rattle.std.specs.Prelude.{◌≡◌, ◌≤◌, ℕ, true, [], IfOk, length};
+ghost use Rattle.tp_receiver.specs.Port.{CanTake, IsServed};
+ghost use Rattle.tp_receiver.specs.State.{event_of};
 ghost use Rattle.hub_core.specs.Calls.{Means};
-ghost use Rattle.tp_receiver.specs.Known.{CanTake, IsServed};
-ghost use Rattle.tp_receiver.specs.Receiving.{input_of};
 ghost use Rattle.tp_receiver.specs.Set.{IsRxSet};
 ghost use Rattle.tp_receiver.specs.declared.set.RxSet.{RxSet};
 
@@ -132,7 +132,7 @@ fn refused(n: u32, len: u32, tick: u64) -> SessionRecord {
 /// What is told, as the receiver takes it.
 fn event_of(a: u8, told: Told) -> Result<RxEvent, FrameFault>
     requires { a ≤ 1 }
-    ensures { IfOk result (λ event. (set : RxSet) (means : Means) (next : ℕ) → set.a ≡ a → IsServed means next → CanTake set means next (input_of event)) }
+    ensures { IfOk result (λ event. (set : RxSet) (means : Means) (next : ℕ) → set.a ≡ a → IsServed means next → CanTake set means next (event_of event)) }
 {
     match told {
         Told::Frame(bytes) => {

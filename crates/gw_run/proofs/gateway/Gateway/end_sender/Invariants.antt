@@ -1,6 +1,6 @@
 use Rattle.std.proofs.Common.{◌≡◌, List}
+use Rattle.tp_receiver.specs.State.{RxTurn}
 use Rattle.hub_core.specs.View.{View}
-use Rattle.tp_receiver.specs.Running.{RxTurn}
 use Rattle.tp_sender.specs.Sending.{Moment}
 use Rattle.gw_run.specs.Standing.{Stands}
 use Rattle.gw_run.specs.Telling.{EndsTelling}

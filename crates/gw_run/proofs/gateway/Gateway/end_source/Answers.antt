@@ -1,15 +1,15 @@
 use Rattle.std.proofs.Common.{arith}
-use Rattle.tp_receiver.specs.Receiving.{TimerTurn, FlowControlLeft}
+use Rattle.tp_receiver.specs.State.{Timer, FcLeft}
 use Rattle.gw_run.proofs.CanTell.{can-tell}
 use Rattle.gw_run.proofs.Ticks.{source-ends, timer-stands}
 use Rattle.gw_run.proofs.gateway.Gateway.end_source.Goals as goal
 
 pub tell_receiver-requires : goal.tell_receiver-requires
-tell_receiver-requires c = can-tell c.args.self.now c.args.tick.0 c.args.tick.0 _ _ _ TimerTurn c.requires.2.stands (omega arith) tt
+tell_receiver-requires c = can-tell c.args.self.now c.args.tick.0 c.args.tick.0 _ _ _ Timer c.requires.2.stands (omega arith) tt
 
 pub leave_control-requires-clause-ready : goal.leave_control-requires-clause-ready
 leave_control-requires-clause-ready c =
-    can-tell c.tell_receiver.new.self c.args.tick.0 c.args.tick.0 _ _ _ FlowControlLeft (timer-stands c.args.self.now c.tell_receiver.new.self c.requires.0 c.requires.1 c.args.tick.0 c.requires.2 c.in_ok-tell_receiver.ensures) (omega arith) tt
+    can-tell c.tell_receiver.new.self c.args.tick.0 c.args.tick.0 _ _ _ FcLeft (timer-stands c.args.self.now c.tell_receiver.new.self c.requires.0 c.requires.1 c.args.tick.0 c.requires.2 c.in_ok-tell_receiver.ensures) (omega arith) tt
 
 pub leave_control-requires-clause-fits : goal.leave_control-requires-clause-fits
 leave_control-requires-clause-fits c = (timer-stands c.args.self.now c.tell_receiver.new.self c.requires.0 c.requires.1 c.args.tick.0 c.requires.2 c.in_ok-tell_receiver.ensures).receives.fits

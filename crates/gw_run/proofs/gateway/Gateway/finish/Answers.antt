@@ -1,11 +1,11 @@
 use Rattle.std.proofs.Common.{◌-◌, arith}
-use Rattle.tp_receiver.specs.Receiving.{RunEnds}
+use Rattle.tp_receiver.specs.State.{RunEnd}
 use Rattle.gw_run.proofs.CanTell.{can-tell}
 use Rattle.gw_run.proofs.Endings.{end-stands, finishes}
 use Rattle.gw_run.proofs.gateway.Gateway.finish.Goals as goal
 
 pub tell_receiver-requires : goal.tell_receiver-requires
-tell_receiver-requires c = let at = c.requires.at in can-tell c.args.self (at.2 - 1) c.args.last.0 _ _ _ RunEnds at.5.stands (omega (arith, at.3)) tt
+tell_receiver-requires c = let at = c.requires.at in can-tell c.args.self (at.2 - 1) c.args.last.0 _ _ _ RunEnd at.5.stands (omega (arith, at.3)) tt
 
 pub end_sender-requires-clause-at : goal.end_sender-requires-clause-at
 end_sender-requires-clause-at c = let at = c.requires.at in (_, _, _, end-stands c.args.self c.tell_receiver.new.self c.args.last.0 at.0 at.1 at.2 at.3 at.5 c.in_ok-tell_receiver.ensures)

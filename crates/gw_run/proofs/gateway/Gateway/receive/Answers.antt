@@ -1,5 +1,5 @@
 use Rattle.std.proofs.Common.{ℕ, List, length, sym, subst}
-use Rattle.tp_receiver.specs.Receiving.{Came}
+use Rattle.tp_receiver.specs.State.{Came}
 use Rattle.tp_unit.specs.Reading.{unit_of}
 use Rattle.tp_unit.specs.Unit.{Meaning}
 use Rattle.gw_run.specs.Standing.{lying}

@@ -1,5 +1,5 @@
 use Rattle.std.proofs.Common.{◌++◌, refl, ap, ◌∙◌}
-use Rattle.tp_receiver.specs.Receiving.{state_in}
+use Rattle.tp_receiver.specs.State.{state_of}
 use Rattle.tp_unit.specs.Unit.{box_meaning_of}
 use Rattle.gw_run.proofs.gateway.Gateway.tell_receiver.Goals as goal
 
@@ -9,7 +9,7 @@ returns c =
     let kept = c.step-fc.ensures.kept in
     let sizes = kept.pool.sizes in
     record {
-      move = record { tick = c.args.tick.0; calls = over.calls; act = box_meaning_of c.step-fc.result.fc; records = c.step-fc.result.records.items; new = state_in c.step-fc.new.self };
+      move = record { tick = c.args.tick.0; calls = over.calls; act = box_meaning_of c.step-fc.result.fc; records = c.step-fc.result.records.items; new = state_of c.step-fc.new.self };
       stepped = record {
         tick_is = refl;
         row = over.row;

@@ -1,9 +1,10 @@
 use Rattle.std.proofs.Common.{◌≡◌, length, arith, refl}
 use Rattle.hub_core.proofs.Done.{joining-done, next-number}
 use Rattle.hub_core.proofs.Exact.{none-idle, none-joined, next-exact, hub-rises}
-use Rattle.hub_core.proofs.Fresh.{past-end, rise-same}
+use Rattle.hub_core.proofs.Fresh.{missed-fresh, rise-same}
 use Rattle.hub_core.proofs.Growing.{by-missed, reads-joining}
 use Rattle.hub_core.proofs.plain.PlainHubPort.next.Goals as goal
+use Rattle.hub_core.specs.Plain.{hub_view}
 use Rattle.hub_core.specs.View.{grow}
 
 pub returns-in_default : goal.returns-in_default
@@ -15,7 +16,7 @@ returns-in_default c =
       by = by-missed _ _ c.args.seq _ _ refl;
       joins = tt;
       means = record { pool = record { sizes = refl; writes = refl; reads = refl; most = refl }; takes = refl; spare = omega arith };
-      fresh = past-end _ _ none;
+      fresh = missed-fresh (hub_view c.args.self.now.size c.args.self.now.place c.args.self.now.past.items c.args.self.now.changes.items c.args.self.now.refused.items c.args.self.now.cells.items) c.args.path.0 c.args.dest.0 c.args.seq none;
       rise = rise-same _;
       exact = none;
     }
@@ -40,7 +41,7 @@ pub returns-clause-exact : goal.returns-clause-exact
 returns-clause-exact c = next-exact c.args.self.now.size c.args.self.now.place c.args.self.now.past.items c.args.self.now.changes.items c.args.self.now.refused.items c.args.self.now.cells.items _ _ _ _ c.requires.acts c.requires.seq c.in-Occupied.is c.if-row.false
 
 pub returns-then-row-clause-fresh : goal.returns-then-row-clause-fresh
-returns-then-row-clause-fresh c = past-end _ _ (returns-then-row-clause-exact c)
+returns-then-row-clause-fresh c = missed-fresh (hub_view c.args.self.now.size c.args.self.now.place c.args.self.now.past.items c.args.self.now.changes.items c.args.self.now.refused.items c.args.self.now.cells.items) c.args.path.0 c.args.dest.0 c.args.seq (returns-then-row-clause-exact c)
 
 pub returns-clause-rise : goal.returns-clause-rise
 returns-clause-rise c = hub-rises _ _ _ _ _ _ _ _ c.args.self.now.kept (returns-clause-view c)

@@ -1,7 +1,7 @@
 use Rattle.std.proofs.Common.{refl}
 use Rattle.hub_core.proofs.Exact.{room-exact, room-fresh-here, hub-rises}
 use Rattle.hub_core.proofs.Growing.{same-opened, writes-asked}
-use Rattle.hub_core.proofs.Keeps.{room-bounds}
+use Rattle.hub_core.proofs.Keeps.{kept-occupied, open-asked, room-bounds}
 use Rattle.hub_core.proofs.OneView.{hub-session}
 use Rattle.hub_core.proofs.Party.{not-idle-writer, writer-of}
 use Rattle.hub_core.proofs.plain.PlainHubPort.room.Goals as goal
@@ -9,6 +9,12 @@ use Rattle.hub_core.specs.View.{grow}
 
 pub unreachable-requires : goal.unreachable-requires
 unreachable-requires c = not-idle-writer _ _ _ _ _ _ _ c.args.self.now.kept.over c.requires c.in_default.not-Occupied
+
+pub invariant_of-self-clause-kept : goal.invariant_of-self-clause-kept
+invariant_of-self-clause-kept c =
+    let writer = writer-of _ _ _ _ _ _ _ _ c.args.self.now.kept.over c.requires c.in-Occupied.is in
+    kept-occupied _ _ _ _ c.args.self.now.kept.cells_only c.args.self.now.kept.over
+    (open-asked _ _ _ c.room_left-room.result (c.args.self.now.kept.at_work _ c.in-Occupied.is) writer.says.stands c.room_left-room.ensures)
 
 pub returns-clause-view : goal.returns-clause-view
 unfolding grow

@@ -12,7 +12,7 @@ unreachable-requires c = not-idle-reader _ _ _ _ _ _ _ c.args.self.now.kept.over
 pub invariant_of-self-clause-kept : goal.invariant_of-self-clause-kept
 invariant_of-self-clause-kept c =
     let reader = reader-of _ _ _ _ _ _ _ _ c.args.self.now.kept.over c.requires c.in-Occupied.is in
-    kept-occupied _ _ _ _ c.args.self.now.kept.cells_only c.args.self.now.kept.over (open-seen _ _ _ (c.args.self.now.kept.at_work _ c.in-Occupied.is) reader.joined)
+    kept-occupied _ _ _ _ c.args.self.now.kept.cells_only c.args.self.now.kept.over (open-seen _ _ _ (c.args.self.now.kept.at_work _ c.in-Occupied.is) reader.joined reader.says.stands)
 
 pub returns-clause-view : goal.returns-clause-view
 returns-clause-view c = seen-done _ _ _ _ _ _ _ _ c.args.self.now.kept c.requires c.in-Occupied.is

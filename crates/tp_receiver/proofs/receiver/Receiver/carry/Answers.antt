@@ -1,8 +1,7 @@
 use Rattle.std.proofs.Common.{[], length, refl, ap, ◌∙◌, arith}
+use Rattle.tp_receiver.specs.Table.{gone_on, After, Ends, GoesOn, puts, NoneReadsOn, TooLittleRoom, Adds, Fills}
 use Rattle.gw_base.specs.Cell.{counted}
 use Rattle.hub_core.specs.declared.record.SessionResult.TheVariants.{NoReaders, NoRoom, Whole}
-use Rattle.tp_receiver.specs.Receiving.{gone_on}
-use Rattle.tp_receiver.specs.Rows.{After, Ends, GoesOn, puts, NoneReadsOn, TooLittleRoom, Adds, Fills}
 use Rattle.tp_receiver.proofs.Composing.{over-by, over-asked, over-put}
 use Rattle.tp_receiver.proofs.receiver.Receiver.carry.Goals as goal
 

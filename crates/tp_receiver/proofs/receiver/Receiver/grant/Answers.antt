@@ -1,6 +1,6 @@
 use Rattle.std.proofs.Common.{[], refl, ◌∙◌, arith}
+use Rattle.tp_receiver.specs.Table.{Ends, LetsGo, NoneReads, All}
 use Rattle.hub_core.specs.declared.record.SessionResult.TheVariants.{NoReaders}
-use Rattle.tp_receiver.specs.Rows.{Ends, LetsGo, NoneReads, All}
 use Rattle.tp_receiver.proofs.Composing.{over-by, over-asked}
 use Rattle.tp_receiver.proofs.receiver.Receiver.grant.Goals as goal
 

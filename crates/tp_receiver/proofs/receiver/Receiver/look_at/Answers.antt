@@ -1,5 +1,5 @@
 use Rattle.std.proofs.Common.{arith}
-use Rattle.tp_receiver.specs.Rows.{RightNumber}
+use Rattle.tp_receiver.specs.Table.{RightNumber}
 use Rattle.tp_receiver.proofs.Composing.{over-by}
 use Rattle.tp_receiver.proofs.receiver.Receiver.look_at.Goals as goal
 

@@ -1,0 +1,90 @@
+//! A line of a log that is read.
+ghost use Rattle.std.specs.Prelude.{◌≡◌, ◌≤◌, ◌<◌, ◌^◌, ◌*◌, true, false, length, Some, None, Ok, Err, MatchResult};
+ghost use Rattle.can_frame.specs.Id.{id_fits};
+ghost use Rattle.candump_line.specs.Reading.{content_at, frame_at, is_remote, line_of, named_at};
+
+use crate::data::{read_classic, read_end, read_fd};
+use crate::fault::{LineFault, LineKind};
+use crate::fields::{MOST_LINE, after, fault_at, is_blank};
+use crate::id::{read_id, read_interface};
+use crate::line::Line;
+use crate::stamp::read_stamp;
+use can_frame::{CanId, Frame};
+use gw_base::Micros;
+
+/// The frame whose data, or whose second `#`, begins here, and what stands after it.
+fn read_frame(len: usize, id: CanId, rest: &[u8]) -> Result<(Frame, &[u8]), LineFault>
+    requires short { len ≤ MOST_LINE }
+    requires id { id_fits id ≡ true }
+    ensures { MatchResult result (λ read. frame_at len id rest.now ≡ Ok (read.0, read.1.now)) (λ fault. frame_at len id rest.now ≡ Err fault) }
+{
+    match after(b'#', rest) {
+        Some(flags) => read_fd(len, id, flags),
+        None => read_classic(len, id, rest),
+    }
+}
+
+/// Whether a remote frame's mark stands here.
+fn is_remote(rest: &[u8]) -> bool
+    ensures { result ≡ is_remote rest.now }
+{
+    after(b'R', rest).is_some() || after(b'r', rest).is_some()
+}
+
+/// What stands after an identifier.
+#[tactic(auto, unfolding(crate::specs::Reading::content_at))]
+fn read_content(len: usize, at: Micros, id: CanId, rest: &[u8]) -> Result<Line, LineFault>
+    requires short { len ≤ MOST_LINE }
+    requires id { id_fits id ≡ true }
+    ensures { result ≡ content_at len at.0 (Some id) rest.now }
+{
+    let Some(rest) = after(b'#', rest) else {
+        return Err(fault_at(len, LineKind::NoHash, rest));
+    };
+    if is_remote(rest) {
+        return Ok(Line::Passed);
+    }
+    let (frame, left) = read_frame(len, id, rest)?;
+    read_end(len, left)?;
+    Ok(Line::Frame { at, frame })
+}
+
+/// What stands after the bus's own name.
+#[tactic(auto, unfolding(crate::specs::Reading::named_at, crate::specs::Reading::content_at))]
+fn read_named(len: usize, at: Micros, rest: &[u8]) -> Result<Line, LineFault>
+    requires { len ≤ MOST_LINE }
+    ensures { result ≡ named_at len at.0 rest.now }
+{
+    match read_id(len, rest)? {
+        (Some(id), rest) => read_content(len, at, id, rest),
+        (None, _) => Ok(Line::Passed),
+    }
+}
+
+/// Reads a line of the log of the bus with this name, without its line end, in candump's log format: a stamp in parentheses, the
+/// interface, and a frame: `(1436509053.850870) can0 7E0#021003` or `(1436509053.850870) can0 1FFFFFFF##19F`, perhaps with a data
+/// length code as `_9`, and with a direction, `R` or `T`.
+///
+/// The fault is the first one from the left. A line of another interface is read as far as that name alone, one of an error frame or of
+/// a remote frame as far as its mark.
+#[tactic(auto, unfolding(crate::specs::Reading::line_of))]
+pub fn read_line(line: &[u8], iface: &[u8]) -> Result<Line, LineFault>
+    ensures { result ≡ line_of iface.now line.now }
+{
+    let len = line.len();
+    if len > MOST_LINE {
+        return Err(LineFault {
+            kind: LineKind::TooLong,
+            at: MOST_LINE as u32,
+        });
+    }
+    if is_blank(line) {
+        return Ok(Line::Empty);
+    }
+    let (at, rest) = read_stamp(line)?;
+    let (name, rest) = read_interface(len, rest)?;
+    if name != iface {
+        return Ok(Line::Passed);
+    }
+    read_named(len, at, rest)
+}

@@ -1,0 +1,87 @@
+//! Configurations that are checked: accepted, or refused by their first cause.
+
+use crate::base::{
+    AS_IT_IS, CHECK, CONFIGURATION, Change, EMPTY, NOT_PLAIN, RUN, SAME_ADDRESS, changed,
+    depot_with, exit_code, results,
+};
+use gw_depot::{MemDepot, MemSink};
+use std::test::Fail;
+
+/// Commands that one configuration is handed to.
+const CHECK_ALONE: &[&[&str]] = &[CHECK];
+
+const BOTH: &[&[&str]] = &[CHECK, RUN];
+
+/// A change of the configuration, the bytes that line feeds after it fill up, commands, their exit code, and what is
+/// said.
+const CONFIGURATIONS: [(Change, usize, &[&[&str]], u8, &[u8]); 11] = [
+    (AS_IT_IS, 0, CHECK_ALONE, 0, b"accepted\n"),
+    (AS_IT_IS, 65_536, CHECK_ALONE, 0, b"accepted\n"),
+    (("", "window = 2\n"), 0, CHECK_ALONE, 0, b"accepted\n"),
+    (AS_IT_IS, 65_537, BOTH, 7, b"limit config-bytes 65537\n"),
+    (
+        (CONFIGURATION, ""),
+        0,
+        BOTH,
+        2,
+        b"config buffers: missing\n",
+    ),
+    (("[4]", "[4"), 0, BOTH, 2, b"config text: not toml\n"),
+    (
+        ("", "linger = \"x\"\n"),
+        0,
+        BOTH,
+        2,
+        b"config linger: wrong kind\n",
+    ),
+    (
+        ("name = \"can1\"", "name = \"can0\""),
+        0,
+        BOTH,
+        2,
+        b"config bus[1].name: repeated\n",
+    ),
+    (
+        ("\"can0.out\"", "\"gw.toml\""),
+        0,
+        BOTH,
+        2,
+        b"config bus[0].out: repeated\n",
+    ),
+    (
+        ("\"can1.out\"", "\"can0.log\""),
+        0,
+        BOTH,
+        2,
+        b"config bus[1].out: repeated\n",
+    ),
+    (
+        SAME_ADDRESS,
+        0,
+        BOTH,
+        2,
+        b"config: same-address channel 0 channel 2\n",
+    ),
+];
+
+#[test]
+fn a_configuration_is_accepted_or_its_cause_is_said(rt: HostRuntime) -> Result<(), Fail> {
+    for (change, len, commands, code, said) in CONFIGURATIONS {
+        let mut configuration = changed(rt.alloc(), change)?;
+        for _ in configuration.len()..len {
+            configuration.push('\n')?;
+        }
+        for words in commands {
+            let mut depot = depot_with(rt.alloc(), configuration.as_str(), [NOT_PLAIN, EMPTY])?;
+            let mut say = MemSink::new(rt.alloc());
+            assert_eq!(rt;
+                exit_code(&rt, rt.alloc(), words, &mut depot, &mut say)?,
+                code
+            );
+            assert_eq!(rt; say.bytes(), said);
+            assert_eq!(rt; depot.contents("gw.toml"), Some(configuration.as_bytes()));
+            assert_eq!(rt; results(&depot), [None, None, None]);
+        }
+    }
+    Ok(())
+}

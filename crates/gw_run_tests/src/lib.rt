@@ -1,0 +1,15 @@
+//! Tests of the top call, in a crate of their own: what no clause of `run` says.
+#![tactic(auto)]
+
+#[cfg(test)]
+mod base;
+#[cfg(test)]
+mod configurations;
+#[cfg(test)]
+mod faults;
+#[cfg(test)]
+mod names_and_timers;
+#[cfg(test)]
+mod refusals;
+#[cfg(test)]
+mod runs;

@@ -1,0 +1,338 @@
+//! Commands that are refused: by their words, their configuration, a line of a log or a limit.
+
+use crate::base::{
+    AS_IT_IS, CONFIGURATION, Change, EMPTY, NOT_PLAIN, RUN, SAME_ADDRESS, SHORT, changed,
+    depot_with, exit_code, results,
+};
+use gw_depot::MemSink;
+use std::test::Fail;
+
+/// Words that ask for no command.
+const SHAPELESS: [&[&str]; 11] = [
+    &[],
+    &["run"],
+    &["run", "gw.toml"],
+    &["run", "gw.toml", "gw.toml"],
+    &["run", "gw.toml", ".."],
+    &["run", "gw.toml", "a/b"],
+    &["run", "gw.toml", "gw.report", "more"],
+    &["check"],
+    &["check", "."],
+    &["check", "gw.toml", "gw.report"],
+    &["make", "1", "1"],
+];
+
+/// What is said of them.
+const USAGE: &[u8] =
+    b"usage: gateway run CONFIG REPORT; gateway check CONFIG; gateway make SEED SIZE\n";
+
+#[test]
+fn words_without_a_shape_ask_for_nothing(rt: HostRuntime) -> Result<(), Fail> {
+    for words in SHAPELESS {
+        let mut depot = depot_with(rt.alloc(), CONFIGURATION, [SHORT, EMPTY])?;
+        let mut say = MemSink::new(rt.alloc());
+        assert_eq!(rt;
+            exit_code(&rt, rt.alloc(), words, &mut depot, &mut say)?,
+            1,
+            "{words:?}"
+        );
+        assert_eq!(rt; say.bytes(), USAGE, "{words:?}");
+        assert_eq!(rt; results(&depot), [None, None, None], "{words:?}");
+    }
+    Ok(())
+}
+
+/// What is said of a configuration that isn't built, and of lines.
+const UNBUILT: &[u8] = b"unbuilt configuration\n";
+
+const FIRST_OF_CAN0: &[u8] = b"unbuilt log can0 line 1\n";
+
+const FIRST_OF_CAN1: &[u8] = b"unbuilt log can1 line 1\n";
+
+/// A change of the configuration, the report's name, the logs of can0 and can1, the exit code, and what is said.
+const REFUSED: [(Change, &str, [&[u8]; 2], u8, &[u8]); 29] = [
+    // A report that is a log or an output.
+    (
+        AS_IT_IS,
+        "can0.log",
+        [NOT_PLAIN, EMPTY],
+        2,
+        b"config bus[0].log: repeated\n",
+    ),
+    (
+        AS_IT_IS,
+        "can0.out",
+        [NOT_PLAIN, EMPTY],
+        2,
+        b"config bus[0].out: repeated\n",
+    ),
+    (
+        AS_IT_IS,
+        "can1.log",
+        [NOT_PLAIN, EMPTY],
+        2,
+        b"config bus[1].log: repeated\n",
+    ),
+    (
+        SAME_ADDRESS,
+        "can1.out",
+        [NOT_PLAIN, EMPTY],
+        2,
+        b"config bus[1].out: repeated\n",
+    ),
+    // Accepted configurations that aren't built.
+    (("[4]", "[8]"), "gw.report", [NOT_PLAIN, EMPTY], 9, UNBUILT),
+    (
+        ("[4]", "[4, 4]"),
+        "gw.report",
+        [NOT_PLAIN, EMPTY],
+        9,
+        UNBUILT,
+    ),
+    (
+        ("", "window = 2\n"),
+        "gw.report",
+        [NOT_PLAIN, EMPTY],
+        9,
+        UNBUILT,
+    ),
+    (
+        ("", "mode = \"threads\"\n"),
+        "gw.report",
+        [NOT_PLAIN, EMPTY],
+        9,
+        UNBUILT,
+    ),
+    (
+        ("\"can1.out\"\n", "\"can1.out\"\nbudget = 9\n"),
+        "gw.report",
+        [NOT_PLAIN, EMPTY],
+        9,
+        UNBUILT,
+    ),
+    (
+        ("rx = \"700\"\n", "rx = \"00000700\"\n"),
+        "gw.report",
+        [NOT_PLAIN, EMPTY],
+        9,
+        UNBUILT,
+    ),
+    (
+        ("tx = \"710\"\n", "tx = \"710\"\npad = true\n"),
+        "gw.report",
+        [NOT_PLAIN, EMPTY],
+        9,
+        UNBUILT,
+    ),
+    (
+        ("tx = \"708\"\n", "tx = \"708\"\nbs = 1\n"),
+        "gw.report",
+        [NOT_PLAIN, EMPTY],
+        9,
+        UNBUILT,
+    ),
+    (
+        (
+            "from = \"A\"\nto = [\"B\"]\n",
+            "from = \"B\"\nto = [\"A\"]\n",
+        ),
+        "gw.report",
+        [NOT_PLAIN, EMPTY],
+        9,
+        UNBUILT,
+    ),
+    (
+        ("to = [\"B\"]\n", "to = [\"B\"]\nthreshold = 2\n"),
+        "gw.report",
+        [NOT_PLAIN, EMPTY],
+        9,
+        UNBUILT,
+    ),
+    // First frames of more bytes than the buffer's cells carry.
+    (
+        AS_IT_IS,
+        "gw.report",
+        [b"(0000000001.000000) can0 700#101C000102030405\n", EMPTY],
+        9,
+        FIRST_OF_CAN0,
+    ),
+    (
+        AS_IT_IS,
+        "gw.report",
+        [b"(0000000001.000000) can0 700#100000001000AABB", EMPTY],
+        9,
+        FIRST_OF_CAN0,
+    ),
+    // Flow controls with another status, block size and separation time.
+    (
+        AS_IT_IS,
+        "gw.report",
+        [EMPTY, b"(0000000001.000000) can1 718#310000\n"],
+        9,
+        FIRST_OF_CAN1,
+    ),
+    (
+        AS_IT_IS,
+        "gw.report",
+        [EMPTY, b"(0000000001.000000) can1 718#300100\n"],
+        9,
+        FIRST_OF_CAN1,
+    ),
+    (
+        AS_IT_IS,
+        "gw.report",
+        [EMPTY, b"(0000000001.000000) can1 718#300001\n"],
+        9,
+        FIRST_OF_CAN1,
+    ),
+    // A line that isn't plain, after two of one tick; the first in the buses' order; one of the other bus.
+    (
+        AS_IT_IS,
+        "gw.report",
+        [
+            b"(0000000001.000000) can0 700#021122\n(0000000001.000000) can0 700#021122\n\n",
+            EMPTY,
+        ],
+        9,
+        b"unbuilt log can0 line 3\n",
+    ),
+    (
+        AS_IT_IS,
+        "gw.report",
+        [
+            b"(0000000001.000000) can0 700#021122\n(0000000001.000000) can0 700##0021122\n",
+            NOT_PLAIN,
+        ],
+        9,
+        b"unbuilt log can0 line 2\n",
+    ),
+    (
+        AS_IT_IS,
+        "gw.report",
+        [
+            EMPTY,
+            b"(0000000001.000000) can1 718#300000\n(0000000001.000000) can0 718#300000\n",
+        ],
+        9,
+        b"unbuilt log can1 line 2\n",
+    ),
+    // Two buses with one log.
+    (
+        ("can1.log", "can0.log"),
+        "gw.report",
+        [SHORT, EMPTY],
+        9,
+        FIRST_OF_CAN1,
+    ),
+    // A line that isn't plain comes before too many ticks, on the other bus too.
+    (
+        AS_IT_IS,
+        "gw.report",
+        [
+            b"(0000000001.000000) can0 700#021122\n(0000010001.000000) can0 700#021122\n",
+            NOT_PLAIN,
+        ],
+        9,
+        FIRST_OF_CAN1,
+    ),
+    (
+        AS_IT_IS,
+        "gw.report",
+        [
+            b"(0000000001.000000) can0 700#021122\n(0000010001.000000) can0 700#021122\n",
+            EMPTY,
+        ],
+        7,
+        b"limit ticks 10003001\n",
+    ),
+    (
+        AS_IT_IS,
+        "gw.report",
+        [
+            b"(0000000001.000000) can0 700#021122\n(0000009998.000000) can0 7E0#01BB\n",
+            EMPTY,
+        ],
+        7,
+        b"limit ticks 10000001\n",
+    ),
+    (
+        ("", "linger = 0\n"),
+        "gw.report",
+        [SHORT, b"(0000010001.000000) can1 718#300000\n"],
+        7,
+        b"limit ticks 10000001\n",
+    ),
+    (
+        ("", "linger = 1000000\n"),
+        "gw.report",
+        [
+            b"(0000000001.000000) can0 700#021122\n(0000009001.000000) can0 700#021122\n",
+            EMPTY,
+        ],
+        7,
+        b"limit ticks 10000001\n",
+    ),
+    (
+        ("", "period = 1\n"),
+        "gw.report",
+        [
+            b"(0000000001.000000) can0 700#021122\n(0000000011.000000) can0 700#021122\n",
+            EMPTY,
+        ],
+        7,
+        b"limit ticks 10003001\n",
+    ),
+];
+
+#[test]
+fn a_refused_run_makes_no_output(rt: HostRuntime) -> Result<(), Fail> {
+    for (change, report, logs, code, said) in REFUSED {
+        let configuration = changed(rt.alloc(), change)?;
+        let mut depot = depot_with(rt.alloc(), configuration.as_str(), logs)?;
+        let mut say = MemSink::new(rt.alloc());
+        let words = ["run", "gw.toml", report];
+        assert_eq!(rt;
+            exit_code(&rt, rt.alloc(), &words, &mut depot, &mut say)?,
+            code
+        );
+        assert_eq!(rt; say.bytes(), said);
+        assert_eq!(rt; results(&depot), [None, None, None]);
+    }
+    Ok(())
+}
+
+/// Lengths of a line of zeros: the most that a line may have, that and a carriage return, and more.
+const LONG: [u32; 4] = [512, 513, 514, 10_000];
+
+#[test]
+fn a_long_line_is_not_built(rt: HostRuntime) -> Result<(), Fail> {
+    for len in LONG {
+        let mut line = Vec::new(rt.alloc());
+        for _ in 0..len {
+            line.push(b'0')?;
+        }
+        let mut depot = depot_with(rt.alloc(), CONFIGURATION, [line.as_slice(), EMPTY])?;
+        let mut say = MemSink::new(rt.alloc());
+        assert_eq!(rt;
+            exit_code(&rt, rt.alloc(), RUN, &mut depot, &mut say)?,
+            9,
+            "{len}"
+        );
+        assert_eq!(rt; say.bytes(), FIRST_OF_CAN0, "{len}");
+    }
+    Ok(())
+}
+
+#[test]
+fn an_empty_line_comes_before_too_many_lines(rt: HostRuntime) -> Result<(), Fail> {
+    let mut log = Vec::new(rt.alloc());
+    for _ in 0..1_000_001u32 {
+        log.push(b'\n')?;
+    }
+    let mut depot = depot_with(rt.alloc(), CONFIGURATION, [log.as_slice(), EMPTY])?;
+    let mut say = MemSink::new(rt.alloc());
+    assert_eq!(rt; exit_code(&rt, rt.alloc(), RUN, &mut depot, &mut say)?, 9);
+    assert_eq!(rt; say.bytes(), FIRST_OF_CAN0);
+    assert_eq!(rt; results(&depot), [None, None, None]);
+    Ok(())
+}

@@ -1,0 +1,55 @@
+-- One vocabulary for every machine that works over a port: what it was told, what its step came to, and what its turns tell together.
+use Rattle.std.specs.Prelude.{◌≡◌, ℕ, ◌≤◌, List, [], ◌∷◌, ◌++◌}
+use Rattle.hub_core.specs.Floors.{Floors, AreFresh}
+use Rattle.hub_core.specs.Moves.{moves_in}
+use Rattle.hub_core.specs.View.{View, Event, grows}
+use Rattle.hub_core.specs.declared.record.Move.{Move}
+
+-- what a step of a machine came to: its tick, what its port did and saw by calls of C, what of A it does with its box, the records of
+-- R that it makes, and its state of S afterwards
+pub record Did (C A R S : Type 0) : Type 0 where
+  pub tick : ℕ
+  pub calls : List C
+  pub act : A
+  pub records : List R
+  pub new : S
+
+-- a turn: what of E the machine was told, and what its step came to
+pub record Turn (E C A R S : Type 0) : Type 0 where
+  pub event : E
+  pub did : Did C A R S
+
+-- lists of turns, the newest first: the state after them, the tick of the last one, all records and all calls, the oldest first
+abbrev pub state_after : {E C A R S : Type 0} → S → List (Turn E C A R S) → S
+state_after first [] = first
+state_after first (turn ∷ earlier) = turn.did.new
+
+abbrev pub now_of : {E C A R S : Type 0} → List (Turn E C A R S) → ℕ
+now_of [] = 0
+now_of (turn ∷ earlier) = turn.did.tick
+
+abbrev pub records_by : {E C A R S : Type 0} → List (Turn E C A R S) → List R
+records_by [] = []
+records_by (turn ∷ earlier) = records_by earlier ++ turn.did.records
+
+abbrev pub calls_by : {E C A R S : Type 0} → List (Turn E C A R S) → List C
+calls_by [] = []
+calls_by (turn ∷ earlier) = calls_by earlier ++ turn.did.calls
+
+-- what came with the turns' events, the oldest first, by what comes with each in its tick
+abbrev pub came_by : {E C A R S F : Type 0} → (ℕ → E → List F) → List (Turn E C A R S) → List F
+came_by came [] = []
+came_by came (turn ∷ earlier) = came_by came earlier ++ came turn.did.tick turn.event
+
+-- each turn is such a step after the earlier ones, and the ticks never fall
+abbrev pub Happened : {E C A R S : Type 0} → (List (Turn E C A R S) → Turn E C A R S → Type 0) → List (Turn E C A R S) → Type 0
+Happened Step [] = Unit {0}
+Happened Step (turn ∷ earlier) = (now_of earlier ≤ turn.did.tick) × Step earlier turn × Happened Step earlier
+
+-- a part of a step over a port: these calls made the new view of the old one, none is older than the floors, their moves are told, and the row holds of them
+pub record Over (floors : Floors) (old new : View) (moves : List Move) (Row : List Event → Type 0) : Type 0 where
+  pub calls : List Event
+  pub grown : new ≡ grows calls old
+  pub fresh : AreFresh floors old calls
+  pub moves_are : moves ≡ moves_in calls
+  pub row : Row calls

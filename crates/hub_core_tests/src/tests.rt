@@ -1,0 +1,178 @@
+ghost use Rattle.std.specs.Prelude.{◌≡◌, ◌<◌, ◌≤◌, [], true};
+ghost use Rattle.gw_base.specs.Cell.{IsCell};
+
+use hub_core::{
+    DestRecord, DestResult, End, Left, Move, OpenedAt, PlainHub, Port, Room, Seen, SessionRecord,
+    SessionResult, Take,
+};
+use gw_base::{BufNo, ChanNo, DestNo, PathNo, Tick};
+use std::test::Fail;
+
+/// Four full cells, of the bytes 1 to 28.
+const FIRST: u64 = 0x0706_0504_0302_0107;
+
+const SECOND: u64 = 0x0e0d_0c0b_0a09_0807;
+
+const THIRD: u64 = 0x1514_1312_1110_0f07;
+
+const FOURTH: u64 = 0x1c1b_1a19_1817_1607;
+
+/// What the parties of a session were told while they carried four cells through a buffer of two.
+#[derive(Clone, Copy, Debug, PartialEq, Eq)]
+struct Carried {
+    /// A second take while the buffer was taken: its word's number of changes and its free set.
+    overflow: (u32, u32),
+    /// The room at the beginning, after two puts, and after two reads.
+    rooms: [Room; 3],
+    /// The looks after each publish, the second one after the writer left.
+    looks: [Seen; 2],
+    read: [u64; 4],
+    writer_left: Left,
+    reader_left: Left,
+}
+
+/// Carries four cells of seven bytes through a session of any port whose buffer has room for two of them at a time.
+#[tactic(auto, using(hub_core::proofs::Growing::writes_kept, hub_core::proofs::Growing::reads_kept))]
+fn carry_four<P: Port>(port: &mut P, cells: (u64, u64, u64, u64)) -> Option<Carried>
+    requires takes { 1 < (P.means port.old).takes }
+    requires spare { 3 < (P.means port.old).spare }
+    requires writes { (P.means port.old).writes 0 ≡ true }
+    requires reads { (P.means port.old).reads 0 0 ≡ true }
+    requires most { 1 ≤ (P.means port.old).most }
+    requires sessions { (P.view port.old).sessions 0 ≡ [] }
+    requires readings { (P.view port.old).readings 0 0 ≡ [] }
+    requires first { IsCell cells.0 }
+    requires second { IsCell cells.1 }
+    requires third { IsCell cells.2 }
+    requires fourth { IsCell cells.3 }
+{
+    let Take::Granted { change: _, held } = port.take(2) else {
+        return None;
+    };
+    let mut writer = port.enter(held, PathNo(0), 0, 28, 1);
+    let Take::Overflow { change, free } = port.take(1) else {
+        return None;
+    };
+    let begun = port.room(&mut writer);
+    port.put(&mut writer, cells.0);
+    port.put(&mut writer, cells.1);
+    let full = port.room(&mut writer);
+    let bytes = writer.given;
+    port.publish(&mut writer, bytes);
+    let mut reader = port.next(PathNo(0), DestNo(0), 0)?;
+    let early = port.seen(&mut reader);
+    if early.cells < 2 {
+        return None;
+    }
+    let first = port.read(&mut reader);
+    let second = port.read(&mut reader);
+    let again = port.room(&mut writer);
+    if again.cells < 2 {
+        return None;
+    }
+    port.put(&mut writer, cells.2);
+    port.put(&mut writer, cells.3);
+    let more = writer.given - writer.told;
+    port.publish(&mut writer, more);
+    let writer_left = port.leave(End::Write(writer));
+    let late = port.seen(&mut reader);
+    if late.cells < 4 {
+        return None;
+    }
+    let third = port.read(&mut reader);
+    let fourth = port.read(&mut reader);
+    let reader_left = port.leave(End::Read(reader));
+    Some(Carried {
+        overflow: (change, free),
+        rooms: [begun, full, again],
+        looks: [early, late],
+        read: [first, second, third, fourth],
+        writer_left,
+        reader_left,
+    })
+}
+
+#[test]
+fn four_cells_go_through_a_buffer_of_two(rt: HostRuntime) -> Result<(), Fail> {
+    let mut hub = PlainHub::new(rt.alloc(), &[2])?;
+    let empty = Room {
+        cells: 2,
+        readers: 1,
+    };
+    let full = Room {
+        cells: 0,
+        readers: 1,
+    };
+    let half = Seen {
+        cells: 2,
+        bytes: 14,
+        writer: true,
+    };
+    let whole = Seen {
+        cells: 4,
+        bytes: 28,
+        writer: false,
+    };
+    assert_eq!(rt;
+        carry_four(&mut hub, (FIRST, SECOND, THIRD, FOURTH)),
+        Some(Carried {
+            overflow: (1, 0),
+            rooms: [empty, full, empty],
+            looks: [half, whole],
+            read: [FIRST, SECOND, THIRD, FOURTH],
+            writer_left: Left::Others,
+            reader_left: Left::Last {
+                change: 2,
+                buf: BufNo(0)
+            },
+        })
+    );
+    Ok(())
+}
+
+#[test]
+fn records_name_what_came_of_a_session(rt: HostRuntime) -> Result<(), Fail> {
+    let taken = Move {
+        change: 1,
+        took: true,
+        buf: BufNo(0),
+    };
+    let session = SessionRecord {
+        chan: ChanNo(3),
+        n: 5,
+        len: 28,
+        begin: Tick(7),
+        bytes: 14,
+        end: Tick(9),
+        opened: Some(OpenedAt {
+            seq: 4,
+            buf: taken.buf,
+            change: taken.change,
+        }),
+        result: SessionResult::NoReaders,
+    };
+    let dest = DestRecord {
+        path: PathNo(2),
+        dest: DestNo(1),
+        seq: 4,
+        begin: session.begin,
+        sent: session.bytes,
+        end: session.end,
+        result: DestResult::FcOverflow,
+    };
+    assert_eq!(rt;
+        session.opened.map(|at| (at.seq, at.buf, at.change)),
+        Some((dest.seq, BufNo(0), 1))
+    );
+    assert_eq!(rt; (session.chan, session.n, session.len), (ChanNo(3), 5, 28));
+    assert_eq!(rt;
+        (dest.path, dest.dest, dest.begin, dest.sent, dest.end),
+        (PathNo(2), DestNo(1), Tick(7), 14, Tick(9))
+    );
+    assert!(rt;
+        taken.took
+            && session.result == SessionResult::NoReaders
+            && dest.result == DestResult::FcOverflow
+    );
+    Ok(())
+}

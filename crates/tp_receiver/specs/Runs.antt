@@ -1,0 +1,42 @@
+-- A run of a receiver: its turns, the newest first, and what came with them.
+use Rattle.std.specs.Prelude.{ℕ, ◌==◌, ◌&&◌, if◌then◌else◌, List, [], ◌∷◌}
+use Rattle.std.specs.List.{flat_map}
+use Rattle.hub_core.specs.Turns.{Happened, calls_by, state_after}
+use Rattle.hub_core.specs.View.{Event, Took, Refused, Entered, Asked, Put, Published, Joining, Missed, Saw, Read, Closed, Parted}
+use Rattle.tp_attempts.specs.Seen.{Seen}
+use Rattle.tp_receiver.specs.declared.set.RxSet.{RxSet}
+use Rattle.tp_receiver.specs.State.{RxEvent, RxTurn, Came, Timer, FcLeft, RunEnd, rx_new}
+use Rattle.tp_receiver.specs.Table.{RxStep}
+
+-- a receiver's turns, from the first one on
+abbrev pub HasReceived : RxSet → List RxTurn → Type 0
+HasReceived set turns = Happened (λ earlier turn. RxStep set (state_after rx_new earlier) turn.event turn.did) turns
+
+-- the frame that came, with its tick
+abbrev pub frames_in : ℕ → RxEvent → List Seen
+frames_in tick (Came size meaning) = record { at = tick; size = size; meaning = meaning } ∷ []
+frames_in tick Timer = []
+frames_in tick FcLeft = []
+frames_in tick RunEnd = []
+
+-- the cell that a call put into the session of that path and number
+abbrev pub cell_in : (path seq : ℕ) → Event → List ℕ
+cell_in path seq (Put where_path where_seq cell) = if where_path == path && where_seq == seq then cell ∷ [] else []
+cell_in path seq (Took number buf size need) = []
+cell_in path seq (Refused number free need) = []
+cell_in path seq (Entered where_path where_seq buf number size len readers) = []
+cell_in path seq (Asked where_path where_seq cells readers) = []
+cell_in path seq (Published where_path where_seq bytes) = []
+cell_in path seq (Joining where_path dest where_seq buf len) = []
+cell_in path seq (Missed where_path dest where_seq) = []
+cell_in path seq (Saw where_path dest where_seq cells bytes writer) = []
+cell_in path seq (Read where_path dest where_seq cell) = []
+cell_in path seq (Closed where_path where_seq freed) = []
+cell_in path seq (Parted where_path dest where_seq freed) = []
+
+-- all cells that were put into a session, in order
+abbrev pub cells_in : (path seq : ℕ) → List Event → List ℕ
+cells_in path seq calls = flat_map (cell_in path seq) calls
+
+abbrev pub put_in : RxSet → List RxTurn → ℕ → List ℕ
+put_in set turns seq = cells_in set.path.0 seq (calls_by turns)

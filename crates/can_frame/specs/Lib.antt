@@ -1,3 +1,4 @@
 pub mod Id
 pub mod Length
 pub mod Frame
+pub mod Priority

@@ -4,7 +4,9 @@
 mod frame;
 mod id;
 mod length;
+mod priority;
 
 pub use frame::{Frame, FrameFault};
 pub use id::{CanId, MAX_EXT, MAX_STD};
 pub use length::{MAX_CLASSIC, MAX_FD, fill_up};
+pub use priority::{Priority, priority_law};

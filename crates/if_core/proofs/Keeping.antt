@@ -76,9 +76,9 @@ caused-more : (d : ℕ) (keep : Bool) (p : ℕ) (l : Lane) (x : Offering) → Is
     (k : ℕ) (o : Offering) → slice_get (l.offers ++ x ∷ []) k ≡ Some o → IsCaused d keep (length (queued (take k (l.offers ++ x ∷ [])))) o.answer
 caused-more d keep p l x q cause k o is = ⊎_elim
     (λ old. let inside = slice_get_within l.offers k o old in
-      subst (λ (os : List Offering). IsCaused d keep (length (queued os)) o.answer) (sym (take-append-le k l.offers (x ∷ []) (omega (arith, inside)))) (q.caused k o old))
+    subst (λ (os : List Offering). IsCaused d keep (length (queued os)) o.answer) (sym (take-append-le k l.offers (x ∷ []) (omega (arith, inside)))) (q.caused k o old))
     (λ new. let all : take k (l.offers ++ x ∷ []) ≡ l.offers = take-append-le k l.offers (x ∷ []) (omega (arith, new.0)) ∙ take_all k l.offers (omega (arith, new.0)) in
-      subst (λ (os : List Offering). IsCaused d keep (length (queued os)) o.answer) (sym all) (subst (λ (o : Offering). IsCaused d keep (length (queued l.offers)) o.answer) new.1 cause))
+    subst (λ (os : List Offering). IsCaused d keep (length (queued os)) o.answer) (sym all) (subst (λ (o : Offering). IsCaused d keep (length (queued l.offers)) o.answer) new.1 cause))
     (at_push l.offers x k o is)
 
 pub starts : (d : ℕ) (keep : Bool) → IsQueue d keep 0 empty_lane
@@ -148,7 +148,7 @@ takes d keep p unit l q more is =
       rising = λ i j s t less first second. ⊎_elim
           (λ old. let inside = slice_get_within l.takes j t old in ⊎_elim (λ was. q.rising i j s t less was old) (λ last. absurd (omega (arith, last.0, inside, less))) (at_push l.takes x i s first))
           (λ new. let at : p ≡ t.position = ap (λ (y : Taking). y.position) new.1 in
-            ⊎_elim (λ was. before s i was at) (λ last. absurd (omega (arith, last.0, new.0, less))) (at_push l.takes x i s first))
+          ⊎_elim (λ was. before s i was at) (λ last. absurd (omega (arith, last.0, new.0, less))) (at_push l.takes x i s first))
           (at_push l.takes x j t second);
     }
   where

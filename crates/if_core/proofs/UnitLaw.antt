@@ -24,10 +24,10 @@ within-join : (from mid end k : ℕ) → from ≤ mid → mid ≤ end → within
 within-join from mid end k a b = dite (dec_lt k from)
     (λ low. let x = within-before from mid k low in let y = within-before mid end k (omega (arith, low, a)) in let z = within-before from end k low in omega (arith, x, y, z))
     (λ not. dite (dec_lt k mid)
-      (λ l. let x = within-in from mid k (omega (arith, not)) l in let y = within-before mid end k l in let z = within-in from end k (omega (arith, not)) (omega (arith, l, b)) in omega (arith, x, y, z))
-      (λ m. let x = within-after from mid k (omega (arith, not)) (omega (arith, m)) in dite (dec_lt k end)
-        (λ l. let y = within-in mid end k (omega (arith, m)) l in let z = within-in from end k (omega (arith, not)) l in omega (arith, x, y, z))
-        (λ l. let y = within-after mid end k (omega (arith, m)) (omega (arith, l)) in let z = within-after from end k (omega (arith, not)) (omega (arith, l)) in omega (arith, x, y, z))))
+    (λ l. let x = within-in from mid k (omega (arith, not)) l in let y = within-before mid end k l in let z = within-in from end k (omega (arith, not)) (omega (arith, l, b)) in omega (arith, x, y, z))
+    (λ m. let x = within-after from mid k (omega (arith, not)) (omega (arith, m)) in dite (dec_lt k end)
+    (λ l. let y = within-in mid end k (omega (arith, m)) l in let z = within-in from end k (omega (arith, not)) l in omega (arith, x, y, z))
+    (λ l. let y = within-after mid end k (omega (arith, m)) (omega (arith, l)) in let z = within-after from end k (omega (arith, not)) (omega (arith, l)) in omega (arith, x, y, z))))
 
 within-one : (a k : ℕ) → a ≡ k → within a (a + 1) k ≡ 1
 within-one a k e = within-in a (a + 1) k (omega (arith, e)) (omega (arith, e))
@@ -230,10 +230,10 @@ module _ (d : ℕ) (keep : Bool) (p : ℕ) (l : Lane) (q : IsQueue d keep p l) w
       one_of : within t.unit.number (t.unit.number + 1) u.number ≡ within t.position (t.position + 1) j
       one_of = dite (ℕ_discrete t.position j)
           (λ e. let same : t.unit ≡ u = same_of (sym here ∙ ap (λ (i : ℕ). slice_get us i) e ∙ is) in
-            within-one t.unit.number u.number (ap (λ (y : UnitOf). y.number) same) ∙ sym (within-one t.position j e))
+          within-one t.unit.number u.number (ap (λ (y : UnitOf). y.number) same) ∙ sym (within-one t.position j e))
           (λ ne. let a = within-other t.position j ne in dite (dec_lt t.position j)
-            (λ less. let r = queued-rise 0 l.offers numbered t.position j t.unit u less here is in within-other t.unit.number u.number (λ e. omega (arith, e, r)) ∙ sym a)
-            (λ more. let r = queued-rise 0 l.offers numbered j t.position u t.unit (omega (arith, more, ne)) is here in within-other t.unit.number u.number (λ e. omega (arith, e, r)) ∙ sym a))
+          (λ less. let r = queued-rise 0 l.offers numbered t.position j t.unit u less here is in within-other t.unit.number u.number (λ e. omega (arith, e, r)) ∙ sym a)
+          (λ more. let r = queued-rise 0 l.offers numbered j t.position u t.unit (omega (arith, more, ne)) is here in within-other t.unit.number u.number (λ e. omega (arith, e, r)) ∙ sym a))
 
   flushed_number : (j : ℕ) (u : UnitOf) → slice_get us j ≡ Some u → flushed l.offers u.number ≡ flushed l.offers j
   flushed_number j u is = go keep refl
@@ -248,18 +248,18 @@ module _ (d : ℕ) (keep : Bool) (p : ℕ) (l : Lane) (q : IsQueue d keep p l) w
       let in_range = within-in 0 (0 + length l.offers) k (omega arith) (omega (arith, h)) in
       let cut : times us k ≡ times (take p us) k + times (drop p us) k = sym (ap (λ (xs : List UnitOf). times xs k) (take-append-drop p us)) ∙ times-append (take p us) (drop p us) k in
       dite (dec_lt 0 (times (take p us) k))
-        (λ some. let r = times-found (take p us) k some in
-          let at = at_take us p r.0 r.1 r.2 in
-          let t : times (taken_units l.takes) k ≡ taken l.takes r.0 = ap (λ (n : ℕ). times (taken_units l.takes) n) (sym r.3) ∙ taken_number r.0 r.1 at.0 l.takes q.units in
-          let f : flushed l.offers k ≡ flushed l.offers r.0 = ap (λ (n : ℕ). flushed l.offers n) (sym r.3) ∙ flushed_number r.0 r.1 at.0 in
-          let one = q.gone r.0 at.1 in
-          omega (arith, whole, in_range, cut, t, f, one, some))
-        (λ none. let t = no_take k none in let f = no_flush k none in omega (arith, whole, in_range, cut, none, t, f))
+      (λ some. let r = times-found (take p us) k some in
+      let at = at_take us p r.0 r.1 r.2 in
+      let t : times (taken_units l.takes) k ≡ taken l.takes r.0 = ap (λ (n : ℕ). times (taken_units l.takes) n) (sym r.3) ∙ taken_number r.0 r.1 at.0 l.takes q.units in
+      let f : flushed l.offers k ≡ flushed l.offers r.0 = ap (λ (n : ℕ). flushed l.offers n) (sym r.3) ∙ flushed_number r.0 r.1 at.0 in
+      let one = q.gone r.0 at.1 in
+      omega (arith, whole, in_range, cut, t, f, one, some))
+      (λ none. let t = no_take k none in let f = no_flush k none in omega (arith, whole, in_range, cut, none, t, f))
     where
       no_take : (k : ℕ) → (0 < times (take p us) k → ⊥) → times (taken_units l.takes) k ≡ 0
       no_take k none = dite (dec_lt 0 (times (taken_units l.takes) k))
           (λ some. let r = taking-found l.takes k some in
-            absurd (none (times-at (take p us) r.1.position r.1.unit k (in_take us p r.1.position r.1.unit (q.units r.0 r.1 r.2) (taken_below r.0 r.1 r.2)) r.3)))
+          absurd (none (times-at (take p us) r.1.position r.1.unit k (in_take us p r.1.position r.1.unit (q.units r.0 r.1 r.2) (taken_below r.0 r.1 r.2)) r.3)))
           (λ no. omega (arith, no))
 
       no_flush_by : (k : ℕ) → (0 < times (take p us) k → ⊥) → (b : Bool) → keep ≡ b → 0 < flushed l.offers k → ⊥
@@ -281,21 +281,21 @@ module _ (d : ℕ) (keep : Bool) (p : ℕ) (l : Lane) (q : IsQueue d keep p l) w
           let inside = slice_get_within l.offers m _ is in
           let n = count_at c.0 m (omega (arith, inside)) in
           dite (dec_lt k from)
-            (λ low. let z = within-before from (to + 1) k low in absurd (omega (arith, z, some)))
-            (λ at. dite (dec_lt k (to + 1))
-              (λ under. record {
-                by = m;
-                after = omega (arith, under, c.2, n);
-                near = omega (arith, c.3, n, at);
-                full = omega (arith, c.4, n);
-                flushes = c.0;
-                unit = u;
-                from = from;
-                to = to;
-                there = is;
-                among = (omega (arith, at), omega (arith, under));
-              })
-              (λ high. let z = within-after from (to + 1) k (omega (arith, at)) (omega (arith, high)) in absurd (omega (arith, z, some))))
+          (λ low. let z = within-before from (to + 1) k low in absurd (omega (arith, z, some)))
+          (λ at. dite (dec_lt k (to + 1))
+          (λ under. record {
+            by = m;
+            after = omega (arith, under, c.2, n);
+            near = omega (arith, c.3, n, at);
+            full = omega (arith, c.4, n);
+            flushes = c.0;
+            unit = u;
+            from = from;
+            to = to;
+            there = is;
+            among = (omega (arith, at), omega (arith, under));
+          })
+          (λ high. let z = within-after from (to + 1) k (omega (arith, at)) (omega (arith, high)) in absurd (omega (arith, z, some))))
 
   refused_for : (k : ℕ) (u : UnitOf) (count at : ℕ) → slice_get l.offers k ≡ Some (record { unit = u; answer = Refused count at }) → IsRefused d keep l k
   refused_for k u count at is = let c = q.caused k (record { unit = u; answer = Refused count at }) is in record { keeps = c.0; full = omega (arith, c.2) }

@@ -85,7 +85,7 @@ position_after (Refused seen at) position = position
 abbrev pub IsExact : Means → View → (old new : Floors) → Event → Type 0
 IsExact means view old new (Offered path unit answer) =
     IsOfferExact (old.position path) (means.depth path) (length (queued (view path).offers)) answer
-      × (new.position path ≡ position_after answer (old.position path)) × (new.gone path ≡ new.position path)
+    × (new.position path ≡ position_after answer (old.position path)) × (new.gone path ≡ new.position path)
 IsExact means view old new (Took path position unit) =
     (position ≡ old.position path) × (new.position path ≡ position + 1) × (new.gone path ≡ new.position path)
 IsExact means view old new (Missed path) =

@@ -7,10 +7,14 @@ mod history;
 mod lanes;
 mod plain;
 mod queue;
+mod record;
+#[cfg(test)]
+mod tests;
 mod unit;
 
 pub use fates::fates_law;
 pub use history::{Offering, Taking};
 pub use lanes::{Lanes, Offer};
 pub use plain::PlainLanes;
+pub use record::{IfKind, IfRecord};
 pub use unit::IfUnit;

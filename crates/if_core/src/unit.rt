@@ -1,11 +1,8 @@
 ghost use Rattle.std.specs.Prelude.{◌≡◌};
 
 use arrayvec::ArrayVec;
-use can_frame::Frame;
+use can_frame::{Frame, MAX_FD};
 use std::marker::Model;
-
-/// The most data bytes of a unit: those of an FD frame.
-const MAX_BYTES: usize = 64;
 
 /// What a frame carries over an interface path: its kind and its data, without its identifier. Its number counts the
 /// units that were offered to the path's queue before it.
@@ -15,7 +12,7 @@ const MAX_BYTES: usize = 64;
 pub struct IfUnit {
     number: u64,
     fd: bool,
-    bytes: ArrayVec<u8, MAX_BYTES>,
+    bytes: ArrayVec<u8, MAX_FD>,
 }
 
 impl Model for IfUnit {

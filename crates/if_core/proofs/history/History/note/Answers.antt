@@ -7,8 +7,7 @@ use Rattle.if_core.proofs.history.History.note.Goals as goal
 pub compare_exchange_with-requires : goal.compare_exchange_with-requires
 compare_exchange_with-requires c =
     let before = lane_of c.args.self.now.seat.me.0 in
-    let after = done_to c.args.deed.now before in
-    (
+    let after = done_to c.args.deed.now before in (
       search rules,
       search rules,
       λ table holds there found small. (record { offers = after.offers; takes = after.takes }, keeps, tt, tt, λ deed is. let same : c.args.deed.now ≡ deed = cc in ap (λ (d : Deed). done_to d before) same),

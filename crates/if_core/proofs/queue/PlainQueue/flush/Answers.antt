@@ -25,5 +25,5 @@ invariant_of-self c =
           ∙ sym (drop-to_push (queued old.offers) q.count unit q.counted) ∙ ap (λ (us : List UnitOf). drop q.count us) (sym more);
       law = subst (IsQueue q.depth q.keep q.count) (sym told)
           (queues q.depth q.keep q.position q.count unit answer old q.law c.requires.number refl (λ j. ap (λ (end : ℕ). within q.position end j) last) (omega (arith, c.requires.full)) (omega (arith, q.counted)) (omega (arith, q.counted, q.sized.0))
-            (c.requires.keep, omega (arith, c.requires.full, q.sized.0), last ∙ q.counted, omega (arith, c.requires.full, q.counted), omega (arith, c.requires.full, q.counted)));
+          (c.requires.keep, omega (arith, c.requires.full, q.sized.0), last ∙ q.counted, omega (arith, c.requires.full, q.counted), omega (arith, c.requires.full, q.counted)));
     }

@@ -173,6 +173,9 @@ leads groups (step ∷ steps) h last so led = elim led [
   | inr stayed ↦ leads groups steps h last so stayed.1
 ]
 
+pub lawful-of : (groups : List (List ℕ)) (steps : List Step) (h : HubState) → Leads groups opening steps h → Lawful groups h
+lawful-of groups steps h led = leads groups steps opening h (begins groups) led
+
 -- what is kept is what the law says
 joint : (groups : List (List ℕ)) (h : HubState) → Lawful groups h → AreJoint groups h
 joint groups h so = record {
@@ -200,4 +203,4 @@ joint groups h so = record {
 }
 
 pub core : CoreLaw
-core groups steps h led = joint groups h (leads groups steps opening h (begins groups) led)
+core groups steps h led = joint groups h (lawful-of groups steps h led)

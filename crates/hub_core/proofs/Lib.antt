@@ -13,10 +13,12 @@ mod Owning
 mod Party
 mod Places
 mod Streamed
+mod Sure
 mod Streams
 pub mod Beside
 pub mod Fresh
 pub mod Growing
 pub mod Turns
+pub mod Led
 pub mod Numbered
 pub mod Whole

@@ -132,6 +132,10 @@ abbrev pub Leads : List (List ℕ) → HubState → List Step → HubState → T
 Leads groups h [] last = last ≡ h
 Leads groups h (step ∷ steps) last = (May groups h step × Leads groups (after step h) steps last) ⊎ ((May groups h step → ⊥) × Leads groups h steps last)
 
+-- it can't be that no list of steps leads to the state: so much a hub may keep of itself, since it is a proposition
+abbrev pub IsLed : List (List ℕ) → HubState → Type 0
+IsLed groups h = ((steps : List Step) → Leads groups opening steps h → ⊥) → ⊥
+
 -- a group's changes have the numbers from 1 on, each once, and are lawful; each of its overflows is one
 pub record IsGroupJournal (sizes : List ℕ) (count free : ℕ) (changes : List Change) (refused : List Refusal) : Type 0 where
   pub count_is : count ≡ length changes
@@ -198,6 +202,11 @@ pub record AreJoint (groups : List (List ℕ)) (h : HubState) : Type 0 where
 -- after every list of steps, by any parties in any order, over any groups of buffers, paths and destinations
 abbrev pub CoreLaw : Type 0
 CoreLaw = (groups : List (List ℕ)) (steps : List Step) (h : HubState) → Leads groups opening steps h → AreJoint groups h
+
+-- a hub that keeps so much of itself has a joint view
+abbrev pub LedLaw : Type 0
+LedLaw = (sizes : List ℕ) (h : HubState) → IsLed (sizes ∷ []) h → AreInOrder h.view.changes → IsQuiet (sizes ∷ []) h.view →
+    Joint sizes (length h.view.changes) (replay sizes h.view.changes (length h.view.changes)) h.view
 
 -- with one group, and where no buffer waits for its free, the view of all ports is joint in the words of a port
 abbrev pub OneGroupLaw : Type 0

@@ -1,4 +1,4 @@
-ghost use Rattle.hub_core.specs.Core.{CoreLaw, OneGroupLaw};
+ghost use Rattle.hub_core.specs.Core.{CoreLaw, LedLaw, OneGroupLaw};
 ghost use Rattle.hub_core.specs.Parts.{AgainLaw, JoinLaw, MergingLaw};
 
 /// After every list of steps, by any parties in any order, over any groups of buffers, paths and destinations, the views
@@ -12,6 +12,13 @@ pub fn core_law()
 #[tactic(auto, using(crate::proofs::OneGroup::law))]
 pub fn one_group_law()
     ensures { OneGroupLaw }
+{}
+
+/// A hub that keeps of itself that it can't be that no list of steps leads to its state has a joint view, where no buffer
+/// waits for its free.
+#[tactic(auto, using(crate::proofs::Led::led))]
+pub fn led_law()
+    ensures { LedLaw }
 {}
 
 /// Views that were divided among parts and are joined again are what one view would be that had all events, one part's

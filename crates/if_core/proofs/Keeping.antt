@@ -1,5 +1,5 @@
 -- Each call of one thread keeps the law of a queue.
-use Rattle.std.proofs.Common.{◌≡◌, ℕ, ◌+◌, ◌-◌, ◌<◌, ◌≤◌, ◌⊎◌, inl, inr, ⊎_elim, Bool, true, false, List, [], ◌∷◌, ◌++◌, length, take, drop, Some, None, Option, zero, suc, sym, refl, ap, ◌∙◌, subst, arith, length-append, append-nil, append_assoc, lt-ltb, le-ltb}
+use Rattle.std.proofs.Common.{◌≡◌, ℕ, ◌+◌, ◌<◌, ◌≤◌, ◌⊎◌, inl, inr, ⊎_elim, Bool, true, List, [], ◌∷◌, ◌++◌, length, take, drop, Some, None, zero, suc, sym, refl, ap, ◌∙◌, subst, arith, length-append, append-nil, append_assoc, lt-ltb, le-ltb}
 use Rattle.std.specs.Prelude.{slice_get, nat_lt, if◌then◌else◌}
 use Rattle.std.proofs.lemmas.List.{take-append-le, take_all, drop-append-le, drop_at}
 use Rattle.std.proofs.lemmas.Option.{slice_get_within}

@@ -1,10 +1,9 @@
 -- Queues with which nothing was done.
-use Rattle.std.proofs.Common.{◌≡◌, ℕ, ◌+◌, ◌<◌, ◌≤◌, ⊎_elim, Bool, true, false, List, [], ◌∷◌, ◌++◌, length, Some, None, Option, zero, suc, sym, refl, ap, ◌∙◌, subst, arith, length-append}
+use Rattle.std.proofs.Common.{◌≡◌, ℕ, ◌<◌, ⊎_elim, Bool, true, false, List, [], ◌∷◌, ◌++◌, length, Some, None, Option, zero, suc, sym, refl, ap, ◌∙◌, subst, arith}
 use Rattle.std.specs.Prelude.{slice_get}
-use Rattle.std.proofs.lemmas.Option.{slice_get_within, slice_get_past}
+use Rattle.std.proofs.lemmas.Option.{slice_get_within}
 use Rattle.if_core.specs.Alone.{if_there, by_path, past_of, IsNew, EachIsNew, AreNew, view_of, means_of, if_given, plain_means}
-use Rattle.if_core.specs.Calls.{Means}
-use Rattle.if_core.specs.Lane.{Lane, empty_lane}
+use Rattle.if_core.specs.Lane.{empty_lane}
 use Rattle.if_core.specs.declared.queue.PlainQueue.{PlainQueue}
 use Rattle.if_core.proofs.Keeping.{at_push}
 

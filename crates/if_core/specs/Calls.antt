@@ -1,6 +1,6 @@
 -- The words of the contract of lanes: what a port may do, what a call did, how old a look may be, and what an answer
 -- says where the port is the whole of a queue.
-use Rattle.std.specs.Prelude.{◌≡◌, ℕ, ◌+◌, ◌<◌, ◌≤◌, ◌==◌, if◌then◌else◌, Bool, true, length, Option, Some, None}
+use Rattle.std.specs.Prelude.{◌≡◌, ℕ, ◌+◌, ◌<◌, ◌≤◌, ◌==◌, if◌then◌else◌, Bool, length, Option, Some, None}
 use Rattle.if_core.specs.Unit.{UnitOf}
 use Rattle.if_core.specs.Lane.{Lane, queued, offered, took, IsQueue}
 use Rattle.if_core.specs.declared.lanes.Offer.{Offer}

@@ -1,9 +1,8 @@
 -- What becomes of each unit that is offered to a queue.
 use Rattle.std.specs.Prelude.{◌≡◌, ℕ, ◌+◌, ◌<◌, ◌≤◌, Bool, true, false, List, [], ◌∷◌, length, take, drop, map, slice_get, Some}
-use Rattle.if_core.specs.Lane.{Lane, queued, refused, within, flushed, IsQueue}
+use Rattle.if_core.specs.Lane.{Lane, queued, refused, within, flushed}
 use Rattle.if_core.specs.Unit.{UnitOf}
 use Rattle.if_core.specs.declared.lanes.Offer.TheVariants.{Flushed, Refused}
-use Rattle.if_core.specs.declared.history.Offering.{Offering}
 use Rattle.if_core.specs.declared.history.Taking.{Taking}
 
 -- how often a number is among units

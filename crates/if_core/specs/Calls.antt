@@ -57,7 +57,8 @@ pub record Rise (old new : Floors) : Type 0 where
 
 -- what the answer to an offer says of the path's queue
 abbrev pub Answers : Means → View → (path : ℕ) → Offer → Type 0
-Answers means view path answer = IsCaused (means.depth path) (means.keep path) (length (queued (view path).offers)) answer
+Answers means view path answer =
+    IsCaused (means.depth path) (means.keep path) (length (queued (view path).offers)) answer
 
 -- an answer where so many units were queued, and the floor of the position. What is flushed or refused for was a whole
 -- depth of units, of which none is known to be gone

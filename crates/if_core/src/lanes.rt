@@ -43,7 +43,8 @@ pub trait Lanes {
         ensures fresh { IsFresh (means self.old) (view self.old) (floors self.old) (floors self.new)
             (Offered path.0 unit.now result) }
         ensures exact { (means self.old).whole path.0 ≡ true →
-            IsExact (means self.old) (view self.old) (floors self.old) (floors self.new) (Offered path.0 unit.now result) }
+            IsExact (means self.old) (view self.old) (floors self.old) (floors self.new)
+            (Offered path.0 unit.now result) }
         ensures rise { Rise (floors self.old) (floors self.new) };
 
     /// Takes the path's next unit, with its position. `None` where the queue is empty, and also where another end

@@ -1,1 +1,1 @@
-pub mod Priorities
+mod Priorities

@@ -28,4 +28,6 @@ IsLower a b next = (a < b) ⊎ ((a ≡ b) × next)
 
 -- by the first 11 bits, then by the format, then by the other 18 bits
 abbrev pub ComesBefore : (first second : CanId) → Type 0
-ComesBefore first second = IsLower (base_of first) (base_of second) (IsLower (format_of first) (format_of second) (rest_of first < rest_of second))
+ComesBefore first second =
+    IsLower (base_of first) (base_of second)
+      (IsLower (format_of first) (format_of second) (rest_of first < rest_of second))

@@ -1,10 +1,11 @@
 -- Each call of one thread keeps the law of a queue.
-use Rattle.std.proofs.Common.{◌≡◌, ℕ, ◌+◌, ◌-◌, ◌<◌, ◌≤◌, ◌⊎◌, inl, inr, ⊎_elim, Bool, true, false, List, [], ◌∷◌, ◌++◌, length, take, drop, Some, None, Option, zero, suc, sym, refl, ap, ◌∙◌, subst, arith, length-append, append-nil, append_assoc, lt-ltb, le-ltb}
+use Rattle.std.proofs.Common.{◌≡◌, ℕ, ◌+◌, ◌<◌, ◌≤◌, ⊎_elim, Bool, true, List, [], ◌∷◌, ◌++◌, length, take, Some, zero, suc, sym, refl, ap, ◌∙◌, subst, arith, length-append, append-nil, append_assoc, lt-ltb, le-ltb}
 use Rattle.std.specs.Prelude.{slice_get, nat_lt, if◌then◌else◌}
-use Rattle.std.proofs.lemmas.List.{take-append-le, take_all, drop-append-le, drop_at}
+use Rattle.std.proofs.lemmas.List.{take-append-le, take_all}
 use Rattle.std.proofs.lemmas.Option.{slice_get_within}
 use mathlib.Core.Logic.{dite}
 use native.Mathlib.Decide.{dec_lt, ℕ_discrete}
+use Rattle.if_core.proofs.Lists.{none_some, at_push, at_front}
 use Rattle.if_core.specs.Lane.{Lane, queued, queued_by, within, flushed, flushed_by, taken, IsCaused, IsQueue, offered, took, empty_lane}
 use Rattle.if_core.specs.Unit.{UnitOf}
 use Rattle.if_core.specs.declared.lanes.Offer.{Offer}
@@ -25,23 +26,6 @@ within-after from end j h l = ap (λ (b : Bool). if b then 0 else (if nat_lt j e
 
 -- lists that grow at their end
 
-pub at_push : {A : Type 0} → (xs : List A) (x : A) (k : ℕ) (y : A) → slice_get (xs ++ x ∷ []) k ≡ Some y → (slice_get xs k ≡ Some y) ⊎ ((k ≡ length xs) × (x ≡ y))
-at_push [] x zero y e = let same : x ≡ y = cc in inr (refl, same)
-at_push [] x (suc k) y e = absurd (none_some e)
-  where
-    none_some : {A : Type 0} {y : A} → None ≡ Some y → ⊥
-    none_some e = cc
-at_push (z ∷ xs) x zero y e = inl e
-at_push (z ∷ xs) x (suc k) y e = ⊎_elim (λ old. inl old) (λ new. inr (ap suc new.0, new.1)) (at_push xs x k y e)
-
-pub at_front : {A : Type 0} → (xs ys : List A) (k : ℕ) (y : A) → slice_get xs k ≡ Some y → slice_get (xs ++ ys) k ≡ Some y
-at_front [] ys k y e = absurd (none_some e)
-  where
-    none_some : {A : Type 0} {y : A} → None ≡ Some y → ⊥
-    none_some e = cc
-at_front (x ∷ xs) ys zero y e = e
-at_front (x ∷ xs) ys (suc k) y e = at_front xs ys k y e
-
 pub queued-push : (offers : List Offering) (o : Offering) → queued (offers ++ o ∷ []) ≡ queued offers ++ queued_by o.unit o.answer
 queued-push [] o = append-nil (queued_by o.unit o.answer)
 queued-push (x ∷ offers) o = ap (λ (us : List UnitOf). queued_by x.unit x.answer ++ us) (queued-push offers o) ∙ sym (append_assoc (queued_by x.unit x.answer) (queued offers) (queued_by o.unit o.answer))
@@ -57,9 +41,6 @@ taken-push (x ∷ takes) t j = let h = taken-push takes t j in omega (arith, h)
 -- what was taken is counted
 pub taken-at : (takes : List Taking) (i : ℕ) (t : Taking) → slice_get takes i ≡ Some t → 0 < taken takes t.position
 taken-at [] i t e = absurd (none_some e)
-  where
-    none_some : {y : Taking} → None ≡ Some y → ⊥
-    none_some e = cc
 taken-at (x ∷ takes) zero t e =
     let same : x ≡ t = cc in
     let one = within-in t.position (t.position + 1) t.position (omega arith) (omega arith) in
@@ -92,9 +73,6 @@ starts d keep = record {
   units = λ k t e. absurd (none_some e);
   rising = λ i j s t less e f. absurd (none_some e);
 }
-  where
-    none_some : {A : Type 0} {y : A} → None ≡ Some y → ⊥
-    none_some e = cc
 
 -- an answer that queues its unit, where the queue's position moves on to `to` by its flush
 pub queues : (d : ℕ) (keep : Bool) (p to : ℕ) (unit : UnitOf) (a : Offer) (l : Lane) → IsQueue d keep p l → unit.number ≡ length l.offers → queued_by unit a ≡ unit ∷ [] → ((j : ℕ) → flushed_by a j ≡ within p to j) → p ≤ to →
@@ -164,26 +142,6 @@ queued-few (o ∷ offers) = let h = queued-few offers in let a = length-append (
     few unit Queued = omega arith
     few unit (Flushed from to) = omega arith
     few unit (Refused count position) = omega arith
-
--- the first of what is left of a list
-pub at_drop : {A : Type 0} → (xs : List A) (p : ℕ) (x : A) (rest : List A) → drop p xs ≡ x ∷ rest → slice_get xs p ≡ Some x
-at_drop [] zero x rest e = absurd (nil_cons e)
-  where
-    nil_cons : {A : Type 0} {x : A} {rest : List A} → [] ≡ x ∷ rest → ⊥
-    nil_cons e = cc
-at_drop [] (suc p) x rest e = absurd (nil_cons e)
-  where
-    nil_cons : {A : Type 0} {x : A} {rest : List A} → [] ≡ x ∷ rest → ⊥
-    nil_cons e = cc
-at_drop (y ∷ xs) zero x rest e = let same : y ≡ x = cc in ap Some same
-at_drop (y ∷ xs) (suc p) x rest e = at_drop xs p x rest e
-
--- a list with one more, after what was before it
-pub drop-push : {A : Type 0} → (xs : List A) (p : ℕ) (x : A) → p ≤ length xs → drop p (xs ++ x ∷ []) ≡ drop p xs ++ x ∷ []
-drop-push xs p x h = drop-append-le p xs (x ∷ []) h
-
-pub drop-to_push : {A : Type 0} → (xs : List A) (p : ℕ) (x : A) → p ≡ length xs → drop p (xs ++ x ∷ []) ≡ x ∷ []
-drop-to_push xs p x h = drop_at xs (x ∷ []) p (sym h)
 
 pub within-empty : (p j : ℕ) → within p p j ≡ 0
 within-empty p j = dite (dec_lt j p) (λ b. within-before p p j b) (λ b. within-after p p j (omega (arith, b)) (omega (arith, b)))

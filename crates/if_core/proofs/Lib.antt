@@ -1,3 +1,4 @@
-pub mod Keeping
+mod Keeping
+mod Lists
+mod Newly
 pub mod UnitLaw
-pub mod Newly

@@ -1,18 +1,11 @@
 -- Queues with which nothing was done.
-use Rattle.std.proofs.Common.{◌≡◌, ℕ, ◌+◌, ◌<◌, ◌≤◌, ⊎_elim, Bool, true, false, List, [], ◌∷◌, ◌++◌, length, Some, None, Option, zero, suc, sym, refl, ap, ◌∙◌, subst, arith, length-append}
+use Rattle.std.proofs.Common.{◌≡◌, ℕ, ⊎_elim, Bool, true, false, List, [], ◌∷◌, ◌++◌, length, Some, None, Option, sym, refl, ap, ◌∙◌, subst, arith}
 use Rattle.std.specs.Prelude.{slice_get}
-use Rattle.std.proofs.lemmas.Option.{slice_get_within, slice_get_past}
+use Rattle.std.proofs.lemmas.Option.{slice_get_within}
 use Rattle.if_core.specs.Alone.{if_there, by_path, past_of, IsNew, EachIsNew, AreNew, view_of, means_of, if_given, plain_means}
-use Rattle.if_core.specs.Calls.{Means}
-use Rattle.if_core.specs.Lane.{Lane, empty_lane}
+use Rattle.if_core.specs.Lane.{empty_lane}
 use Rattle.if_core.specs.declared.queue.PlainQueue.{PlainQueue}
-use Rattle.if_core.proofs.Keeping.{at_push}
-
-none_some : {A : Type 0} {y : A} → None ≡ Some y → ⊥
-none_some e = cc
-
-same_of : {A : Type 0} {x y : A} → Some x ≡ Some y → x ≡ y
-same_of e = cc
+use Rattle.if_core.proofs.Lists.{none_some, same_of, there_is, at_push}
 
 pub none_new : (kinds : List (ℕ × Bool)) → EachIsNew kinds []
 none_new kinds path kind queue is e = absurd (none_some e)
@@ -30,18 +23,8 @@ by_kind f g d kinds queues new same path = go (slice_get kinds path) (slice_get 
     go : (k : Option (ℕ × Bool)) (q : Option PlainQueue) → slice_get kinds path ≡ k → slice_get queues path ≡ q → if_there f d q ≡ if_given g d k
     go None None a b = refl
     go (Some k) (Some q) a b = same k q (new.1 path k q a b)
-    go None (Some q) a b = let inside = slice_get_within queues path q b in absurd (none_some (sym a ∙ (there kinds path (omega (arith, inside, new.0))).1))
-      where
-        there : (xs : List (ℕ × Bool)) (i : ℕ) → i < length xs → (x : ℕ × Bool) × (slice_get xs i ≡ Some x)
-        there [] i l = absurd (omega (arith, l))
-        there (x ∷ xs) zero l = (x, refl)
-        there (x ∷ xs) (suc i) l = there xs i (omega (arith, l))
-    go (Some k) None a b = let inside = slice_get_within kinds path k a in absurd (none_some (sym b ∙ (there queues path (omega (arith, inside, new.0))).1))
-      where
-        there : (xs : List PlainQueue) (i : ℕ) → i < length xs → (x : PlainQueue) × (slice_get xs i ≡ Some x)
-        there [] i l = absurd (omega (arith, l))
-        there (x ∷ xs) zero l = (x, refl)
-        there (x ∷ xs) (suc i) l = there xs i (omega (arith, l))
+    go None (Some q) a b = let inside = slice_get_within queues path q b in absurd (none_some (sym a ∙ (there_is kinds path (omega (arith, inside, new.0))).1))
+    go (Some k) None a b = let inside = slice_get_within kinds path k a in absurd (none_some (sym b ∙ (there_is queues path (omega (arith, inside, new.0))).1))
 
 pub new_view : (kinds : List (ℕ × Bool)) (queues : List PlainQueue) → AreNew kinds queues → (path : ℕ) → view_of queues path ≡ empty_lane
 new_view kinds queues new path = by_kind past_of (λ kind. empty_lane) empty_lane kinds queues new (λ kind queue is. is.0) path ∙ either (slice_get kinds path)

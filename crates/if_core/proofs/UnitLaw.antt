@@ -1,10 +1,11 @@
 -- What becomes of each unit of a queue.
-use Rattle.std.proofs.Common.{◌≡◌, ◌≢◌, ℕ, ◌+◌, ◌<◌, ◌≤◌, ◌⊎◌, inl, inr, ⊎_elim, Bool, true, false, true≢false, List, [], ◌∷◌, ◌++◌, length, take, drop, map, Some, None, Option, zero, suc, sym, refl, ap, ◌∙◌, subst, arith, length-append, length-take}
+use Rattle.std.proofs.Common.{◌≡◌, ◌≢◌, ℕ, ◌+◌, ◌<◌, ◌≤◌, Bool, true, false, true≢false, List, [], ◌∷◌, ◌++◌, length, take, drop, map, Some, zero, suc, sym, refl, ap, ◌∙◌, arith, length-take}
 use Rattle.std.specs.Prelude.{slice_get}
 use Rattle.std.proofs.lemmas.List.{take-append-drop}
 use Rattle.std.proofs.lemmas.Option.{slice_get_within}
 use mathlib.Core.Logic.{dite}
 use native.Mathlib.Decide.{dec_lt, ℕ_discrete}
+use Rattle.if_core.proofs.Lists.{none_some, same_of, at_take, in_take, there_is}
 use Rattle.if_core.specs.Lane.{Lane, queued, queued_by, refused, refused_by, within, flushed, flushed_by, taken, IsCaused, IsQueue}
 use Rattle.if_core.specs.Unit.{UnitOf}
 use Rattle.if_core.specs.Fates.{times, taken_units, HasOneFate, IsFlushed, IsRefused, AreFates}
@@ -13,12 +14,6 @@ use Rattle.if_core.specs.declared.lanes.Offer.TheVariants.{Queued, Flushed, Refu
 use Rattle.if_core.specs.declared.history.Offering.{Offering}
 use Rattle.if_core.specs.declared.history.Taking.{Taking}
 use Rattle.if_core.proofs.Keeping.{within-before, within-in, within-after, taken-at}
-
-none_some : {A : Type 0} {y : A} → None ≡ Some y → ⊥
-none_some e = cc
-
-same_of : {A : Type 0} {x y : A} → Some x ≡ Some y → x ≡ y
-same_of e = cc
 
 within-join : (from mid end k : ℕ) → from ≤ mid → mid ≤ end → within from mid k + within mid end k ≡ within from end k
 within-join from mid end k a b = dite (dec_lt k from)
@@ -57,26 +52,6 @@ taking-found [] k h = absurd (omega (arith, h))
 taking-found (x ∷ ts) k h = dite (ℕ_discrete x.unit.number k)
     (λ e. (0, x, refl, e))
     (λ ne. let z = within-other x.unit.number k ne in let r = taking-found ts k (omega (arith, h, z)) in (suc r.0, r.1, r.2, r.3))
-
--- the front of a list
-
-at_take : {A : Type 0} → (xs : List A) (p i : ℕ) (x : A) → slice_get (take p xs) i ≡ Some x → (slice_get xs i ≡ Some x) × (i < p)
-at_take [] zero i x e = absurd (none_some e)
-at_take [] (suc p) i x e = absurd (none_some e)
-at_take (y ∷ xs) zero i x e = absurd (none_some e)
-at_take (y ∷ xs) (suc p) zero x e = (e, omega arith)
-at_take (y ∷ xs) (suc p) (suc i) x e = let r = at_take xs p i x e in (r.0, omega (arith, r.1))
-
-in_take : {A : Type 0} → (xs : List A) (p i : ℕ) (x : A) → slice_get xs i ≡ Some x → i < p → slice_get (take p xs) i ≡ Some x
-in_take [] p i x e l = absurd (none_some e)
-in_take (y ∷ xs) zero i x e l = absurd (omega (arith, l))
-in_take (y ∷ xs) (suc p) zero x e l = e
-in_take (y ∷ xs) (suc p) (suc i) x e l = in_take xs p i x e (omega (arith, l))
-
-there_is : {A : Type 0} → (xs : List A) (i : ℕ) → i < length xs → (x : A) × (slice_get xs i ≡ Some x)
-there_is [] i l = absurd (omega (arith, l))
-there_is (x ∷ xs) zero l = (x, refl)
-there_is (x ∷ xs) (suc i) l = there_is xs i (omega (arith, l))
 
 -- units that are numbered from a number on
 

@@ -34,7 +34,8 @@ IsNew kind queue = (past_of queue ≡ empty_lane) × (queue.depth ≡ kind.0) ×
 
 -- each queue that has a kind is a new one of it
 abbrev pub EachIsNew : List (ℕ × Bool) → List PlainQueue → Type 0
-EachIsNew kinds queues = (path : ℕ) (kind : ℕ × Bool) (queue : PlainQueue) → slice_get kinds path ≡ Some kind → slice_get queues path ≡ Some queue → IsNew kind queue
+EachIsNew kinds queues = (path : ℕ) (kind : ℕ × Bool) (queue : PlainQueue) →
+    slice_get kinds path ≡ Some kind → slice_get queues path ≡ Some queue → IsNew kind queue
 
 -- for each kind there is a new queue, and there are no others
 abbrev pub AreNew : List (ℕ × Bool) → List PlainQueue → Type 0

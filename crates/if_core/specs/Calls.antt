@@ -1,8 +1,8 @@
 -- The words of the contract of lanes: what a port may do, what a call did, how old a look may be, and what an answer
 -- says where the port is the whole of a queue.
-use Rattle.std.specs.Prelude.{◌≡◌, ℕ, ◌+◌, ◌<◌, ◌≤◌, ◌==◌, if◌then◌else◌, Bool, true, length, Option, Some, None}
+use Rattle.std.specs.Prelude.{◌≡◌, ℕ, ◌+◌, ◌<◌, ◌≤◌, ◌==◌, if◌then◌else◌, Bool, length, Option, Some, None}
 use Rattle.if_core.specs.Unit.{UnitOf}
-use Rattle.if_core.specs.Lane.{Lane, queued, offered, took, IsQueue}
+use Rattle.if_core.specs.Lane.{Lane, IsCaused, queued, offered, took, IsQueue}
 use Rattle.if_core.specs.declared.lanes.Offer.{Offer}
 use Rattle.if_core.specs.declared.lanes.Offer.TheVariants.{Queued, Flushed, Refused}
 
@@ -55,6 +55,11 @@ pub record Rise (old new : Floors) : Type 0 where
   pub gone : (path : ℕ) → old.gone path ≤ new.gone path
   pub count : (path : ℕ) → old.count path ≤ new.count path
 
+-- what the answer to an offer says of the path's queue
+abbrev pub Answers : Means → View → (path : ℕ) → Offer → Type 0
+Answers means view path answer =
+    IsCaused (means.depth path) (means.keep path) (length (queued (view path).offers)) answer
+
 -- an answer where so many units were queued, and the floor of the position. What is flushed or refused for was a whole
 -- depth of units, of which none is known to be gone
 abbrev pub IsOfferFresh : (floor depth count : ℕ) → Offer → Type 0
@@ -62,10 +67,11 @@ IsOfferFresh floor depth count Queued = Unit {0}
 IsOfferFresh floor depth count (Flushed from to) = floor + depth ≤ count
 IsOfferFresh floor depth count (Refused seen position) = floor ≤ position
 
--- no call looks behind the floors that stood before it. After a take that missed, nothing that was known to be queued is
--- left
+-- no call looks behind the floors that stood before it. After a take that missed, nothing that was known to be queued
+-- is left
 abbrev pub IsFresh : Means → View → (old new : Floors) → Event → Type 0
-IsFresh means view old new (Offered path unit answer) = IsOfferFresh (old.position path) (means.depth path) (length (queued (view path).offers)) answer
+IsFresh means view old new (Offered path unit answer) =
+    IsOfferFresh (old.position path) (means.depth path) (length (queued (view path).offers)) answer
 IsFresh means view old new (Took path position unit) = (old.gone path ≤ position) × (new.gone path ≡ position + 1)
 IsFresh means view old new (Missed path) = old.count path ≤ new.gone path
 
@@ -89,7 +95,8 @@ IsExact means view old new (Offered path unit answer) =
 IsExact means view old new (Took path position unit) =
     (position ≡ old.position path) × (new.position path ≡ position + 1) × (new.gone path ≡ new.position path)
 IsExact means view old new (Missed path) =
-    (old.position path ≡ length (queued (view path).offers)) × (new.position path ≡ old.position path) × (new.gone path ≡ new.position path)
+    (old.position path ≡ length (queued (view path).offers)) × (new.position path ≡ old.position path)
+    × (new.gone path ≡ new.position path)
 
 -- where the port is the whole of a path's queue, its records are those of a queue, and its floors the present numbers
 pub record IsLane (means : Means) (floors : Floors) (view : View) (path : ℕ) : Type 0 where

@@ -65,7 +65,8 @@ taken (taking ∷ takes) j = within taking.position (taking.position + 1) j + ta
 -- takes at most the depth away, and comes only after a depth of units; of a refusal the queue held its depth
 abbrev pub IsCaused : (depth : ℕ) → (keep : Bool) → (count : ℕ) → Offer → Type 0
 IsCaused depth keep count Queued = Unit {0}
-IsCaused depth keep count (Flushed from to) = (keep ≡ false) × (from ≤ to) × (to + 1 ≡ count) × (count ≤ from + depth) × (depth ≤ count)
+IsCaused depth keep count (Flushed from to) =
+    (keep ≡ false) × (from ≤ to) × (to + 1 ≡ count) × (count ≤ from + depth) × (depth ≤ count)
 IsCaused depth keep count (Refused seen position) = (keep ≡ true) × (seen ≡ count) × (position + depth ≡ count)
 
 -- the law of both ends of a queue whose next unit has a position: each position below is taken or flushed, once, and
@@ -77,7 +78,10 @@ pub record IsQueue (depth : ℕ) (keep : Bool) (position : ℕ) (lane : Lane) : 
   pub left : (j : ℕ) → position ≤ j → taken lane.takes j + flushed lane.offers j ≡ 0
   -- units are numbered as they are offered, refused ones too
   pub numbers : (k : ℕ) (offer : Offering) → slice_get lane.offers k ≡ Some offer → offer.unit.number ≡ k
-  pub caused : (k : ℕ) (offer : Offering) → slice_get lane.offers k ≡ Some offer → IsCaused depth keep (length (queued (take k lane.offers))) offer.answer
+  pub caused : (k : ℕ) (offer : Offering) → slice_get lane.offers k ≡ Some offer →
+      IsCaused depth keep (length (queued (take k lane.offers))) offer.answer
   -- a unit that is taken is the one that was queued at its position, and they are taken in order
-  pub units : (at : ℕ) (taking : Taking) → slice_get lane.takes at ≡ Some taking → slice_get (queued lane.offers) taking.position ≡ Some taking.unit
-  pub rising : (i j : ℕ) (first second : Taking) → i < j → slice_get lane.takes i ≡ Some first → slice_get lane.takes j ≡ Some second → first.position < second.position
+  pub units : (at : ℕ) (taking : Taking) → slice_get lane.takes at ≡ Some taking →
+      slice_get (queued lane.offers) taking.position ≡ Some taking.unit
+  pub rising : (i j : ℕ) (first second : Taking) → i < j → slice_get lane.takes i ≡ Some first →
+      slice_get lane.takes j ≡ Some second → first.position < second.position

@@ -17,4 +17,5 @@ done_to (Took position unit) lane = took position unit lane
 
 -- what the step that notes a deed leaves: the deed that it announces is added
 abbrev pub IsNoted : Step Deed → Me Deed Past → ℕ → Me Deed Past → Type 0
-IsNoted step before found after = (deed : Deed) → step.said ≡ some deed → lane_of after.0 ≡ done_to deed (lane_of before.0)
+IsNoted step before found after =
+    (deed : Deed) → step.said ≡ some deed → lane_of after.0 ≡ done_to deed (lane_of before.0)

@@ -1,5 +1,5 @@
 -- What is said of a queue is a fact.
-use Rattle.std.specs.Prelude.{◌≡◌, ℕ, Bool}
+use Rattle.std.specs.Prelude.{ℕ, Bool}
 use denote.Struct.Props.{props}
 use Rattle.if_core.specs.Lane.{Lane, IsCaused, IsQueue}
 use Rattle.if_core.specs.declared.lanes.Offer.{Offer}

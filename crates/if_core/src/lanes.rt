@@ -28,8 +28,8 @@ pub trait Lanes {
 
     ghost floors: { Self → Floors };
 
-    ghost use Rattle.if_core.specs.Calls.{grow, Offered, took_of, Rise, IsFresh, IsExact, IsLane};
-    ghost use Rattle.if_core.specs.Lane.{queued, IsCaused};
+    ghost use Rattle.if_core.specs.Calls.{Answers, grow, Offered, took_of, Rise, IsFresh, IsExact, IsLane};
+    ghost use Rattle.if_core.specs.Lane.{queued};
 
     /// Offers a unit to the path's queue. A full queue refuses it where it keeps what it has, and else flushes all that
     /// it holds. The unit's number is that of the units offered to the path before, refused ones too.
@@ -38,10 +38,13 @@ pub trait Lanes {
         requires room { length ((view self.old) path.0).offers < 1000000 }
         requires number { unit.now.number ≡ length ((view self.old) path.0).offers }
         ensures view { view self.new ≡ grow (Offered path.0 unit.now result) (view self.old) }
-        ensures answers { IsCaused ((means self.old).depth path.0) ((means self.old).keep path.0) (length (queued ((view self.old) path.0).offers)) result }
+        ensures answers { Answers (means self.old) (view self.old) path.0 result }
         ensures means { means self.new ≡ means self.old }
-        ensures fresh { IsFresh (means self.old) (view self.old) (floors self.old) (floors self.new) (Offered path.0 unit.now result) }
-        ensures exact { (means self.old).whole path.0 ≡ true → IsExact (means self.old) (view self.old) (floors self.old) (floors self.new) (Offered path.0 unit.now result) }
+        ensures fresh { IsFresh (means self.old) (view self.old) (floors self.old) (floors self.new)
+            (Offered path.0 unit.now result) }
+        ensures exact { (means self.old).whole path.0 ≡ true →
+            IsExact (means self.old) (view self.old) (floors self.old) (floors self.new)
+            (Offered path.0 unit.now result) }
         ensures rise { Rise (floors self.old) (floors self.new) };
 
     /// Takes the path's next unit, with its position. `None` where the queue is empty, and also where another end
@@ -50,8 +53,10 @@ pub trait Lanes {
         requires { (means self.old).takes path.0 ≡ true }
         ensures view { view self.new ≡ grow (took_of path.0 result) (view self.old) }
         ensures means { means self.new ≡ means self.old }
-        ensures fresh { IsFresh (means self.old) (view self.old) (floors self.old) (floors self.new) (took_of path.0 result) }
-        ensures exact { (means self.old).whole path.0 ≡ true → IsExact (means self.old) (view self.old) (floors self.old) (floors self.new) (took_of path.0 result) }
+        ensures fresh { IsFresh (means self.old) (view self.old) (floors self.old) (floors self.new)
+            (took_of path.0 result) }
+        ensures exact { (means self.old).whole path.0 ≡ true →
+            IsExact (means self.old) (view self.old) (floors self.old) (floors self.new) (took_of path.0 result) }
         ensures rise { Rise (floors self.old) (floors self.new) };
 
     /// How many units the path's queue holds, by looks of this call. Where the port is the whole of the queue, what was
@@ -60,7 +65,9 @@ pub trait Lanes {
         requires { ((means self.old).offers path.0 || (means self.old).takes path.0) ≡ true }
         ensures view { view self.new ≡ view self.old }
         ensures means { means self.new ≡ means self.old }
-        ensures exact { (means self.old).whole path.0 ≡ true → (floors self.new).position path.0 + result ≡ length (queued ((view self.new) path.0).offers) }
-        ensures law { (means self.old).whole path.0 ≡ true → IsLane (means self.new) (floors self.new) (view self.new) path.0 }
+        ensures exact { (means self.old).whole path.0 ≡ true →
+            (floors self.new).position path.0 + result ≡ length (queued ((view self.new) path.0).offers) }
+        ensures law { (means self.old).whole path.0 ≡ true →
+            IsLane (means self.new) (floors self.new) (view self.new) path.0 }
         ensures rise { Rise (floors self.old) (floors self.new) };
 }

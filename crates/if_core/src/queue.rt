@@ -63,7 +63,8 @@ impl PlainQueue {
         ensures kind { (self.new.depth ≡ self.old.depth) × (self.new.keep ≡ self.old.keep) }
         ensures answers { IsCaused self.old.depth self.old.keep self.old.count result }
         ensures exact { IsOfferExact self.old.position self.old.depth self.old.count result }
-        ensures rise { (self.new.position ≡ position_after result self.old.position) × (self.old.position ≤ self.new.position) × (self.old.count ≤ self.new.count) }
+        ensures position { self.new.position ≡ position_after result self.old.position }
+        ensures rise { (self.old.position ≤ self.new.position) × (self.old.count ≤ self.new.count) }
     {
         if self.count - self.position < self.depth {
             self.append(unit);

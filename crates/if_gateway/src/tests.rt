@@ -11,8 +11,8 @@ const IDS: [(CanId, CanId); 4] = [
     (CanId::Ext(0x100), CanId::Ext(0x101)),
 ];
 
-/// Frames by their kind and their length; then the kind that leaves on a classic bus, where one does. On an FD bus every
-/// frame keeps its kind.
+/// Frames by their kind and their length; then the kind that leaves on a classic bus, where one does. On an FD bus
+/// every frame keeps its kind.
 const FRAMES: [(bool, usize, Option<bool>); 9] = [
     (false, 0, Some(false)),
     (false, 1, Some(false)),
@@ -28,8 +28,8 @@ const FRAMES: [(bool, usize, Option<bool>); 9] = [
 /// The data of every frame: its first bytes are taken.
 const DATA: [u8; 64] = [0xA5; 64];
 
-/// The kind and the bit rate switch of a frame that the unit of this kind and length becomes under each identifier on a
-/// bus that takes FD frames or doesn't, where all data and the identifier are the wanted ones.
+/// The kind of the frame that a frame of this kind and length becomes on a bus that takes FD frames or doesn't, `None`
+/// inside where it becomes none; nothing where its data, its identifier or its bit rate switch isn't the wanted one.
 fn kind_of(from: CanId, to: CanId, fd: bool, len: usize, fd_bus: bool) -> Option<Option<bool>> {
     let data = DATA.get(..len)?;
     let frame = Frame::new(from, fd, true, data).ok()?;

@@ -1,5 +1,5 @@
 -- The last of the pending frames leave, one after another.
-use Rattle.std.proofs.Common.{◌≡◌, ℕ, ◌+◌, ◌<◌, ◌≤◌, ◌⊎◌, inl, inr, ⊎_elim, Bool, true, false, List, [], ◌∷◌, ◌++◌, length, reverse, Some, None, Option, zero, suc, sym, refl, ap, ◌∙◌, subst, arith, length-append, append-nil, append_assoc, true≢false}
+use Rattle.std.proofs.Common.{◌≡◌, ℕ, ◌<◌, ◌≤◌, ◌⊎◌, inl, inr, ⊎_elim, true, false, List, [], ◌∷◌, ◌++◌, length, reverse, Some, None, Option, zero, suc, sym, refl, ap, ◌∙◌, subst, arith, append-nil, append_assoc, true≢false}
 use Rattle.std.proofs.lemmas.List.{reverse-append}
 use Rattle.std.specs.Prelude.{slice_get, ◌==◌, if◌then◌else◌}
 use Rattle.std.specs.List.{AllByRecursion}
@@ -9,7 +9,7 @@ use native.Mathlib.Decide.{dec_lt, ℕ_discrete}
 use Rattle.can_frame.specs.Frame.{CanFrame}
 use Rattle.can_frame.specs.Priority.{priority_of}
 use Rattle.tx_mailbox.specs.Boxes.{Pending, content, LeavesBefore, leaves_before, AreInOrder, IsPending, IsEmitted}
-use Rattle.tx_mailbox.proofs.Pendings.{hit, miss, to_before, all_of, Absent, absent_none, none_absent, other_number, same_number}
+use Rattle.tx_mailbox.proofs.Pendings.{hit, miss, to_before, all_of, Absent, absent_none, other_number, same_number}
 
 none_some : {A : Type 0} {y : A} → None ≡ Some y → ⊥
 none_some e = cc

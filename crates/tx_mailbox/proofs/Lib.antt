@@ -1,2 +1,2 @@
-pub mod Pendings
-pub mod Leaving
+mod Pendings
+mod Leaving

@@ -1,12 +1,12 @@
 -- Frames put into boxes and taken out of them.
-use Rattle.std.proofs.Common.{◌≡◌, ℕ, ◌+◌, ◌<◌, ◌≤◌, ◌⊎◌, inl, inr, ⊎_elim, Bool, true, false, true≢false, cond, List, [], ◌∷◌, ◌++◌, length, take, drop, Some, None, Option, zero, suc, sym, refl, ap, ◌∙◌, subst, arith, length-append, lt-ltb, le-ltb, eqb}
+use Rattle.std.proofs.Common.{◌≡◌, ℕ, ◌+◌, ◌<◌, ◌≤◌, ◌⊎◌, inl, inr, ⊎_elim, Bool, true, false, true≢false, cond, List, [], ◌∷◌, length, take, Some, None, Option, zero, suc, sym, refl, ap, ◌∙◌, subst, arith, lt-ltb, le-ltb}
 use Rattle.std.specs.Prelude.{◌==◌, nat_lt, if◌then◌else◌, not, ◌||◌, ◌&&◌, insert, remove, take_while, is_some}
 use Rattle.std.specs.List.{AllByRecursion, prefix_len}
-use Rattle.std.proofs.lemmas.Bool.{eqb-true, eqb-false, ltb-true, ltb-false}
+use Rattle.std.proofs.lemmas.Bool.{eqb-true, eqb-false}
 use mathlib.Core.Logic.{dite}
 use native.Mathlib.Decide.{dec_lt, ℕ_discrete}
 use Rattle.can_frame.specs.Frame.{CanFrame}
-use Rattle.can_frame.specs.Priority.{priority_of, IsLower}
+use Rattle.can_frame.specs.Priority.{priority_of}
 use Rattle.tx_mailbox.specs.Boxes.{Pending, content, with_content, LeavesBefore, leaves_before, AreInOrder, IsPending}
 
 -- tests of numbers

@@ -1,4 +1,4 @@
-use Rattle.std.proofs.Common.{◌≡◌, ◌∙◌, ◌+◌, ◌∷◌, ◌++◌, [], length, ap, sym, subst, arith, length-append, List}
+use Rattle.std.proofs.Common.{◌∙◌, ◌∷◌, [], length, ap, sym, subst, arith, length-append, List}
 use Rattle.std.specs.Prelude.{slice_get}
 use Rattle.std.proofs.lemmas.Option.{slice_get-get_or}
 use Rattle.if_core.specs.Alone.{EachIsNew}

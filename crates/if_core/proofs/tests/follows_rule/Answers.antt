@@ -1,4 +1,4 @@
-use Rattle.std.proofs.Common.{◌≡◌, ap}
+use Rattle.std.proofs.Common.{ap}
 use Rattle.if_core.proofs.tests.follows_rule.Goals as goal
 
 pub all_agree-requires-clause-may : goal.all_agree-requires-clause-may

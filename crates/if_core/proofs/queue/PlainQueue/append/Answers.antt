@@ -1,9 +1,10 @@
-use Rattle.std.proofs.Common.{rules, arith, ℕ, ◌≡◌, ◌∙◌, ◌+◌, [], ◌∷◌, ◌++◌, length, drop, List, sym, ap, subst, length-append, le_refl, refl}
+use Rattle.std.proofs.Common.{arith, ◌≡◌, ◌∙◌, ◌+◌, [], ◌∷◌, ◌++◌, length, drop, List, sym, ap, subst, length-append, le_refl, refl}
 use Rattle.if_core.specs.Lane.{Lane, IsQueue, queued, offered}
 use Rattle.if_core.specs.Past.{lane_of}
 use Rattle.if_core.specs.Unit.{UnitOf}
 use Rattle.if_core.specs.declared.lanes.Offer.TheVariants.{Queued}
-use Rattle.if_core.proofs.Keeping.{queues, queued-push, drop-push, within-empty}
+use Rattle.if_core.proofs.Keeping.{queues, queued-push, within-empty}
+use Rattle.if_core.proofs.Lists.{drop-push}
 use Rattle.if_core.proofs.queue.PlainQueue.append.Goals as goal
 
 pub invariant_of-self : goal.invariant_of-self

@@ -1,10 +1,11 @@
-use Rattle.std.proofs.Common.{rules, arith, ℕ, ◌≡◌, ◌∙◌, ◌+◌, ◌-◌, [], ◌∷◌, ◌++◌, length, drop, List, sym, ap, subst, length-append, refl}
+use Rattle.std.proofs.Common.{arith, ℕ, ◌≡◌, ◌∙◌, ◌+◌, ◌-◌, [], ◌∷◌, ◌++◌, length, drop, List, sym, ap, subst, length-append, refl}
 use Rattle.if_core.specs.Lane.{Lane, IsQueue, queued, offered, within}
 use Rattle.if_core.specs.Past.{lane_of}
 use Rattle.if_core.specs.Unit.{UnitOf}
 use Rattle.if_core.specs.declared.lanes.Offer.{Offer}
 use Rattle.if_core.specs.declared.lanes.Offer.TheVariants.{Flushed}
-use Rattle.if_core.proofs.Keeping.{queues, queued-push, drop-to_push}
+use Rattle.if_core.proofs.Keeping.{queues, queued-push}
+use Rattle.if_core.proofs.Lists.{drop-to_push}
 use Rattle.if_core.proofs.queue.PlainQueue.flush.Goals as goal
 
 pub invariant_of-self : goal.invariant_of-self

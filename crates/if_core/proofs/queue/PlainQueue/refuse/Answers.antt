@@ -1,4 +1,4 @@
-use Rattle.std.proofs.Common.{rules, arith, ℕ, ◌≡◌, ◌∙◌, [], ◌∷◌, ◌++◌, length, drop, List, sym, ap, subst, append-nil}
+use Rattle.std.proofs.Common.{arith, ℕ, ◌≡◌, ◌∙◌, length, drop, List, sym, ap, subst, append-nil}
 use Rattle.if_core.specs.Lane.{Lane, IsQueue, queued, offered}
 use Rattle.if_core.specs.Past.{lane_of}
 use Rattle.if_core.specs.Unit.{UnitOf}

@@ -1,10 +1,10 @@
-use Rattle.std.proofs.Common.{rules, arith, ℕ, ◌≡◌, ◌<◌, ◌∙◌, ◌+◌, [], ◌∷◌, ◌++◌, length, drop, List, Some, sym, ap, subst}
-use Rattle.std.specs.Prelude.{slice_get}
+use Rattle.std.proofs.Common.{arith, ◌≡◌, ◌<◌, ◌∙◌, ◌+◌, ◌∷◌, length, drop, List, sym, ap, subst}
 use Rattle.std.proofs.lemmas.List.{drop-drop}
-use Rattle.if_core.specs.Lane.{Lane, IsQueue, queued, took}
+use Rattle.if_core.specs.Lane.{Lane, IsQueue, queued}
 use Rattle.if_core.specs.Past.{lane_of}
 use Rattle.if_core.specs.Unit.{UnitOf}
-use Rattle.if_core.proofs.Keeping.{takes, at_drop}
+use Rattle.if_core.proofs.Keeping.{takes}
+use Rattle.if_core.proofs.Lists.{at_drop}
 use Rattle.if_core.proofs.queue.PlainQueue.take.Goals as goal
 
 pub invariant_of-self : goal.invariant_of-self

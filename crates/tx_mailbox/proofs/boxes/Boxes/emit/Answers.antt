@@ -1,4 +1,4 @@
-use Rattle.std.proofs.Common.{◌≡◌, ◌∙◌, ◌<◌, ◌≤◌, ◌+◌, ◌++◌, ℕ, length, reverse, List, sym, ap, subst, arith, length-append}
+use Rattle.std.proofs.Common.{◌≡◌, ◌∙◌, ◌+◌, length, reverse, List, ap, subst, arith, length-append}
 use Rattle.std.proofs.lemmas.List.{length-reverse}
 use Rattle.tx_mailbox.specs.Boxes.{Pending, IsPending, IsEmitted}
 use Rattle.tx_mailbox.proofs.Leaving.{emitted, pending_front}

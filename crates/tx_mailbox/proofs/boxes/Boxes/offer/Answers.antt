@@ -1,4 +1,4 @@
-use Rattle.std.proofs.Common.{rules, ◌≡◌, ◌∙◌, ◌<◌, ◌≤◌, ℕ, true, false, length, List, Some, None, sym, ap, subst, arith, refl}
+use Rattle.std.proofs.Common.{rules, ◌≡◌, ◌∙◌, ℕ, List, Some, None, sym, ap, subst, arith}
 use Rattle.std.specs.Prelude.{insert}
 use Rattle.tx_mailbox.specs.Boxes.{Pending, content, with_content, IsPending}
 use Rattle.tx_mailbox.proofs.Pendings.{pending_insert, pending_room, content_insert, place_within, place, emptied, with_other}

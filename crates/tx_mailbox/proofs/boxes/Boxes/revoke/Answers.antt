@@ -1,4 +1,4 @@
-use Rattle.std.proofs.Common.{◌≡◌, ◌∙◌, ◌<◌, ℕ, true, false, length, List, None, sym, ap, subst, arith}
+use Rattle.std.proofs.Common.{◌≡◌, ◌∙◌, ℕ, true, false, List, None, sym, ap, subst}
 use Rattle.std.specs.Prelude.{is_some, remove}
 use Rattle.tx_mailbox.specs.Boxes.{Pending, content, with_content, IsPending}
 use Rattle.tx_mailbox.proofs.Pendings.{box_empty, box_full, empty_same, pending_remove, content_remove, before}

@@ -1,5 +1,7 @@
 -- The law of delivery: the laws of the source and of the destination meet in what the hub says of their sessions.
 use Rattle.std.proofs.Common.{◌≡◌, ℕ, ◌+◌, ◌≤◌, zero, suc, Bool, true, false, cond, Option, Some, None, option_map, List, [], ◌∷◌, ◌++◌, length, take, drop, refl, ap, sym, ◌∙◌, subst, arith, append-nil, length-append}
+use Rattle.tp_sender.specs.State.{TxTurn, Transmission}
+use Rattle.tp_sender.specs.Runs.{cells_in as cells_read, lens_in}
 use Rattle.tp_receiver.specs.State.{RxTurn}
 use Rattle.hub_core.specs.Turns.{calls_by, came_by, records_by}
 use Rattle.tp_receiver.specs.Runs.{put_in, frames_in}
@@ -18,8 +20,6 @@ use Rattle.tp_attempts.specs.Cuts.{Cut}
 use Rattle.tp_attempts.specs.Seen.{Seen, len_of}
 use Rattle.tp_attempts.specs.Walk.{reassembled}
 use Rattle.tp_receiver.specs.declared.set.RxSet.{RxSet}
-use Rattle.tp_sender.specs.Sending.{Moment, calls_by as sent_calls, cells_in as cells_read, lens_in}
-use Rattle.tp_sender.specs.State.{Sending}
 use Rattle.tp_sender.specs.declared.set.TxSet.{TxSet}
 use Rattle.gw_law.specs.Delivery.{AreWholeRuns, Delivers, Delivery, DeliveryLaw, IsNamed, Names, delivery_of}
 use Rattle.gw_law.specs.Source.{CountsFrom, sessions_in}
@@ -101,7 +101,7 @@ front-bytes stored read n sent is within =
     let all : bytes_of stored ≡ read ++ bytes_of (drop n stored) = ap bytes_of (sym (take-append-drop n stored)) ∙ flat_map-append cell_bytes (take n stored) (drop n stored) ∙ ap (λ b. b ++ bytes_of (drop n stored)) (sym is) in
     rw all (omega (arith, length-append read (bytes_of (drop n stored))), sym (take-append-le sent read (bytes_of (drop n stored)) within))
 
-joins : (rx : RxSet) (turns : List RxTurn) (tx : TxSet) (moments : List Moment) (v : View) (seq len : ℕ) → AreWholeRuns rx turns tx moments v → slice_get (lens_in (sent_calls moments)) seq ≡ Some len → Joins rx.chan.0 (delivery_of rx turns tx moments) (transfer_of tx moments) seq len
+joins : (rx : RxSet) (turns : List RxTurn) (tx : TxSet) (moments : List TxTurn) (v : View) (seq len : ℕ) → AreWholeRuns rx turns tx moments v → slice_get (lens_in (calls_by moments)) seq ≡ Some len → Joins rx.chan.0 (delivery_of rx turns tx moments) (transfer_of tx moments) seq len
 joins rx turns tx moments v seq len runs is =
     let path : ℕ = rx.path.0 in
     let d : Delivery = delivery_of rx turns tx moments in
@@ -110,7 +110,7 @@ joins rx turns tx moments v seq len runs is =
     let put = openings rx turns runs.received in
     let puts = put.fill empty_view refl in
     let read = readings tx moments runs.shape runs.sent empty_view refl in
-    let at = mapped-at (λ (r : Reading). r.len) seq ((grows (sent_calls moments) empty_view).readings tx.path.0 tx.dest.0) len (ap (λ l. slice_get l seq) read.fixed ∙ is) in
+    let at = mapped-at (λ (r : Reading). r.len) seq ((grows (calls_by moments) empty_view).readings tx.path.0 tx.dest.0) len (ap (λ l. slice_get l seq) read.fixed ∙ is) in
     let r : Reading = at.0 in
     let known = runs.streams.joined tx.path.0 tx.dest.0 seq r (ap (λ l. slice_get l seq) runs.readings ∙ at.1) in
     let s : Session = known.0 in
@@ -122,7 +122,7 @@ joins rx turns tx moments v seq len runs is =
     let source = idle-of rx turns runs.received runs.idle in
     let found = find (TellsPut rx.chan.0 rx.a stored) (attempts_in rx.functional (came_by frames_in turns)) (records_by turns) 0 seq entry source.told.tells source.told.sessions told in
     let cells : s.cells ≡ put_in rx turns seq = sym (cells_at-there (λ (x : Session). x.cells) seq ((grows (calls_by turns) empty_view).sessions path) s session) ∙ puts.cells seq in
-    let cells_were : r.cells ≡ cells_read seq (sent_calls moments) = sym (cells_at-there (λ (x : Reading). x.cells) seq ((grows (sent_calls moments) empty_view).readings tx.path.0 tx.dest.0) r at.1) ∙ read.cells seq in
+    let cells_were : r.cells ≡ cells_read seq (calls_by moments) = sym (cells_at-there (λ (x : Reading). x.cells) seq ((grows (calls_by moments) empty_view).readings tx.path.0 tx.dest.0) r at.1) ∙ read.cells seq in
     let front : t.read seq ≡ bytes_of (take (length r.cells) (put_in rx turns seq)) = ap bytes_of (sym cells_were ∙ known.2.prefix) ∙ ap (λ c. bytes_of (take (length r.cells) c)) cells in
     let numbered : found.opened.seq ≡ seq = omega (arith, found.seq_is) in
     let puts_are : stored seq ≡ take found.session.bytes (reassembled rx.a found.unit) = ap stored (sym numbered) ∙ found.tells.1 found.opened found.opened_is in
@@ -174,11 +174,11 @@ all-sent P [] all = tt
 all-sent P (told ∷ records) all = sent-in P told (filter has_sent records) (has_sent told) all.0 (all-sent P records all.1)
 
 -- no transmission goes on where no session is being sent
-pub none-going : (t : Transfer) (now : ℕ) (live : Option Sending) (going : List (Cut Seen)) → live ≡ None → GoesOnWith t now live going → going ≡ []
+pub none-going : (t : Transfer) (now : ℕ) (live : Option Transmission) (going : List (Cut Seen)) → live ≡ None → GoesOnWith t now live going → going ≡ []
 none-going t now None going is goes = goes
 none-going t now (Some s) going is goes = cc
 
-pub delivery_law_of : (rx : RxSet) (turns : List RxTurn) (tx : TxSet) (moments : List Moment) (v : View) → AreWholeRuns rx turns tx moments v → DeliveryLaw (delivery_of rx turns tx moments)
+pub delivery_law_of : (rx : RxSet) (turns : List RxTurn) (tx : TxSet) (moments : List TxTurn) (v : View) → AreWholeRuns rx turns tx moments v → DeliveryLaw (delivery_of rx turns tx moments)
 delivery_law_of rx turns tx moments v runs =
     let d : Delivery = delivery_of rx turns tx moments in
     let t : Transfer = transfer_of tx moments in

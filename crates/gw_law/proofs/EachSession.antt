@@ -1,7 +1,8 @@
 -- Each session that was opened has one record of a destination that joined them all.
 use Rattle.std.proofs.Common.{◌≡◌, ℕ, ◌+◌, ◌≤◌, zero, suc, Option, Some, None, option_map, List, [], ◌∷◌, length, map, refl, ap, sym, ◌∙◌, arith}
+use Rattle.tp_sender.specs.State.{TxTurn, tx_new}
 use Rattle.tp_receiver.specs.State.{RxTurn}
-use Rattle.hub_core.specs.Turns.{records_by}
+use Rattle.hub_core.specs.Turns.{records_by, calls_by, state_after}
 use Rattle.std.specs.Prelude.{option_to_list, slice_get}
 use Rattle.std.proofs.lemmas.List.{length-append, length-map}
 use Rattle.std.proofs.lemmas.Option.{slice_get-get_or, slice_get_within}
@@ -10,7 +11,6 @@ use Rattle.hub_core.specs.declared.record.DestRecord.{DestRecord}
 use Rattle.hub_core.specs.declared.record.OpenedAt.{OpenedAt}
 use Rattle.hub_core.specs.declared.record.SessionRecord.{SessionRecord}
 use Rattle.tp_receiver.specs.declared.set.RxSet.{RxSet}
-use Rattle.tp_sender.specs.Sending.{Moment, calls_by as sent_calls, state_from, told_by as sent_by}
 use Rattle.tp_sender.specs.declared.set.TxSet.{TxSet}
 use Rattle.gw_law.specs.Delivery.{AreOfEach, AreWholeRuns}
 use Rattle.gw_law.specs.Source.{CountsFrom, sessions_in}
@@ -49,16 +49,16 @@ at-most tx v known (suc last) is long joined =
     let s = joined last _ (ap (λ l. slice_get l last) is ∙ r) in
     omega (arith, slice_get_within (v.sessions tx.path.0) last s.0 s.1)
 
-pub each_session_of : (rx : RxSet) (turns : List RxTurn) (tx : TxSet) (moments : List Moment) (v : View) → AreWholeRuns rx turns tx moments v → length (v.sessions rx.path.0) ≤ (state_from moments).next → AreOfEach (records_by turns) (sent_by moments)
+pub each_session_of : (rx : RxSet) (turns : List RxTurn) (tx : TxSet) (moments : List TxTurn) (v : View) → AreWholeRuns rx turns tx moments v → length (v.sessions rx.path.0) ≤ (state_after tx_new moments).next → AreOfEach (records_by turns) (records_by moments)
 each_session_of rx turns tx moments v runs all =
     let so : SoFar tx.shape (world_of tx moments) = so-far tx moments runs.shape runs.sent in
     let source = source_law_of rx turns runs.received runs.idle in
     let read = readings tx moments runs.shape runs.sent empty_view refl in
-    let known : List Reading = (grows (sent_calls moments) empty_view).readings tx.path.0 tx.dest.0 in
-    let joined : length known ≡ (state_from moments).next = sym (length-map known (λ (r : Reading). r.len)) ∙ ap length read.fixed ∙ so.lens in
+    let known : List Reading = (grows (calls_by moments) empty_view).readings tx.path.0 tx.dest.0 in
+    let joined : length known ≡ (state_after tx_new moments).next = sym (length-map known (λ (r : Reading). r.len)) ∙ ap length read.fixed ∙ so.lens in
     let path : tx.path.0 ≡ rx.path.0 = ap (λ p. p.0) runs.path in
     let entries = entries-are rx turns v runs.received runs.idle runs.sessions in
-    let most : (state_from moments).next ≤ length (v.sessions tx.path.0) =
-    at-most tx v known (state_from moments).next runs.readings joined (λ seq r is. let s = runs.streams.joined tx.path.0 tx.dest.0 seq r is in (s.0, s.1)) in
-    same-numbers 0 (sent_by moments) (sessions_in (records_by turns)) so.numbered source.sessions
-    (omega (arith, (lives-none tx.shape (world_of tx moments) (state_from moments).live so.going runs.ended so.lives).1, all, most, ap (λ p. length (v.sessions p)) path, entries-long (records_by turns), ap length entries, length-map (v.sessions rx.path.0) (writing rx.path.0).fixed))
+    let most : (state_after tx_new moments).next ≤ length (v.sessions tx.path.0) =
+    at-most tx v known (state_after tx_new moments).next runs.readings joined (λ seq r is. let s = runs.streams.joined tx.path.0 tx.dest.0 seq r is in (s.0, s.1)) in
+    same-numbers 0 (records_by moments) (sessions_in (records_by turns)) so.numbered source.sessions
+    (omega (arith, (lives-none tx.shape (world_of tx moments) (state_after tx_new moments).live so.going runs.ended so.lives).1, all, most, ap (λ p. length (v.sessions p)) path, entries-long (records_by turns), ap length entries, length-map (v.sessions rx.path.0) (writing rx.path.0).fixed))

@@ -1,22 +1,23 @@
 -- What the buses write in each tick, by the works of a run.
 use Rattle.std.proofs.Common.{◌≡◌, inl, inr, ℕ, ◌+◌, ◌<◌, ◌≤◌, Option, None, Some, List, [], ◌∷◌, ◌++◌, length, refl, ap, sym, ◌∙◌, subst, arith, append-nil, append_assoc}
+use Rattle.tp_sender.specs.State.{TxTurn}
+use Rattle.tp_sender.specs.Runs.{Written, box_after, box_then, left_by, written_at, written_of}
 use Rattle.tp_receiver.specs.State.{RxEvent, Came, Timer, FcLeft, RunEnd, RxTurn, rx_new}
 use Rattle.tp_receiver.specs.Runs.{HasReceived}
 use Rattle.hub_core.specs.Turns.{state_after}
 use Rattle.std.specs.List.{AllByRecursion}
 use Rattle.std.proofs.lemmas.Bool.Decides.{eqb_tells}
 use Rattle.tp_receiver.specs.declared.set.RxSet.{RxSet}
-use Rattle.tp_sender.specs.Sending.{Moment, OtherLeft, Stepped, Written, box_after, box_then, left_by, written_at, written_of}
 use Rattle.tp_sender.specs.declared.event.TxEvent.{TxEvent}
 use Rattle.tp_sender.specs.declared.event.TxEvent.TheVariants.{Turn, Fc, Left, RunEnd}
-use Rattle.tp_sender.specs.declared.set.TxSet.{TxSet}
 use Rattle.tp_unit.specs.declared.shape.Shape.{Shape}
 use Rattle.tp_unit.specs.Unit.{BoxMeaning, Keeps, Offers, Revokes, Meaning}
 use Rattle.gw_law.specs.Emission.{BusLaw, EmissionLaw, NeverFall, WritesControl, left_in}
-use Rattle.gw_law.specs.Run.{AnswersIn, AreTicks, CameIn, ControlLeaves, EndsReceiving, FrameLeaves, IsAnswerIn, IsEnd, IsFull, IsRun, IsStepIn, ReceivesIn, SendsIn, Work, control_after, control_at, control_once, controls_by, moments_of, route_of, tick_after, turns_of}
+use Rattle.gw_law.specs.Run.{AnswersIn, AreTicks, CameIn, ControlLeaves, EndsReceiving, FrameLeaves, IsAnswerIn, IsEnd, IsFull, IsStepIn, ReceivesIn, SendsIn, Work, control_after, control_at, control_once, controls_by, moments_of, tick_after, turns_of}
 use Rattle.gw_law.proofs.DataFrames.{AreSteps, are-data}
 use Rattle.gw_law.proofs.Offers.{IsControl, IsControlAct, control-act, control-fits}
 use Rattle.gw_law.proofs.Lists.{all-join}
+use Rattle.gw_law.proofs.WholeRun.{WholeRun, route, works_of}
 
 -- the ticks strictly rise, from this one on and below that one
 abbrev pub Rise : ℕ → List Written → ℕ → Type 0
@@ -81,23 +82,21 @@ answer-silent shape tick at (Fc fs bs st) lies is = refl
 answer-silent shape tick at Left lies is = absurd is
 answer-silent shape tick at RunEnd lies is = absurd is
 
-answers-silent : (shape : Shape) (tick : ℕ) (answers earlier : List Moment) → AllByRecursion (IsAnswerIn tick) answers → left_by shape (answers ++ earlier) ≡ left_by shape earlier
+answers-silent : (shape : Shape) (tick : ℕ) (answers earlier : List TxTurn) → AllByRecursion (IsAnswerIn tick) answers → left_by shape (answers ++ earlier) ≡ left_by shape earlier
 answers-silent shape tick [] earlier all = refl
-answers-silent shape tick (Stepped m ∷ answers) earlier all = rw (answer-silent shape tick m.did.tick m.event (box_after (answers ++ earlier)) all.0, append-nil) (answers-silent shape tick answers earlier all.1)
-answers-silent shape tick (OtherLeft at frame ∷ answers) earlier all = absurd all.0
+answers-silent shape tick (m ∷ answers) earlier all = rw (answer-silent shape tick m.did.tick m.event (box_after (answers ++ earlier)) all.0, append-nil) (answers-silent shape tick answers earlier all.1)
 
-frame-leaves : (shape : Shape) (tick : ℕ) (lies : Option Meaning) (left before : List Moment) → box_after before ≡ lies → FrameLeaves tick lies left → left_by shape (left ++ before) ≡ left_by shape before ++ written_of shape tick lies
+frame-leaves : (shape : Shape) (tick : ℕ) (lies : Option Meaning) (left before : List TxTurn) → box_after before ≡ lies → FrameLeaves tick lies left → left_by shape (left ++ before) ≡ left_by shape before ++ written_of shape tick lies
 frame-leaves shape tick None left before is row = rw (row, append-nil) refl
 frame-leaves shape tick (Some meaning) [] before is row = absurd row
-frame-leaves shape tick (Some meaning) (Stepped m ∷ more) before is row = rw (row.1, row.0.0, row.0.1, is) refl
-frame-leaves shape tick (Some meaning) (OtherLeft at frame ∷ more) before is row = absurd row.0
+frame-leaves shape tick (Some meaning) (m ∷ more) before is row = rw (row.1, row.0.0, row.0.1, is) refl
 
 -- what the sender's part of a tick writes
-pub sends-written : (shape : Shape) (tick : ℕ) (earlier moments : List Moment) → SendsIn tick earlier moments → (lies : Option Meaning) × (left_by shape (moments ++ earlier) ≡ left_by shape earlier ++ written_of shape tick lies)
+pub sends-written : (shape : Shape) (tick : ℕ) (earlier moments : List TxTurn) → SendsIn tick earlier moments → (lies : Option Meaning) × (left_by shape (moments ++ earlier) ≡ left_by shape earlier ++ written_of shape tick lies)
 sends-written shape tick earlier moments sends =
-    let before : List Moment = Stepped sends.turn ∷ (sends.answers ++ earlier) in
+    let before : List TxTurn = sends.turn ∷ (sends.answers ++ earlier) in
     let silent : left_by shape before ≡ left_by shape earlier = rw (sends.turn_is, append-nil) (answers-silent shape tick sends.answers earlier sends.answers_only) in
-    let is : moments ++ earlier ≡ sends.left ++ before = ap (λ m. m ++ earlier) sends.moments_are ∙ append_assoc sends.left (Stepped sends.turn ∷ sends.answers) earlier in
+    let is : moments ++ earlier ≡ sends.left ++ before = ap (λ m. m ++ earlier) sends.moments_are ∙ append_assoc sends.left (sends.turn ∷ sends.answers) earlier in
     (box_after before, ap (left_by shape) is ∙ frame-leaves shape tick (box_after before) sends.left before refl sends.left_is ∙ ap (λ l. l ++ written_of shape tick (box_after before)) silent)
 
 frames-rise : (shape : Shape) (sizes : List ℕ) (works : List Work) → AreTicks sizes works → Rise 0 (left_by shape (moments_of works)) (tick_after works)
@@ -137,10 +136,9 @@ controls-rise shape sizes (work ∷ earlier) ticks =
     rw left.1 (rise-written shape 0 (tick_after earlier) work.tick (controls_by shape (turns_of earlier)) left.0 ticks.0.later (controls-rise shape sizes earlier ticks.1))
 
 -- the end writes nothing
-end-silent : (shape : Shape) (last : ℕ) (moments earlier : List Moment) → AllByRecursion (IsStepIn last RunEnd) moments → left_by shape (moments ++ earlier) ≡ left_by shape earlier
+end-silent : (shape : Shape) (last : ℕ) (moments earlier : List TxTurn) → AllByRecursion (IsStepIn last RunEnd) moments → left_by shape (moments ++ earlier) ≡ left_by shape earlier
 end-silent shape last [] earlier all = refl
-end-silent shape last (Stepped m ∷ moments) earlier all = rw (all.0.0, append-nil) (end-silent shape last moments earlier all.1)
-end-silent shape last (OtherLeft at frame ∷ moments) earlier all = absurd all.0
+end-silent shape last (m ∷ moments) earlier all = rw (all.0.0, append-nil) (end-silent shape last moments earlier all.1)
 
 receiver-end-silent : (shape : Shape) (last : ℕ) (turns earlier : List RxTurn) → EndsReceiving last turns → controls_by shape (turns ++ earlier) ≡ controls_by shape earlier
 receiver-end-silent shape last [] earlier ends = absurd ends
@@ -190,43 +188,39 @@ are-controls set shape (turn ∷ earlier) happened =
     (written-control set shape turn.event turn.did.tick (control_after earlier) (lies-control set earlier happened.2))
 
 -- only the sender's own frames leave on the destination's bus
-steps-answers : (tick : ℕ) (answers earlier : List Moment) → AllByRecursion (IsAnswerIn tick) answers → AreSteps earlier → AreSteps (answers ++ earlier)
+steps-answers : (tick : ℕ) (answers earlier : List TxTurn) → AllByRecursion (IsAnswerIn tick) answers → AreSteps earlier → AreSteps (answers ++ earlier)
 steps-answers tick [] earlier all so = so
-steps-answers tick (Stepped m ∷ answers) earlier all so = steps-answers tick answers earlier all.1 so
-steps-answers tick (OtherLeft at frame ∷ answers) earlier all so = absurd all.0
+steps-answers tick (m ∷ answers) earlier all so = steps-answers tick answers earlier all.1 so
 
-steps-left : (tick : ℕ) (lies : Option Meaning) (left before : List Moment) → FrameLeaves tick lies left → AreSteps before → AreSteps (left ++ before)
+steps-left : (tick : ℕ) (lies : Option Meaning) (left before : List TxTurn) → FrameLeaves tick lies left → AreSteps before → AreSteps (left ++ before)
 steps-left tick None left before row so = rw row so
 steps-left tick (Some meaning) [] before row so = absurd row
-steps-left tick (Some meaning) (Stepped m ∷ more) before row so = rw row.1 so
-steps-left tick (Some meaning) (OtherLeft at frame ∷ more) before row so = absurd row.0
+steps-left tick (Some meaning) (m ∷ more) before row so = rw row.1 so
 
 works-steps : (sizes : List ℕ) (works : List Work) → AreTicks sizes works → AreSteps (moments_of works)
 works-steps sizes [] ticks = tt
 works-steps sizes (work ∷ earlier) ticks =
     let sends = ticks.0.sends in
-    let is : moments_of (work ∷ earlier) ≡ sends.left ++ (Stepped sends.turn ∷ (sends.answers ++ moments_of earlier)) =
-    ap (λ m. m ++ moments_of earlier) sends.moments_are ∙ append_assoc sends.left (Stepped sends.turn ∷ sends.answers) (moments_of earlier) in
+    let is : moments_of (work ∷ earlier) ≡ sends.left ++ (sends.turn ∷ (sends.answers ++ moments_of earlier)) =
+    ap (λ m. m ++ moments_of earlier) sends.moments_are ∙ append_assoc sends.left (sends.turn ∷ sends.answers) (moments_of earlier) in
     subst AreSteps (sym is)
-    (steps-left work.tick (box_after (Stepped sends.turn ∷ (sends.answers ++ moments_of earlier))) sends.left (Stepped sends.turn ∷ (sends.answers ++ moments_of earlier)) sends.left_is
+    (steps-left work.tick (box_after (sends.turn ∷ (sends.answers ++ moments_of earlier))) sends.left (sends.turn ∷ (sends.answers ++ moments_of earlier)) sends.left_is
     (steps-answers work.tick sends.answers (moments_of earlier) sends.answers_only (works-steps sizes earlier ticks.1)))
 
-end-steps : (last : ℕ) (moments earlier : List Moment) → AllByRecursion (IsStepIn last RunEnd) moments → AreSteps earlier → AreSteps (moments ++ earlier)
+end-steps : (last : ℕ) (moments earlier : List TxTurn) → AllByRecursion (IsStepIn last RunEnd) moments → AreSteps earlier → AreSteps (moments ++ earlier)
 end-steps last [] earlier all so = so
-end-steps last (Stepped m ∷ moments) earlier all so = end-steps last moments earlier all.1 so
-end-steps last (OtherLeft at frame ∷ moments) earlier all so = absurd all.0
+end-steps last (m ∷ moments) earlier all so = end-steps last moments earlier all.1 so
 
 -- both buses of a run
-pub bus_law_of : (rx : RxSet) (tx : TxSet) (shape : Shape) (source_budget budget : ℕ) (sizes : List ℕ) (last count free : ℕ) (ticks : List Work) (end : Work) → 1 ≤ source_budget → 1 ≤ budget → IsRun rx tx sizes last count free ticks end →
-    BusLaw (route_of rx tx shape source_budget budget sizes last count free ticks end)
-bus_law_of rx tx shape source_budget budget sizes last count free ticks end some_source some run =
-    let frames : Rise 0 (left_by tx.shape (moments_of (end ∷ ticks))) (last + 1) = frames-of-run-rise tx.shape sizes rx.path.0 last ticks end run.ticks_are run.ends in
-    let controls : Rise 0 (controls_by shape (turns_of (end ∷ ticks))) (last + 1) = controls-of-run-rise shape sizes rx.path.0 last ticks end run.ticks_are run.ends in
+pub bus_law_of : (o : WholeRun) → 1 ≤ o.source_budget → 1 ≤ o.budget → BusLaw (route o)
+bus_law_of o some_source some =
+    let frames : Rise 0 (left_by o.tx.shape (moments_of (works_of o))) (o.last + 1) = frames-of-run-rise o.tx.shape o.sizes o.rx.path.0 o.last o.ticks o.end o.run.ticks_are o.run.ends in
+    let controls : Rise 0 (controls_by o.shape (turns_of (works_of o))) (o.last + 1) = controls-of-run-rise o.shape o.sizes o.rx.path.0 o.last o.ticks o.end o.run.ticks_are o.run.ends in
     record {
-      frames = emits budget 0 (last + 1) (left_by tx.shape (moments_of (end ∷ ticks))) some frames;
-      controls = emits source_budget 0 (last + 1) (controls_by shape (turns_of (end ∷ ticks))) some_source controls;
-      frames_end = all-by 0 (last + 1) last (left_by tx.shape (moments_of (end ∷ ticks))) (omega arith) frames;
-      controls_end = all-by 0 (last + 1) last (controls_by shape (turns_of (end ∷ ticks))) (omega arith) controls;
-      are_data = are-data tx (moments_of (end ∷ ticks)) (end-steps last end.moments (moments_of ticks) run.ends.sends (works-steps sizes ticks run.ticks_are)) run.sent;
-      are_controls = are-controls rx shape (turns_of (end ∷ ticks)) run.received;
+      frames = emits o.budget 0 (o.last + 1) (left_by o.tx.shape (moments_of (works_of o))) some frames;
+      controls = emits o.source_budget 0 (o.last + 1) (controls_by o.shape (turns_of (works_of o))) some_source controls;
+      frames_end = all-by 0 (o.last + 1) o.last (left_by o.tx.shape (moments_of (works_of o))) (omega arith) frames;
+      controls_end = all-by 0 (o.last + 1) o.last (controls_by o.shape (turns_of (works_of o))) (omega arith) controls;
+      are_data = are-data o.tx (moments_of (works_of o)) (end-steps o.last o.end.moments (moments_of o.ticks) o.run.ends.sends (works-steps o.sizes o.ticks o.run.ticks_are)) o.run.sent;
+      are_controls = are-controls o.rx o.shape (turns_of (works_of o)) o.run.received;
     }

@@ -1,5 +1,6 @@
 -- The law of a source channel's flow controls, by the records of its units.
 use Rattle.std.proofs.Common.{◌≡◌, ◌⊎◌, inl, inr, ℕ, zero, suc, ◌+◌, ◌<◌, ◌≤◌, true, false, Option, None, Some, List, [], ◌∷◌, ◌++◌, length, refl, ap, sym, ◌∙◌, subst, arith}
+use Rattle.tp_sender.specs.Runs.{Written}
 use Rattle.tp_receiver.specs.Table.{continue_to_send, overflow}
 use Rattle.tp_receiver.specs.State.{RxTurn}
 use Rattle.std.specs.Prelude.{slice_get}
@@ -8,9 +9,6 @@ use Rattle.std.proofs.lemmas.Option.{slice_get_within}
 use Rattle.hub_core.specs.declared.record.SessionRecord.{SessionRecord}
 use Rattle.tp_attempts.specs.Attempts.{attempts_in}
 use Rattle.tp_attempts.specs.Seen.{Seen}
-use Rattle.tp_receiver.specs.declared.set.RxSet.{RxSet}
-use Rattle.tp_sender.specs.Sending.{Written}
-use Rattle.tp_sender.specs.declared.set.TxSet.{TxSet}
 use Rattle.tp_unit.proofs.RoundTrip.{flow_control-read}
 use Rattle.tp_unit.specs.declared.shape.Shape.{Shape}
 use Rattle.tp_unit.specs.Reading.{unit_of}
@@ -18,7 +16,7 @@ use Rattle.tp_unit.specs.Shape.{address_size}
 use Rattle.tp_unit.specs.Unit.{FlowControl, Meaning}
 use Rattle.tp_unit.specs.Writing.{fill_of, frame_of, unfilled}
 use Rattle.gw_law.specs.FlowControls.{FlowControlLaw, HasStatus, IsOfSession, IsSegmented, LetsCome, NoneBegins, TellsNoRoom, said_in}
-use Rattle.gw_law.specs.Run.{IsRun, Route, Work, route_of, turns_of}
+use Rattle.gw_law.specs.Run.{Route, turns_of}
 use Rattle.gw_law.specs.Source.{Tells}
 use Rattle.gw_law.proofs.Effects.{is_run_end}
 use Rattle.gw_law.proofs.Emission.{Rise, controls-of-run-rise}
@@ -28,6 +26,7 @@ use Rattle.gw_law.proofs.Owed.{LetsCome as Lets}
 use Rattle.gw_law.proofs.Places.{attempt-of, start-of, starts_in}
 use Rattle.gw_law.proofs.SourceLaws.{source_law_of}
 use Rattle.gw_law.proofs.Lists.{all-at, all-both, all-split, all-weaker, same-some, there-at, zip-pair}
+use Rattle.gw_law.proofs.WholeRun.{WholeRun, route, works_of}
 
 -- a flow control of the channel is read as it was written
 said : (shape : Shape) (w : Written) (status block_size separation : ℕ) → status ≤ 15 → w.frame ≡ frame_of shape (FlowControl status block_size separation) → unit_of (address_size shape) w.frame ≡ FlowControl status block_size separation
@@ -262,29 +261,26 @@ law-known r some known = record {
 }
 
 -- the law of a run
-known-by : (rx : RxSet) (tx : TxSet) (shape : Shape) (source_budget budget : ℕ) (sizes : List ℕ) (last count free : ℕ) (ticks : List Work) (end : Work) (bound : ℕ) → IsRun rx tx sizes last count free ticks end → IsSettled rx shape last bound (turns_of (end ∷ ticks)) →
-    IsKnown (route_of rx tx shape source_budget budget sizes last count free ticks end)
-known-by rx tx shape source_budget budget sizes last count free ticks end bound run settled =
-    let turns : List RxTurn = turns_of (end ∷ ticks) in
-    let so : IdleSo rx shape (story_of rx shape last bound turns) = subst (SoFar rx shape (story_of rx shape last bound turns)) run.ends.idle.receiver settled.holds in
+known-by : (o : WholeRun) (bound : ℕ) → IsSettled o.rx o.shape o.last bound (turns_of (works_of o)) → IsKnown (route o)
+known-by o bound settled =
+    let turns : List RxTurn = turns_of (works_of o) in
+    let so : IdleSo o.rx o.shape (story_of o.rx o.shape o.last bound turns) = subst (SoFar o.rx o.shape (story_of o.rx o.shape o.last bound turns)) o.run.ends.idle.receiver settled.holds in
     record {
-      now = last;
+      now = o.last;
       bound = bound;
-      facts = subst (λ (l : Option Meaning). Facts rx shape (record (story_of rx shape last bound turns) { lies = l })) settled.empty so.facts;
+      facts = subst (λ (l : Option Meaning). Facts o.rx o.shape (record (story_of o.rx o.shape o.last bound turns) { lies = l })) settled.empty so.facts;
       all_told = so.all_told;
-      tells = (source_law_of rx turns run.received run.ends.idle.receiver).tells;
-      end = last + 1;
-      rise = controls-of-run-rise shape sizes rx.path.0 last ticks end run.ticks_are run.ends;
+      tells = (source_law_of o.rx turns o.run.received o.run.ends.idle.receiver).tells;
+      end = o.last + 1;
+      rise = controls-of-run-rise o.shape o.sizes o.rx.path.0 o.last o.ticks o.end o.run.ticks_are o.run.ends;
     }
 
-pub known-of-run : (rx : RxSet) (tx : TxSet) (shape : Shape) (source_budget budget : ℕ) (sizes : List ℕ) (last count free : ℕ) (ticks : List Work) (end : Work) → IsRun rx tx sizes last count free ticks end →
-    IsKnown (route_of rx tx shape source_budget budget sizes last count free ticks end)
-known-of-run rx tx shape source_budget budget sizes last count free ticks end run =
-    let settled = run-settles rx shape sizes rx.path.0 last ticks end run.ticks_are run.ends run.received in
-    known-by rx tx shape source_budget budget sizes last count free ticks end settled.0 run settled.1
+pub known-of-run : (o : WholeRun) → IsKnown (route o)
+known-of-run o =
+    let settled = run-settles o.rx o.shape o.sizes o.rx.path.0 o.last o.ticks o.end o.run.ticks_are o.run.ends o.run.received in
+    known-by o settled.0 settled.1
 
-pub flow_control_law_of : (rx : RxSet) (tx : TxSet) (shape : Shape) (source_budget budget : ℕ) (sizes : List ℕ) (last count free : ℕ) (ticks : List Work) (end : Work) → 1 ≤ rx.n_ar → IsRun rx tx sizes last count free ticks end →
-    FlowControlLaw (route_of rx tx shape source_budget budget sizes last count free ticks end)
-flow_control_law_of rx tx shape source_budget budget sizes last count free ticks end some run =
-    law-known (route_of rx tx shape source_budget budget sizes last count free ticks end) some
-    (known-of-run rx tx shape source_budget budget sizes last count free ticks end run)
+pub flow_control_law_of : (o : WholeRun) → 1 ≤ o.rx.n_ar → FlowControlLaw (route o)
+flow_control_law_of o some =
+    law-known (route o) some
+    (known-of-run o)

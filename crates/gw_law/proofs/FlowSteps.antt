@@ -1,5 +1,6 @@
 -- What the flow controls of a source channel answer so far, step by step and tick by tick.
 use Rattle.std.proofs.Common.{◌≡◌, ℕ, ◌+◌, ◌-◌, ◌≤◌, Bool, true, false, Option, Some, None, List, [], ◌∷◌, ◌++◌, refl, ap, sym, ◌∙◌, subst, arith, append-nil, append_assoc}
+use Rattle.tp_sender.specs.Runs.{box_then, written_of}
 use Rattle.tp_receiver.specs.State.{Reception, RxEvent, RxDid, RxState, Came, Timer, FcLeft, RunEnd, RxTurn, rx_new}
 use Rattle.tp_receiver.specs.Table.{later_act, revoking, FrameRow, FromBox, NotAwaited, RxStep, Starts, continue_to_send, overflow}
 use Rattle.tp_receiver.specs.Runs.{HasReceived, frames_in}
@@ -10,7 +11,6 @@ use Rattle.hub_core.specs.declared.record.RxWait.TheVariants.{Box, Cf, Room}
 use Rattle.hub_core.specs.declared.record.SessionRecord.{SessionRecord}
 use Rattle.tp_attempts.specs.Seen.{Seen, is_start}
 use Rattle.tp_receiver.specs.declared.set.RxSet.{RxSet}
-use Rattle.tp_sender.specs.Sending.{box_then, written_of}
 use Rattle.tp_unit.specs.declared.shape.Shape.{Shape}
 use Rattle.tp_unit.specs.Unit.{BoxMeaning, Keeps, Offers, Revokes, Meaning}
 use Rattle.tp_unit.specs.Writing.{frame_of}
@@ -18,6 +18,7 @@ use Rattle.gw_law.specs.Run.{AreTicks, CameIn, ControlLeaves, EndsReceiving, IsE
 use Rattle.gw_law.proofs.Effects.{Begun, Does, GoesOnAs, IsBegun, IsOver, IsRefused, Received, Stays, begun-by, does-end, does-frame, does-interrupts, does-timer, idle-interrupts, starts-by}
 use Rattle.gw_law.proofs.Owed.{IdleSo, LiesBusy, LiesIdle, SoFar, Story, Waits, Went, begins, later, leaves, no-room-leaves, over, received, refused}
 use Rattle.gw_law.proofs.Places.{starts_in, starts-begin, starts-other}
+use Rattle.hub_core.proofs.Turns.{happened-front}
 
 -- the story with a move
 abbrev pub moved : RxDid → Story → Story
@@ -187,17 +188,13 @@ leaves-by set shape now (Some meaning) (turn ∷ more) before is row happened so
     let Q : List RxTurn → Type 0 = λ l. RxStep set (state_after rx_new (l ++ before)) turn.event turn.did in
     subst P (sym row.2) (left-step set shape now meaning turn before row.0 row.1 is (subst Q row.2 happened.1) so)
 
-happened-back : (set : RxSet) (more turns : List RxTurn) → HasReceived set (more ++ turns) → HasReceived set turns
-happened-back set [] turns happened = happened
-happened-back set (turn ∷ more) turns happened = happened-back set more turns happened.2
-
 -- the receiver's part of a tick
 tick-step : (set : RxSet) (shape : Shape) (now : ℕ) (earlier turns : List RxTurn) → ReceivesIn now earlier turns → HasReceived set (turns ++ earlier) → Holds set shape now now earlier → IsSettled set shape now (now + 1) (turns ++ earlier)
 tick-step set shape now earlier turns receives happened so =
     let before : List RxTurn = receives.timer ∷ (receives.came ++ earlier) in
     let is : turns ++ earlier ≡ receives.left ++ before = ap (λ t. t ++ earlier) receives.turns_are ∙ append_assoc receives.left (receives.timer ∷ receives.came) earlier in
     let all : HasReceived set (receives.left ++ before) = subst (HasReceived set) is happened in
-    let here : HasReceived set before = happened-back set receives.left before all in
+    let here : HasReceived set before = happened-front _ receives.left before all in
     let came : Holds set shape now now (receives.came ++ earlier) = all-came set shape now receives.came earlier receives.came_only here.2 so in
     subst (IsSettled set shape now (now + 1)) (sym is)
     (leaves-by set shape now (control_after before) receives.left before refl receives.left_is all (timer-step set shape now receives.timer (receives.came ++ earlier) receives.timer_is receives.timer_tick here.1 came))
@@ -229,7 +226,7 @@ works-settle set shape sizes [] ticks happened = record {
   };
 }
 works-settle set shape sizes (work ∷ earlier) ticks happened =
-    let so : AreSettled set shape earlier = works-settle set shape sizes earlier ticks.1 (happened-back set work.turns (turns_of earlier) happened) in
+    let so : AreSettled set shape earlier = works-settle set shape sizes earlier ticks.1 (happened-front _ work.turns (turns_of earlier) happened) in
     record {
       now = work.tick;
       bound = work.tick + 1;
@@ -275,7 +272,7 @@ end-by set shape last bound (turn ∷ more) turns row happened so =
 -- a whole run
 pub run-settles : (set : RxSet) (shape : Shape) (sizes : List ℕ) (path last : ℕ) (ticks : List Work) (end : Work) → AreTicks sizes ticks → IsEnd sizes path last ticks end → HasReceived set (turns_of (end ∷ ticks)) → (bound : ℕ) × IsSettled set shape last bound (turns_of (end ∷ ticks))
 run-settles set shape sizes path last ticks end are ends happened =
-    let so : AreSettled set shape ticks = works-settle set shape sizes ticks are (happened-back set end.turns (turns_of ticks) happened) in (
+    let so : AreSettled set shape ticks = works-settle set shape sizes ticks are (happened-front _ end.turns (turns_of ticks) happened) in (
       so.bound,
       end-by set shape last so.bound end.turns (turns_of ticks) ends.receives happened
           (record { holds = on set shape so.now so.bound last so.bound (turns_of ticks) (omega (arith, so.now_by, ends.in_time)) (omega arith) so.settled; empty = so.settled.empty }),

@@ -1,5 +1,7 @@
 -- A run's works up to a tick: what came and what left up to then is a front of all that came and left.
 use Rattle.std.proofs.Common.{◌≡◌, ℕ, ◌+◌, ◌<◌, ◌≤◌, inl, inr, Option, Some, None, List, [], ◌∷◌, ◌++◌, refl, ap, sym, ◌∙◌, subst, arith, append-nil, append_assoc}
+use Rattle.tp_sender.specs.State.{TxTurn}
+use Rattle.tp_sender.specs.Runs.{Written, box_after, left_by, written_at}
 use Rattle.tp_receiver.specs.State.{RxEvent, Came, Timer, FcLeft, RunEnd, RxTurn}
 use Rattle.hub_core.specs.Turns.{came_by, records_by}
 use Rattle.tp_receiver.specs.Runs.{frames_in}
@@ -7,19 +9,16 @@ use Rattle.std.specs.List.{AllByRecursion}
 use Rattle.std.proofs.lemmas.Bool.{cases_lt}
 use Rattle.hub_core.specs.declared.record.SessionRecord.{SessionRecord}
 use Rattle.hub_core.specs.declared.record.DestRecord.{DestRecord}
-use Rattle.std.specs.Prelude.{option_to_list}
 use Rattle.tp_attempts.specs.Seen.{Seen}
-use Rattle.tp_receiver.specs.declared.set.RxSet.{RxSet}
-use Rattle.tp_sender.specs.Sending.{Moment, OtherLeft, Stepped, Written, box_after, left_by, told_by as sent_by, written_at}
 use Rattle.tp_sender.specs.declared.event.TxEvent.{TxEvent}
 use Rattle.tp_sender.specs.declared.event.TxEvent.TheVariants.{Turn, Fc, Left, RunEnd}
-use Rattle.tp_sender.specs.declared.set.TxSet.{TxSet}
 use Rattle.tp_unit.specs.declared.shape.Shape.{Shape}
 use Rattle.tp_unit.specs.Unit.{Meaning}
-use Rattle.gw_law.specs.Run.{AnswersIn, AreTicks, CameIn, ControlLeaves, EndsReceiving, FrameLeaves, IsAnswerIn, IsRun, IsStepIn, ReceivesIn, SendsIn, Work, control_after, moments_of, tick_after, turns_of}
+use Rattle.gw_law.specs.Run.{AnswersIn, AreTicks, CameIn, ControlLeaves, EndsReceiving, FrameLeaves, IsAnswerIn, IsStepIn, ReceivesIn, SendsIn, Work, control_after, moments_of, tick_after, turns_of}
 use Rattle.gw_law.proofs.Origins.{InTicks}
 use Rattle.gw_law.proofs.Wholes.{AsFar, as-far, as-far-whole}
 use Rattle.gw_law.proofs.Lists.{all-join, all-weaker}
+use Rattle.gw_law.proofs.WholeRun.{WholeRun, works_of}
 
 -- each turn is of such a tick
 abbrev pub TurnIn : (ℕ → Type 0) → RxTurn → Type 0
@@ -52,22 +51,20 @@ answers-in tick Turn at is = absurd is
 answers-in tick Left at is = absurd is
 answers-in tick RunEnd at is = absurd is
 
-answer-in : (tick : ℕ) (moment : Moment) → IsAnswerIn tick moment → InTicks (λ (t : ℕ). t ≡ tick) moment
-answer-in tick (Stepped move) is = answers-in tick move.event move.did.tick is
-answer-in tick (OtherLeft at frame) is = is
+answer-in : (tick : ℕ) (moment : TxTurn) → IsAnswerIn tick moment → InTicks (λ (t : ℕ). t ≡ tick) moment
+answer-in tick move is = answers-in tick move.event move.did.tick is
 
-step-in : (tick : ℕ) (event : TxEvent) (moment : Moment) → IsStepIn tick event moment → InTicks (λ (t : ℕ). t ≡ tick) moment
-step-in tick event (Stepped move) is = is.1
-step-in tick event (OtherLeft at frame) is = is
+step-in : (tick : ℕ) (event : TxEvent) (moment : TxTurn) → IsStepIn tick event moment → InTicks (λ (t : ℕ). t ≡ tick) moment
+step-in tick event move is = is.1
 
-frame-in : (tick : ℕ) (box : Option Meaning) (moments : List Moment) → FrameLeaves tick box moments → AllByRecursion (InTicks (λ (t : ℕ). t ≡ tick)) moments
+frame-in : (tick : ℕ) (box : Option Meaning) (moments : List TxTurn) → FrameLeaves tick box moments → AllByRecursion (InTicks (λ (t : ℕ). t ≡ tick)) moments
 frame-in tick None moments is = rw is tt
 frame-in tick (Some meaning) [] is = tt
 frame-in tick (Some meaning) (moment ∷ more) is = (step-in tick Left moment is.0, rw is.1 tt)
 
-moments-timed : (tick : ℕ) (earlier moments : List Moment) → SendsIn tick earlier moments → AllByRecursion (InTicks (λ (t : ℕ). t ≡ tick)) moments
+moments-timed : (tick : ℕ) (earlier moments : List TxTurn) → SendsIn tick earlier moments → AllByRecursion (InTicks (λ (t : ℕ). t ≡ tick)) moments
 moments-timed tick earlier moments row =
-    rw row.moments_are (all-join (InTicks (λ (t : ℕ). t ≡ tick)) row.left (Stepped row.turn ∷ row.answers) (frame-in tick (box_after (Stepped row.turn ∷ (row.answers ++ earlier))) row.left row.left_is)
+    rw row.moments_are (all-join (InTicks (λ (t : ℕ). t ≡ tick)) row.left (row.turn ∷ row.answers) (frame-in tick (box_after (row.turn ∷ (row.answers ++ earlier))) row.left row.left_is)
     (row.turn_tick, all-weaker (IsAnswerIn tick) (InTicks (λ (t : ℕ). t ≡ tick)) row.answers (answer-in tick) row.answers_only))
 
 ticks-timed : (sizes : List ℕ) (works : List Work) → AreTicks sizes works → AllByRecursion IsTimed works
@@ -79,13 +76,13 @@ end-turns : (last : ℕ) (turns : List RxTurn) → EndsReceiving last turns → 
 end-turns last [] is = tt
 end-turns last (turn ∷ more) is = (is.1, rw is.2 tt)
 
-pub run-timed : (rx : RxSet) (tx : TxSet) (sizes : List ℕ) (last count free : ℕ) (ticks : List Work) (end : Work) → IsRun rx tx sizes last count free ticks end → AllByRecursion IsTimed (end ∷ ticks)
-run-timed rx tx sizes last count free ticks end run = (
+pub run-timed : (o : WholeRun) → AllByRecursion IsTimed (works_of o)
+run-timed o = (
   record {
-    turns = rw run.ends.tick_is (end-turns last end.turns run.ends.receives);
-    moments = rw run.ends.tick_is (all-weaker (IsStepIn last RunEnd) (InTicks (λ (t : ℕ). t ≡ last)) end.moments (step-in last RunEnd) run.ends.sends);
+    turns = rw o.run.ends.tick_is (end-turns o.last o.end.turns o.run.ends.receives);
+    moments = rw o.run.ends.tick_is (all-weaker (IsStepIn o.last RunEnd) (InTicks (λ (t : ℕ). t ≡ o.last)) o.end.moments (step-in o.last RunEnd) o.run.ends.sends);
   },
-  ticks-timed sizes ticks run.ticks_are,
+  ticks-timed o.sizes o.ticks o.run.ticks_are,
 )
 
 -- works of such ticks
@@ -97,9 +94,8 @@ turns-in P [] timed all = tt
 turns-in P (work ∷ earlier) timed all =
     all-join (TurnIn P) work.turns (turns_of earlier) (all-weaker (TurnIn (λ (t : ℕ). t ≡ work.tick)) (TurnIn P) work.turns (λ turn is. subst P (sym is) all.0) timed.0.turns) (turns-in P earlier timed.1 all.1)
 
-moment-in : (P : ℕ → Type 0) (tick : ℕ) (moment : Moment) → P tick → InTicks (λ (t : ℕ). t ≡ tick) moment → InTicks P moment
-moment-in P tick (Stepped move) at is = subst P (sym is) at
-moment-in P tick (OtherLeft time frame) at is = is
+moment-in : (P : ℕ → Type 0) (tick : ℕ) (moment : TxTurn) → P tick → InTicks (λ (t : ℕ). t ≡ tick) moment → InTicks P moment
+moment-in P tick move at is = subst P (sym is) at
 
 pub work-moments-in : (P : ℕ → Type 0) (work : Work) → IsTimed work → P work.tick → AllByRecursion (InTicks P) work.moments
 work-moments-in P work timed at = all-weaker (InTicks (λ (t : ℕ). t ≡ work.tick)) (InTicks P) work.moments (λ moment is. moment-in P work.tick moment at is) timed.moments
@@ -154,17 +150,15 @@ written-in P shape tick Left None at = tt
 written-in P shape tick Left (Some meaning) at = (at, tt)
 written-in P shape tick RunEnd lies at = tt
 
-pub left-more : (P : ℕ → Type 0) (shape : Shape) (moments earlier : List Moment) → AllByRecursion (InTicks P) moments → More (λ (w : Written). P w.tick) (left_by shape earlier) (left_by shape (moments ++ earlier))
+pub left-more : (P : ℕ → Type 0) (shape : Shape) (moments earlier : List TxTurn) → AllByRecursion (InTicks P) moments → More (λ (w : Written). P w.tick) (left_by shape earlier) (left_by shape (moments ++ earlier))
 left-more P shape [] earlier all = none-more (λ (w : Written). P w.tick) (left_by shape earlier)
-left-more P shape (Stepped m ∷ moments) earlier all =
+left-more P shape (m ∷ moments) earlier all =
     next-more (λ (w : Written). P w.tick) (left_by shape earlier) (left_by shape (moments ++ earlier)) (written_at shape m.event m.did.tick (box_after (moments ++ earlier))) (left-more P shape moments earlier all.1)
     (written-in P shape m.did.tick m.event (box_after (moments ++ earlier)) all.0)
-left-more P shape (OtherLeft tick frame ∷ moments) earlier all = absurd all.0
 
-pub sent-more : (moments earlier : List Moment) → More (λ (d : DestRecord). Unit {0}) (sent_by earlier) (sent_by (moments ++ earlier))
-sent-more [] earlier = none-more (λ (d : DestRecord). Unit {0}) (sent_by earlier)
-sent-more (Stepped m ∷ moments) earlier = next-more (λ (d : DestRecord). Unit {0}) (sent_by earlier) (sent_by (moments ++ earlier)) (option_to_list m.did.ended) (sent-more moments earlier) (any (option_to_list m.did.ended))
-sent-more (OtherLeft tick frame ∷ moments) earlier = sent-more moments earlier
+pub sent-more : (moments earlier : List TxTurn) → More (λ (d : DestRecord). Unit {0}) (records_by earlier) (records_by (moments ++ earlier))
+sent-more [] earlier = none-more (λ (d : DestRecord). Unit {0}) (records_by earlier)
+sent-more (m ∷ moments) earlier = next-more (λ (d : DestRecord). Unit {0}) (records_by earlier) (records_by (moments ++ earlier)) m.did.records (sent-more moments earlier) (any m.did.records)
 
 -- the works' ticks never fall
 abbrev pub AreRising : List Work → Type 0
@@ -175,8 +169,8 @@ ticks-rising : (sizes : List ℕ) (works : List Work) → AreTicks sizes works �
 ticks-rising sizes [] ticks = tt
 ticks-rising sizes (work ∷ earlier) ticks = (omega (arith, ticks.0.later), ticks-rising sizes earlier ticks.1)
 
-pub run-rising : (rx : RxSet) (tx : TxSet) (sizes : List ℕ) (last count free : ℕ) (ticks : List Work) (end : Work) → IsRun rx tx sizes last count free ticks end → AreRising (end ∷ ticks)
-run-rising rx tx sizes last count free ticks end run = (omega (arith, run.ends.in_time, run.ends.tick_is), ticks-rising sizes ticks run.ticks_are)
+pub run-rising : (o : WholeRun) → AreRising (works_of o)
+run-rising o = (omega (arith, o.run.ends.in_time, o.run.ends.tick_is), ticks-rising o.sizes o.ticks o.run.ticks_are)
 
 -- works up to a tick, and those after it
 pub record UpTo (tick : ℕ) (works : List Work) : Type 0 where
@@ -200,8 +194,8 @@ up-to tick (work ∷ earlier) rising = elim (cases_lt tick work.tick) [
 ]
 
 -- what holds as far as the works up to a tick
-pub as-far-up-to : (rx : RxSet) (tx : TxSet) (sizes : List ℕ) (last count free : ℕ) (ticks : List Work) (end : Work) (later front : List Work) → later ++ front ≡ end ∷ ticks → IsRun rx tx sizes last count free ticks end → AsFar rx tx sizes front
-as-far-up-to rx tx sizes last count free ticks end [] front is run =
-    let P : List Work → Type 0 = λ l. AsFar rx tx sizes l in
-    subst P (sym is) (as-far-whole rx tx sizes last count free ticks end run)
-as-far-up-to rx tx sizes last count free ticks end (work ∷ later) front is run = let rest : later ++ front ≡ ticks = cc in as-far rx tx sizes last count free ticks end later front rest run
+pub as-far-up-to : (o : WholeRun) (later front : List Work) → later ++ front ≡ works_of o → AsFar o.rx o.tx o.sizes front
+as-far-up-to o [] front is =
+    let P : List Work → Type 0 = λ l. AsFar o.rx o.tx o.sizes l in
+    subst P (sym is) (as-far-whole o)
+as-far-up-to o (work ∷ later) front is = let rest : later ++ front ≡ o.ticks = cc in as-far o later front rest

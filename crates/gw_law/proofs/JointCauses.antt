@@ -23,14 +23,13 @@ use Rattle.tp_attempts.specs.Cuts.{Cut}
 use Rattle.tp_attempts.specs.Seen.{Seen}
 use Rattle.tp_receiver.specs.declared.set.RxSet.{RxSet}
 use Rattle.tp_sender.specs.Frame.{part_after}
-use Rattle.tp_sender.specs.Sending.{calls_by as sent_calls, told_by as sent_by}
 use Rattle.tp_sender.specs.declared.set.TxSet.{TxSet}
 use Rattle.tp_unit.specs.Shape.{IsShape}
 use Rattle.tp_unit.specs.declared.shape.Shape.{Shape}
 use Rattle.tp_unit.proofs.Sizes.{length-address, size_of}
 use Rattle.gw_law.specs.Delivery.{IsNamed, Names}
 use Rattle.gw_law.specs.JointCauses.{AreShort, AreUnread, HasLostSource, HasSeenFew, IsOwnEnd, IsShortBy, IsUnread, JointCauses, Lacks, LacksNext, LacksStart}
-use Rattle.gw_law.specs.Run.{EndsReceiving, IsRun, Route, Work, moments_of, route_of, turns_of, view_of}
+use Rattle.gw_law.specs.Run.{EndsReceiving, Route, Work, moments_of, turns_of, view_of}
 use Rattle.gw_law.specs.Source.{SourceLaw, Tells, is_overflow}
 use Rattle.gw_law.specs.Timely.{delivery_of_route}
 use Rattle.gw_law.specs.Transfer.{NumberedFrom}
@@ -47,6 +46,7 @@ use Rattle.gw_law.proofs.Timely.{timely}
 use Rattle.gw_law.proofs.TransmissionCauses.{causes}
 use Rattle.gw_law.proofs.Lists.{all-at, slice_get-more, zip-back}
 use Rattle.gw_law.proofs.Wholes.{AsFar, as-far, as-far-whole, as-far-within, route-delivers, route-source}
+use Rattle.gw_law.proofs.WholeRun.{WholeRun, route, works_of}
 
 -- a destination's reading of a session, once both ended
 record Meets (tx : TxSet) (session : SessionRecord) (sent : ℕ) (how : DestResult) (ended : Bool) : Type 0 where
@@ -76,12 +76,12 @@ streams-so tx session sent how ended readers s r written stream put shows =
     }
 
 meets : (rx : RxSet) (tx : TxSet) (sizes : List ℕ) (works : List Work) (p k : ℕ) (session : SessionRecord) (opened : OpenedAt) (told : DestRecord) → AsFar rx tx sizes works → slice_get (records_by (turns_of works)) p ≡ Some session → session.opened ≡ Some opened →
-    slice_get (sent_by (moments_of works)) k ≡ Some told → told.seq ≡ opened.seq → Meets tx session told.sent told.result (has_ended (moments_of works))
+    slice_get (records_by (moments_of works)) k ≡ Some told → told.seq ≡ opened.seq → Meets tx session told.sent told.result (has_ended (moments_of works))
 meets rx tx sizes works p k session opened told far is opened_is told_is seq =
     let known = known-sessions rx (turns_of works) far.received in
     let reads = known-readings tx (moments_of works) far.sent in
     let left : IsLeft rx ((grows (calls_by (turns_of works)) empty_view).sessions rx.path.0) session opened = all-at _ (records_by (turns_of works)) p session known.told is opened opened_is in
-    let parted : IsParted tx (has_ended (moments_of works)) _ told = all-at (IsParted tx (has_ended (moments_of works)) _) (sent_by (moments_of works)) k told reads.told told_is in
+    let parted : IsParted tx (has_ended (moments_of works)) _ told = all-at (IsParted tx (has_ended (moments_of works)) _) (records_by (moments_of works)) k told reads.told told_is in
     let path : tx.path.0 ≡ rx.path.0 = ap (λ p. p.0) far.path in
     let stream = far.joint.2.streams.joined tx.path.0 tx.dest.0 told.seq parted.reading (ap (λ l. slice_get l told.seq) far.readings ∙ parted.there) in
     let here : slice_get ((view_of works).sessions rx.path.0) opened.seq ≡ Some left.session = ap (λ l. slice_get l opened.seq) far.sessions ∙ left.there in
@@ -128,20 +128,20 @@ lost-by r session sent ended m sound gone (WantsStart none_sent other few) =
     let less : session.bytes ≢ session.len = λ all. other (m.gone gone ∙ all ∙ sym m.len) in
     (LacksStart none_sent less (λ none. omega (arith, few none, cells-most session.bytes m.reading.seen (m.cells gone))), less)
 
-source-lost : (rx : RxSet) (tx : TxSet) (shape : Shape) (source_budget budget : ℕ) (sizes : List ℕ) (last count free : ℕ) (ticks : List Work) (end : Work) (run : IsRun rx tx sizes last count free ticks end) (k : ℕ) (told : DestRecord) →
-    slice_get (sent_by (moments_of (end ∷ ticks))) k ≡ Some told → told.result ≡ SourceEnded → HasLostSource (route_of rx tx shape source_budget budget sizes last count free ticks end) told
-source-lost rx tx shape source_budget budget sizes last count free ticks end run k told is how =
-    let works : List Work = end ∷ ticks in
-    let r : Route = route_of rx tx shape source_budget budget sizes last count free ticks end in
-    let far : AsFar rx tx sizes works = as-far-whole rx tx sizes last count free ticks end run in
+source-lost : (o : WholeRun) (k : ℕ) (told : DestRecord) →
+    slice_get (records_by (moments_of (works_of o))) k ≡ Some told → told.result ≡ SourceEnded → HasLostSource (route o) told
+source-lost o k told is how =
+    let works : List Work = works_of o in
+    let r : Route = route o in
+    let far : AsFar o.rx o.tx o.sizes works = as-far-whole o in
     let has : Has (IsOpenedBy told) (records_by (turns_of works)) =
-    source-ended rx tx sizes works (λ later front same. as-far-up-to rx tx sizes last count free ticks end later front same run) (run-timed rx tx sizes last count free ticks end run) (run-rising rx tx sizes last count free ticks end run) k told is how in
+    source-ended o.rx o.tx o.sizes works (λ later front same. as-far-up-to o later front same) (run-timed o) (run-rising o) k told is how in
     let opened : OpenedAt = has.holds.0.0 in
-    let P : DestResult → Type 0 = λ h. Meets tx has.item told.sent h (has_ended (moments_of works)) in
-    let m : Meets tx has.item told.sent SourceEnded (has_ended (moments_of works)) = subst P how (meets rx tx sizes works has.place k has.item opened told far has.there has.holds.0.1 is (sym has.holds.0.2)) in
-    let source = route-source rx tx shape source_budget budget sizes last count free ticks end run in
-    let so : IsTold rx.functional r.seen has.place has.item = told-so rx.chan.0 rx.a rx.functional r.seen r.sessions has.place has.item opened source has.there has.holds.0.1 in
-    let lacks : Lacks r has.item told.sent × (has.item.bytes ≢ has.item.len) = lost-by r has.item told.sent (has_ended (moments_of works)) m run.shape m.shows.0 m.shows.1 in
+    let P : DestResult → Type 0 = λ h. Meets o.tx has.item told.sent h (has_ended (moments_of works)) in
+    let m : Meets o.tx has.item told.sent SourceEnded (has_ended (moments_of works)) = subst P how (meets o.rx o.tx o.sizes works has.place k has.item opened told far has.there has.holds.0.1 is (sym has.holds.0.2)) in
+    let source = route-source o in
+    let so : IsTold o.rx.functional r.seen has.place has.item = told-so o.rx.chan.0 o.rx.a o.rx.functional r.seen r.sessions has.place has.item opened source has.there has.holds.0.1 in
+    let lacks : Lacks r has.item told.sent × (has.item.bytes ≢ has.item.len) = lost-by r has.item told.sent (has_ended (moments_of works)) m o.run.shape m.shows.0 m.shows.1 in
     record {
       unit = so.unit;
       session = has.item;
@@ -151,17 +151,17 @@ source-lost rx tx shape source_budget budget sizes last count free ticks end run
       lacks = lacks.0;
     }
 
-seen-few : (rx : RxSet) (tx : TxSet) (shape : Shape) (source_budget budget : ℕ) (sizes : List ℕ) (last count free : ℕ) (ticks : List Work) (end : Work) (run : IsRun rx tx sizes last count free ticks end) (k : ℕ) (told : DestRecord) (seen : ℕ) →
-    slice_get (sent_by (moments_of (end ∷ ticks))) k ≡ Some told → told.result ≡ CsTimeout seen → HasSeenFew (route_of rx tx shape source_budget budget sizes last count free ticks end) told seen
-seen-few rx tx shape source_budget budget sizes last count free ticks end run k told seen is how =
-    let works : List Work = end ∷ ticks in
-    let r : Route = route_of rx tx shape source_budget budget sizes last count free ticks end in
-    let far : AsFar rx tx sizes works = as-far-whole rx tx sizes last count free ticks end run in
-    let names : Names (delivery_of_route r) told = all-at (Names (delivery_of_route r)) r.dests k told (route-delivers rx tx shape source_budget budget sizes last count free ticks end run).names is in
+seen-few : (o : WholeRun) (k : ℕ) (told : DestRecord) (seen : ℕ) →
+    slice_get (records_by (moments_of (works_of o))) k ≡ Some told → told.result ≡ CsTimeout seen → HasSeenFew (route o) told seen
+seen-few o k told seen is how =
+    let works : List Work = works_of o in
+    let r : Route = route o in
+    let far : AsFar o.rx o.tx o.sizes works = as-far-whole o in
+    let names : Names (delivery_of_route r) told = all-at (Names (delivery_of_route r)) r.dests k told (route-delivers o).names is in
     let named : IsNamed (delivery_of_route r) told.seq names.unit names.session = names.named in
-    let P : DestResult → Type 0 = λ h. Meets tx names.session told.sent h (has_ended (moments_of works)) in
-    let m : Meets tx names.session told.sent (CsTimeout seen) (has_ended (moments_of works)) = subst P how (meets rx tx sizes works named.place k names.session named.opened told far named.session_is named.opened_is is (sym named.seq_is)) in
-    let scant : IsScant tx told.sent m.reading = m.shows.1 in
+    let P : DestResult → Type 0 = λ h. Meets o.tx names.session told.sent h (has_ended (moments_of works)) in
+    let m : Meets o.tx names.session told.sent (CsTimeout seen) (has_ended (moments_of works)) = subst P how (meets o.rx o.tx o.sizes works named.place k names.session named.opened told far named.session_is named.opened_is is (sym named.seq_is)) in
+    let scant : IsScant o.tx told.sent m.reading = m.shows.1 in
     let all : counted m.reading.cells ≡ seen = sym (m.all scant.all) ∙ m.shows.0 in
     record {
       unit = names.unit;
@@ -169,27 +169,26 @@ seen-few rx tx shape source_budget budget sizes last count free ticks end run k 
       named = named;
       least = omega (arith, scant.least, all);
       most = omega (arith, m.read, all);
-      few = subst (λ n. n < told.sent + part_after tx.shape names.session.len told.sent) all (subst (λ n. counted m.reading.cells < told.sent + part_after tx.shape n told.sent) m.len scant.few);
+      few = subst (λ n. n < told.sent + part_after o.tx.shape names.session.len told.sent) all (subst (λ n. counted m.reading.cells < told.sent + part_after o.tx.shape n told.sent) m.len scant.few);
     }
 
-short-by : (rx : RxSet) (tx : TxSet) (shape : Shape) (source_budget budget : ℕ) (sizes : List ℕ) (last count free : ℕ) (ticks : List Work) (end : Work) (run : IsRun rx tx sizes last count free ticks end) (k : ℕ) (told : DestRecord) (how : DestResult) →
-    slice_get (sent_by (moments_of (end ∷ ticks))) k ≡ Some told → told.result ≡ how → IsShortBy (route_of rx tx shape source_budget budget sizes last count free ticks end) told how
-short-by rx tx shape source_budget budget sizes last count free ticks end run k told Sent is how = tt
-short-by rx tx shape source_budget budget sizes last count free ticks end run k told SourceEnded is how = source-lost rx tx shape source_budget budget sizes last count free ticks end run k told is how
-short-by rx tx shape source_budget budget sizes last count free ticks end run k told BsTimeout is how = tt
-short-by rx tx shape source_budget budget sizes last count free ticks end run k told FcOverflow is how = tt
-short-by rx tx shape source_budget budget sizes last count free ticks end run k told (InvalidFs status) is how = tt
-short-by rx tx shape source_budget budget sizes last count free ticks end run k told (CsTimeout seen) is how = seen-few rx tx shape source_budget budget sizes last count free ticks end run k told seen is how
-short-by rx tx shape source_budget budget sizes last count free ticks end run k told AsTimeout is how = tt
-short-by rx tx shape source_budget budget sizes last count free ticks end run k told Cancelled is how = tt
-short-by rx tx shape source_budget budget sizes last count free ticks end run k told (RunEnd wait since) is how = tt
+short-by : (o : WholeRun) (k : ℕ) (told : DestRecord) (how : DestResult) →
+    slice_get (records_by (moments_of (works_of o))) k ≡ Some told → told.result ≡ how → IsShortBy (route o) told how
+short-by o k told Sent is how = tt
+short-by o k told SourceEnded is how = source-lost o k told is how
+short-by o k told BsTimeout is how = tt
+short-by o k told FcOverflow is how = tt
+short-by o k told (InvalidFs status) is how = tt
+short-by o k told (CsTimeout seen) is how = seen-few o k told seen is how
+short-by o k told AsTimeout is how = tt
+short-by o k told Cancelled is how = tt
+short-by o k told (RunEnd wait since) is how = tt
 
 -- each record that tells that bytes were lacking
-pub route-short : (rx : RxSet) (tx : TxSet) (shape : Shape) (source_budget budget : ℕ) (sizes : List ℕ) (last count free : ℕ) (ticks : List Work) (end : Work) → IsRun rx tx sizes last count free ticks end →
-    AreShort (route_of rx tx shape source_budget budget sizes last count free ticks end)
-route-short rx tx shape source_budget budget sizes last count free ticks end run =
-    all-by (λ (told : DestRecord). IsShortBy (route_of rx tx shape source_budget budget sizes last count free ticks end) told told.result) (sent_by (moments_of (end ∷ ticks)))
-    (λ k told is. short-by rx tx shape source_budget budget sizes last count free ticks end run k told told.result is refl)
+pub route-short : (o : WholeRun) → AreShort (route o)
+route-short o =
+    all-by (λ (told : DestRecord). IsShortBy (route o) told told.result) (records_by (moments_of (works_of o)))
+    (λ k told is. short-by o k told told.result is refl)
 
 -- a record stands in the place of its session's number
 numbered-at : (first : ℕ) (records : List DestRecord) (p : ℕ) (told : DestRecord) → NumberedFrom first records → slice_get records p ≡ Some told → told.seq ≡ first + p
@@ -214,21 +213,21 @@ in-ticks turns more k session how none (InFirst there) = there
 in-ticks turns more k session how none (InNext j there past) = absurd (all-at (λ (s : SessionRecord). s.result ≡ NoReaders → ⊥) more j session none there how)
 
 -- a destination of a run is one of its path's
-has-dest : (rx : RxSet) (tx : TxSet) (sizes : List ℕ) (last count free : ℕ) (ticks : List Work) (end : Work) → IsRun rx tx sizes last count free ticks end → (k : ℕ) (session : SessionRecord) (opened : OpenedAt) →
-    slice_get (records_by (turns_of (end ∷ ticks))) k ≡ Some session → session.opened ≡ Some opened → tx.dest.0 < rx.readers
-has-dest rx tx sizes last count free ticks end run k session opened is opened_is =
-    let works : List Work = end ∷ ticks in
-    let far : AsFar rx tx sizes works = as-far-whole rx tx sizes last count free ticks end run in
-    let known = known-sessions rx (turns_of works) far.received in
-    let reads = known-readings tx (moments_of works) far.sent in
-    let left : IsLeft rx ((grows (calls_by (turns_of works)) empty_view).sessions rx.path.0) session opened = all-at _ (records_by (turns_of works)) k session known.told is opened opened_is in
-    let path : tx.path.0 ≡ rx.path.0 = ap (λ p. p.0) far.path in
-    let readings : List Reading = (grows (sent_calls (moments_of works)) empty_view).readings tx.path.0 tx.dest.0 in
+has-dest : (o : WholeRun) → (k : ℕ) (session : SessionRecord) (opened : OpenedAt) →
+    slice_get (records_by (turns_of (works_of o))) k ≡ Some session → session.opened ≡ Some opened → o.tx.dest.0 < o.rx.readers
+has-dest o k session opened is opened_is =
+    let works : List Work = works_of o in
+    let far : AsFar o.rx o.tx o.sizes works = as-far-whole o in
+    let known = known-sessions o.rx (turns_of works) far.received in
+    let reads = known-readings o.tx (moments_of works) far.sent in
+    let left : IsLeft o.rx ((grows (calls_by (turns_of works)) empty_view).sessions o.rx.path.0) session opened = all-at _ (records_by (turns_of works)) k session known.told is opened opened_is in
+    let path : o.tx.path.0 ≡ o.rx.path.0 = ap (λ p. p.0) far.path in
+    let readings : List Reading = (grows (calls_by (moments_of works)) empty_view).readings o.tx.path.0 o.tx.dest.0 in
     let inside : opened.seq < length readings =
-    omega (arith, slice_get_within ((grows (calls_by (turns_of works)) empty_view).sessions rx.path.0) opened.seq left.session left.there, run.ends.joined, ap length far.sessions, reads.number) in
+    omega (arith, slice_get_within ((grows (calls_by (turns_of works)) empty_view).sessions o.rx.path.0) opened.seq left.session left.there, o.run.ends.joined, ap length far.sessions, reads.number) in
     let r = slice_get-get_or readings opened.seq (reading_new 0 0) inside in
-    let reading = ap (λ p. slice_get ((view_of works).readings p tx.dest.0) opened.seq) (sym path) ∙ ap (λ l. slice_get l opened.seq) far.readings ∙ r in
-    omega (arith, far.joint.2.owned.joined rx.path.0 tx.dest.0 opened.seq left.session _ (ap (λ l. slice_get l opened.seq) far.sessions ∙ left.there) reading, left.put.dests)
+    let reading = ap (λ p. slice_get ((view_of works).readings p o.tx.dest.0) opened.seq) (sym path) ∙ ap (λ l. slice_get l opened.seq) far.readings ∙ r in
+    omega (arith, far.joint.2.owned.joined o.rx.path.0 o.tx.dest.0 opened.seq left.session _ (ap (λ l. slice_get l opened.seq) far.sessions ∙ left.there) reading, left.put.dests)
 
 -- no destination of a session without readers sent it whole
 own-end : (tx : TxSet) (session : SessionRecord) (sent : ℕ) (how : DestResult) (ended : Bool) → Meets tx session sent how ended → (session.bytes ≡ session.len → ⊥) → IsOther how → IsOwnEnd how
@@ -242,23 +241,23 @@ own-end tx session sent AsTimeout ended m other is = tt
 own-end tx session sent Cancelled ended m other is = tt
 own-end tx session sent (RunEnd wait since) ended m other is = is
 
-unread-opened : (rx : RxSet) (tx : TxSet) (shape : Shape) (source_budget budget : ℕ) (sizes : List ℕ) (last count free : ℕ) (ticks : List Work) (end : Work) (run : IsRun rx tx sizes last count free ticks end) (k : ℕ) (session : SessionRecord) (opened : OpenedAt) →
-    slice_get (records_by (turns_of (end ∷ ticks))) k ≡ Some session → session.result ≡ NoReaders → session.opened ≡ Some opened → IsUnread (route_of rx tx shape source_budget budget sizes last count free ticks end) session
-unread-opened rx tx shape source_budget budget sizes last count free ticks end run k session opened is how opened_is =
-    let works : List Work = end ∷ ticks in
-    let r : Route = route_of rx tx shape source_budget budget sizes last count free ticks end in
-    let far : AsFar rx tx sizes works = as-far-whole rx tx sizes last count free ticks end run in
-    let ends : EndsSo (turns_of ticks) (records_by (turns_of works)) = end-so rx last end.turns (turns_of ticks) run.ends.receives far.received in
-    let there : slice_get (records_by (turns_of ticks)) k ≡ Some session = in-ticks (turns_of ticks) ends.more k session how ends.none (joined (records_by (turns_of ticks)) ends.more k session (ap (λ l. slice_get l k) (sym ends.is) ∙ is)) in
-    let has : Has (LeftBefore session opened) (sent_by (moments_of ticks)) =
-    left-before rx tx sizes ticks (λ later front same. as-far rx tx sizes last count free ticks end later front same run) (λ later earlier work same. as-far-within rx tx sizes last count free ticks end later earlier work same run) run.ticks_are
-    (run-timed rx tx sizes last count free ticks end run).1 (run-rising rx tx sizes last count free ticks end run).1 (has-dest rx tx sizes last count free ticks end run k session opened is opened_is) k session opened there how opened_is in
-    let sent = moments-told (λ (t : ℕ). Unit {0}) tx end.moments (moments_of ticks) far.sent (work-moments-in (λ (t : ℕ). Unit {0}) end (run-timed rx tx sizes last count free ticks end run).0 tt) in
-    let told_is : slice_get (sent_by (moments_of works)) has.place ≡ Some has.item = ap (λ l. slice_get l has.place) sent.is ∙ slice_get-more (sent_by (moments_of ticks)) sent.more has.place has.item has.there in
-    let place : has.item.seq ≡ 0 + has.place = numbered-at 0 (sent_by (moments_of works)) has.place has.item (route-delivers rx tx shape source_budget budget sizes last count free ticks end run).numbered told_is in
+unread-opened : (o : WholeRun) (k : ℕ) (session : SessionRecord) (opened : OpenedAt) →
+    slice_get (records_by (turns_of (works_of o))) k ≡ Some session → session.result ≡ NoReaders → session.opened ≡ Some opened → IsUnread (route o) session
+unread-opened o k session opened is how opened_is =
+    let works : List Work = works_of o in
+    let r : Route = route o in
+    let far : AsFar o.rx o.tx o.sizes works = as-far-whole o in
+    let ends : EndsSo (turns_of o.ticks) (records_by (turns_of works)) = end-so o.rx o.last o.end.turns (turns_of o.ticks) o.run.ends.receives far.received in
+    let there : slice_get (records_by (turns_of o.ticks)) k ≡ Some session = in-ticks (turns_of o.ticks) ends.more k session how ends.none (joined (records_by (turns_of o.ticks)) ends.more k session (ap (λ l. slice_get l k) (sym ends.is) ∙ is)) in
+    let has : Has (LeftBefore session opened) (records_by (moments_of o.ticks)) =
+    left-before o.rx o.tx o.sizes o.ticks (λ later front same. as-far o later front same) (λ later earlier work same. as-far-within o later earlier work same) o.run.ticks_are
+    (run-timed o).1 (run-rising o).1 (has-dest o k session opened is opened_is) k session opened there how opened_is in
+    let sent = moments-told (λ (t : ℕ). Unit {0}) o.tx o.end.moments (moments_of o.ticks) far.sent (work-moments-in (λ (t : ℕ). Unit {0}) o.end (run-timed o).0 tt) in
+    let told_is : slice_get (records_by (moments_of works)) has.place ≡ Some has.item = ap (λ l. slice_get l has.place) sent.is ∙ slice_get-more (records_by (moments_of o.ticks)) sent.more has.place has.item has.there in
+    let place : has.item.seq ≡ 0 + has.place = numbered-at 0 (records_by (moments_of works)) has.place has.item (route-delivers o).numbered told_is in
     let here : has.place ≡ opened.seq = omega (arith, place, has.holds.seq_is) in
-    let source = route-source rx tx shape source_budget budget sizes last count free ticks end run in
-    let so : IsTold rx.functional r.seen k session = told-so rx.chan.0 rx.a rx.functional r.seen r.sessions k session opened source is opened_is in
+    let source = route-source o in
+    let so : IsTold o.rx.functional r.seen k session = told-so o.rx.chan.0 o.rx.a o.rx.functional r.seen r.sessions k session opened source is opened_is in
     record {
       opened = opened;
       opened_is = opened_is;
@@ -266,34 +265,32 @@ unread-opened rx tx shape source_budget budget sizes last count free ticks end r
       told_is = ap (slice_get r.dests) (sym here) ∙ told_is;
       seq_is = has.holds.seq_is;
       before = has.holds.before;
-      cause = own-end tx session has.item.sent has.item.result (has_ended (moments_of works)) (meets rx tx sizes works k has.place session opened has.item far is opened_is told_is has.holds.seq_is)
+      cause = own-end o.tx session has.item.sent has.item.result (has_ended (moments_of works)) (meets o.rx o.tx o.sizes works k has.place session opened has.item far is opened_is told_is has.holds.seq_is)
           (λ all. let no : NoReaders ≡ Whole = sym how ∙ so.whole all in cc) has.holds.other;
     }
 
-unread-by : (rx : RxSet) (tx : TxSet) (shape : Shape) (source_budget budget : ℕ) (sizes : List ℕ) (last count free : ℕ) (ticks : List Work) (end : Work) (run : IsRun rx tx sizes last count free ticks end) (k : ℕ) (session : SessionRecord) (was : Option OpenedAt) →
-    slice_get (records_by (turns_of (end ∷ ticks))) k ≡ Some session → session.result ≡ NoReaders → session.opened ≡ was → is_some was ≡ true → IsUnread (route_of rx tx shape source_budget budget sizes last count free ticks end) session
-unread-by rx tx shape source_budget budget sizes last count free ticks end run k session None is how opened_is some = cc
-unread-by rx tx shape source_budget budget sizes last count free ticks end run k session (Some opened) is how opened_is some = unread-opened rx tx shape source_budget budget sizes last count free ticks end run k session opened is how opened_is
+unread-by : (o : WholeRun) (k : ℕ) (session : SessionRecord) (was : Option OpenedAt) →
+    slice_get (records_by (turns_of (works_of o))) k ≡ Some session → session.result ≡ NoReaders → session.opened ≡ was → is_some was ≡ true → IsUnread (route o) session
+unread-by o k session None is how opened_is some = cc
+unread-by o k session (Some opened) is how opened_is some = unread-opened o k session opened is how opened_is
 
 -- each record that tells that no destination reads
-pub route-unread : (rx : RxSet) (tx : TxSet) (shape : Shape) (source_budget budget : ℕ) (sizes : List ℕ) (last count free : ℕ) (ticks : List Work) (end : Work) → IsRun rx tx sizes last count free ticks end →
-    AreUnread (route_of rx tx shape source_budget budget sizes last count free ticks end)
-route-unread rx tx shape source_budget budget sizes last count free ticks end run =
-    let r : Route = route_of rx tx shape source_budget budget sizes last count free ticks end in
-    let source = route-source rx tx shape source_budget budget sizes last count free ticks end run in
+pub route-unread : (o : WholeRun) → AreUnread (route o)
+route-unread o =
+    let r : Route = route o in
+    let source = route-source o in
     all-by (λ (session : SessionRecord). session.result ≡ NoReaders → IsUnread r session) r.sessions
     (λ k session is how.
-    let at = zip-back (Tells rx.chan.0 rx.a) (attempts_in rx.functional r.seen) r.sessions k session source.tells is in
-    unread-by rx tx shape source_budget budget sizes last count free ticks end run k session session.opened is how refl (at.2.opens ∙ ap (λ h. not (is_overflow h)) how))
+    let at = zip-back (Tells o.rx.chan.0 o.rx.a) (attempts_in o.rx.functional r.seen) r.sessions k session source.tells is in
+    unread-by o k session session.opened is how refl (at.2.opens ∙ ap (λ h. not (is_overflow h)) how))
 
 -- all of them
-pub joint_causes : (rx : RxSet) (tx : TxSet) (shape : Shape) (source_budget budget : ℕ) (sizes : List ℕ) (last count free : ℕ) (ticks : List Work) (end : Work) → 1 ≤ tx.n_bs → IsRun rx tx sizes last count free ticks end →
-    JointCauses (route_of rx tx shape source_budget budget sizes last count free ticks end)
-joint_causes rx tx shape source_budget budget sizes last count free ticks end some run =
-    let source = route-source rx tx shape source_budget budget sizes last count free ticks end run in
+pub joint_causes : (o : WholeRun) → 1 ≤ o.tx.n_bs → JointCauses (route o)
+joint_causes o some =
+    let source = route-source o in
     record {
-      unread = route-unread rx tx shape source_budget budget sizes last count free ticks end run;
-      short = route-short rx tx shape source_budget budget sizes last count free ticks end run;
-      in_time = none-waits (route_of rx tx shape source_budget budget sizes last count free ticks end) run.shape source (causes rx tx shape source_budget budget sizes last count free ticks end some run)
-          (timely rx tx shape source_budget budget sizes last count free ticks end run) (route-delivers rx tx shape source_budget budget sizes last count free ticks end run);
+      unread = route-unread o;
+      short = route-short o;
+      in_time = none-waits (route o) o.run.shape source (causes o some)
+          (timely o) (route-delivers o);
     }

@@ -1,5 +1,7 @@
 -- Which of a session's and its destination's records comes first, tick by tick.
 use Rattle.std.proofs.Common.{◌≡◌, ℕ, ◌+◌, ◌<◌, ◌≤◌, zero, suc, Bool, true, false, Option, Some, None, option_map, List, [], ◌∷◌, ◌++◌, length, refl, ap, sym, ◌∙◌, subst, arith, append-nil}
+use Rattle.tp_sender.specs.State.{TxTurn}
+use Rattle.tp_sender.specs.Runs.{HasSent, box_after}
 use Rattle.tp_receiver.specs.State.{Reception, RxTurn, rx_new}
 use Rattle.tp_receiver.specs.Runs.{HasReceived, frames_in}
 use Rattle.hub_core.specs.Turns.{calls_by, now_of, came_by, state_after, records_by}
@@ -14,7 +16,6 @@ use Rattle.hub_core.specs.declared.record.OpenedAt.{OpenedAt}
 use Rattle.hub_core.specs.declared.record.SessionRecord.{SessionRecord}
 use Rattle.hub_core.specs.declared.record.SessionResult.TheVariants.{NoReaders}
 use Rattle.tp_receiver.specs.declared.set.RxSet.{RxSet}
-use Rattle.tp_sender.specs.Sending.{Moment, OtherLeft, Stepped, Happened as WasSent, box_after, calls_by as sent_calls, told_by as sent_by}
 use Rattle.tp_sender.specs.declared.event.TxEvent.{TxEvent}
 use Rattle.tp_sender.specs.declared.event.TxEvent.TheVariants.{Turn, Fc, Left, RunEnd as EndCame}
 use Rattle.tp_sender.specs.declared.set.TxSet.{TxSet}
@@ -79,10 +80,10 @@ now-by P [] none all = none
 now-by P (turn ∷ turns) none all = all.0
 
 -- a session whose writer a destination saw gone is told by then
-source-gone : (rx : RxSet) (tx : TxSet) (sizes : List ℕ) (works : List Work) (k : ℕ) (told : DestRecord) → AsFar rx tx sizes works → slice_get (sent_by (moments_of works)) k ≡ Some told → told.result ≡ SourceEnded → Has (IsOpenedAs told.seq) (records_by (turns_of works))
+source-gone : (rx : RxSet) (tx : TxSet) (sizes : List ℕ) (works : List Work) (k : ℕ) (told : DestRecord) → AsFar rx tx sizes works → slice_get (records_by (moments_of works)) k ≡ Some told → told.result ≡ SourceEnded → Has (IsOpenedAs told.seq) (records_by (turns_of works))
 source-gone rx tx sizes works k told far is ended =
     let reads = known-readings tx (moments_of works) far.sent in
-    let parted : IsParted tx (has_ended (moments_of works)) _ told = all-at (IsParted tx (has_ended (moments_of works)) _) (sent_by (moments_of works)) k told reads.told is in
+    let parted : IsParted tx (has_ended (moments_of works)) _ told = all-at (IsParted tx (has_ended (moments_of works)) _) (records_by (moments_of works)) k told reads.told is in
     let P : DestResult → Type 0 = λ how. ShowsBy tx (has_ended (moments_of works)) told.sent parted.reading how in
     let gone : parted.reading.writer ≡ false = (subst P ended parted.shows).0 in
     let stream = far.joint.2.streams.joined tx.path.0 tx.dest.0 told.seq parted.reading (ap (λ l. slice_get l told.seq) far.readings ∙ parted.there) in
@@ -106,7 +107,7 @@ abbrev pub IsOpenedBy : DestRecord → SessionRecord → Type 0
 IsOpenedBy told session = IsOpenedAs told.seq session × (session.end.0 ≤ told.end.0)
 
 ended-here : (rx : RxSet) (tx : TxSet) (sizes : List ℕ) (earlier : List Work) (work : Work) (k : ℕ) (told : DestRecord) → AsFar rx tx sizes (work ∷ earlier) → AllByRecursion IsTimed (work ∷ earlier) → AreRising (work ∷ earlier) →
-    slice_get (sent_by (moments_of (work ∷ earlier))) k ≡ Some told → told.result ≡ SourceEnded → told.end.0 ≡ work.tick → Has (IsOpenedBy told) (records_by (turns_of (work ∷ earlier)))
+    slice_get (records_by (moments_of (work ∷ earlier))) k ≡ Some told → told.result ≡ SourceEnded → told.end.0 ≡ work.tick → Has (IsOpenedBy told) (records_by (turns_of (work ∷ earlier)))
 ended-here rx tx sizes earlier work k told far timed rising is how at =
     let has = source-gone rx tx sizes (work ∷ earlier) k told far is how in
     let now : now_of (turns_of (work ∷ earlier)) ≤ work.tick =
@@ -115,8 +116,8 @@ ended-here rx tx sizes earlier work k told far timed rising is how at =
     record { place = has.place; item = has.item; there = has.there; holds = (has.holds, omega (arith, over.ended, now, at)) }
 
 ended-in : (rx : RxSet) (tx : TxSet) (sizes : List ℕ) (earlier : List Work) (work : Work) (k : ℕ) (told : DestRecord) (more : List DestRecord) → AsFar rx tx sizes (work ∷ earlier) → AllByRecursion IsTimed (work ∷ earlier) → AreRising (work ∷ earlier) →
-    slice_get (sent_by (moments_of (work ∷ earlier))) k ≡ Some told → told.result ≡ SourceEnded → AllByRecursion (λ (t : DestRecord). t.end.0 ≡ work.tick) more → (slice_get (sent_by (moments_of earlier)) k ≡ Some told → Has (IsOpenedBy told) (records_by (turns_of earlier))) →
-    Joined (sent_by (moments_of earlier)) more k told → Has (IsOpenedBy told) (records_by (turns_of (work ∷ earlier)))
+    slice_get (records_by (moments_of (work ∷ earlier))) k ≡ Some told → told.result ≡ SourceEnded → AllByRecursion (λ (t : DestRecord). t.end.0 ≡ work.tick) more → (slice_get (records_by (moments_of earlier)) k ≡ Some told → Has (IsOpenedBy told) (records_by (turns_of earlier))) →
+    Joined (records_by (moments_of earlier)) more k told → Has (IsOpenedBy told) (records_by (turns_of (work ∷ earlier)))
 ended-in rx tx sizes earlier work k told more far timed rising is how all before (InFirst there) =
     let grown = turns-told (λ (t : ℕ). t ≡ work.tick) rx work.turns (turns_of earlier) far.received timed.0.turns in
     let P : List SessionRecord → Type 0 = λ l. Has (IsOpenedBy told) l in
@@ -124,7 +125,7 @@ ended-in rx tx sizes earlier work k told more far timed rising is how all before
 ended-in rx tx sizes earlier work k told more far timed rising is how all before (InNext j there past) =
     ended-here rx tx sizes earlier work k told far timed rising is how (all-at (λ (t : DestRecord). t.end.0 ≡ work.tick) more j told all there)
 
-pub source-ended : (rx : RxSet) (tx : TxSet) (sizes : List ℕ) (works : List Work) → FarUpTo rx tx sizes works → AllByRecursion IsTimed works → AreRising works → (k : ℕ) (told : DestRecord) → slice_get (sent_by (moments_of works)) k ≡ Some told → told.result ≡ SourceEnded →
+pub source-ended : (rx : RxSet) (tx : TxSet) (sizes : List ℕ) (works : List Work) → FarUpTo rx tx sizes works → AllByRecursion IsTimed works → AreRising works → (k : ℕ) (told : DestRecord) → slice_get (records_by (moments_of works)) k ≡ Some told → told.result ≡ SourceEnded →
     Has (IsOpenedBy told) (records_by (turns_of works))
 source-ended rx tx sizes [] far timed rising k told is how = cc
 source-ended rx tx sizes (work ∷ earlier) far timed rising k told is how =
@@ -132,17 +133,15 @@ source-ended rx tx sizes (work ∷ earlier) far timed rising k told is how =
     let grown = moments-told (λ (t : ℕ). t ≡ work.tick) tx work.moments (moments_of earlier) here.sent timed.0.moments in
     ended-in rx tx sizes earlier work k told grown.more here timed rising is how grown.all
     (λ there. source-ended rx tx sizes earlier (λ later front same. far (work ∷ later) front (ap (λ l. work ∷ l) same)) timed.1 rising.1 k told there how)
-    (joined (sent_by (moments_of earlier)) grown.more k told (ap (λ l. slice_get l k) (sym grown.is) ∙ is))
+    (joined (records_by (moments_of earlier)) grown.more k told (ap (λ l. slice_get l k) (sym grown.is) ∙ is))
 
 -- in a run's ticks the run's end isn't told
-abbrev NoEnd : Moment → Type 0
-NoEnd (Stepped m) = (before : Bool) → ends_by m.event before ≡ before
-NoEnd (OtherLeft tick frame) = Unit {0}
+abbrev NoEnd : TxTurn → Type 0
+NoEnd m = (before : Bool) → ends_by m.event before ≡ before
 
-no-end : (moments earlier : List Moment) → AllByRecursion NoEnd moments → has_ended (moments ++ earlier) ≡ has_ended earlier
+no-end : (moments earlier : List TxTurn) → AllByRecursion NoEnd moments → has_ended (moments ++ earlier) ≡ has_ended earlier
 no-end [] earlier all = refl
-no-end (Stepped m ∷ moments) earlier all = all.0 (has_ended (moments ++ earlier)) ∙ no-end moments earlier all.1
-no-end (OtherLeft tick frame ∷ moments) earlier all = no-end moments earlier all.1
+no-end (m ∷ moments) earlier all = all.0 (has_ended (moments ++ earlier)) ∙ no-end moments earlier all.1
 
 answer-goes : (tick : ℕ) (event : TxEvent) (at : ℕ) → AnswersIn tick event at → (before : Bool) → ends_by event before ≡ before
 answer-goes tick (Fc status block_size separation) at is before = refl
@@ -150,16 +149,14 @@ answer-goes tick Turn at is before = refl
 answer-goes tick Left at is before = refl
 answer-goes tick EndCame at is before = absurd is
 
-answers-go : (tick : ℕ) (moments : List Moment) → AllByRecursion (IsAnswerIn tick) moments → AllByRecursion NoEnd moments
+answers-go : (tick : ℕ) (moments : List TxTurn) → AllByRecursion (IsAnswerIn tick) moments → AllByRecursion NoEnd moments
 answers-go tick [] all = tt
-answers-go tick (Stepped m ∷ moments) all = (answer-goes tick m.event m.did.tick all.0, answers-go tick moments all.1)
-answers-go tick (OtherLeft at frame ∷ moments) all = absurd all.0
+answers-go tick (m ∷ moments) all = (answer-goes tick m.event m.did.tick all.0, answers-go tick moments all.1)
 
-left-goes : (tick : ℕ) (moment : Moment) → IsStepIn tick Left moment → NoEnd moment
-left-goes tick (Stepped m) is = λ before. ap (λ e. ends_by e before) is.0
-left-goes tick (OtherLeft at frame) is = tt
+left-goes : (tick : ℕ) (moment : TxTurn) → IsStepIn tick Left moment → NoEnd moment
+left-goes tick m is = λ before. ap (λ e. ends_by e before) is.0
 
-frame-goes : (tick : ℕ) (box : Option Meaning) (moments : List Moment) → FrameLeaves tick box moments → AllByRecursion NoEnd moments
+frame-goes : (tick : ℕ) (box : Option Meaning) (moments : List TxTurn) → FrameLeaves tick box moments → AllByRecursion NoEnd moments
 frame-goes tick None moments is = rw is tt
 frame-goes tick (Some meaning) [] is = tt
 frame-goes tick (Some meaning) (moment ∷ more) is = (left-goes tick moment is.0, rw is.1 tt)
@@ -169,7 +166,7 @@ ticks-go sizes [] ticks = refl
 ticks-go sizes (work ∷ earlier) ticks =
     let row : SendsIn work.tick (moments_of earlier) work.moments = ticks.0.sends in
     let all : AllByRecursion NoEnd work.moments =
-    rw row.moments_are (all-join NoEnd row.left (Stepped row.turn ∷ row.answers) (frame-goes work.tick (box_after (Stepped row.turn ∷ (row.answers ++ moments_of earlier))) row.left row.left_is)
+    rw row.moments_are (all-join NoEnd row.left (row.turn ∷ row.answers) (frame-goes work.tick (box_after (row.turn ∷ (row.answers ++ moments_of earlier))) row.left row.left_is)
     (λ before. ap (λ e. ends_by e before) row.turn_is, answers-go work.tick row.answers row.answers_only)) in
     no-end work.moments (moments_of earlier) all ∙ ticks-go sizes earlier ticks.1
 
@@ -203,8 +200,8 @@ pub record LeftBefore (session : SessionRecord) (opened : OpenedAt) (told : Dest
 
 -- in the tick of the session's record
 left-here : (rx : RxSet) (tx : TxSet) (sizes : List ℕ) (earlier : List Work) (work : Work) (k : ℕ) (session : SessionRecord) (opened : OpenedAt) → AsFarWithin rx tx sizes earlier work → tx.dest.0 < rx.readers → has_ended (moments_of earlier) ≡ false →
-    AllByRecursion (λ (t : DestRecord). t.end.0 < work.tick) (sent_by (moments_of earlier)) → slice_get (records_by (turns_of (work ∷ earlier))) k ≡ Some session → session.result ≡ NoReaders → session.opened ≡ Some opened → session.end.0 ≡ work.tick →
-    ((j : ℕ) (a : SessionRecord) → slice_get (records_by (turns_of earlier)) j ≡ Some a → (slice_get (records_by (turns_of (work ∷ earlier))) j ≡ Some a) × (j < k)) → Has (LeftBefore session opened) (sent_by (moments_of earlier))
+    AllByRecursion (λ (t : DestRecord). t.end.0 < work.tick) (records_by (moments_of earlier)) → slice_get (records_by (turns_of (work ∷ earlier))) k ≡ Some session → session.result ≡ NoReaders → session.opened ≡ Some opened → session.end.0 ≡ work.tick →
+    ((j : ℕ) (a : SessionRecord) → slice_get (records_by (turns_of earlier)) j ≡ Some a → (slice_get (records_by (turns_of (work ∷ earlier))) j ≡ Some a) × (j < k)) → Has (LeftBefore session opened) (records_by (moments_of earlier))
 left-here rx tx sizes earlier work k session opened far below none past is how opened_is at new =
     let known = known-sessions rx (turns_of (work ∷ earlier)) far.received in
     let left : IsLeft rx ((grows (calls_by (turns_of (work ∷ earlier))) empty_view).sessions rx.path.0) session opened = all-at _ (records_by (turns_of (work ∷ earlier))) k session known.told is opened opened_is in
@@ -212,17 +209,17 @@ left-here rx tx sizes earlier work k session opened far below none past is how o
     let there : slice_get ((view_between earlier work).sessions rx.path.0) opened.seq ≡ Some left.session = ap (λ l. slice_get l opened.seq) far.sessions ∙ left.there in
     let gone = far.joint.2.owned.no_readers rx.path.0 opened.seq left.session there (left.none how) tx.dest.0 (omega (arith, below, left.put.dests)) in
     let reads = known-readings tx (moments_of earlier) far.before.sent in
-    let reading : slice_get ((grows (sent_calls (moments_of earlier)) empty_view).readings tx.path.0 tx.dest.0) opened.seq ≡ Some gone.0 =
+    let reading : slice_get ((grows (calls_by (moments_of earlier)) empty_view).readings tx.path.0 tx.dest.0) opened.seq ≡ Some gone.0 =
     sym (ap (λ l. slice_get l opened.seq) far.readings) ∙ ap (λ p. slice_get ((view_between earlier work).readings p tx.dest.0) opened.seq) path ∙ gone.1 in
     let has = reads.left opened.seq gone.0 reading gone.2 in
-    let parted : IsParted tx (has_ended (moments_of earlier)) _ has.item = all-at (IsParted tx (has_ended (moments_of earlier)) _) (sent_by (moments_of earlier)) has.place has.item reads.told has.there in
+    let parted : IsParted tx (has_ended (moments_of earlier)) _ has.item = all-at (IsParted tx (has_ended (moments_of earlier)) _) (records_by (moments_of earlier)) has.place has.item reads.told has.there in
     record {
       place = has.place;
       item = has.item;
       there = has.there;
       holds = record {
         seq_is = has.holds;
-        before = omega (arith, at, all-at (λ (t : DestRecord). t.end.0 < work.tick) (sent_by (moments_of earlier)) has.place has.item past has.there);
+        before = omega (arith, at, all-at (λ (t : DestRecord). t.end.0 < work.tick) (records_by (moments_of earlier)) has.place has.item past has.there);
         other = is-other tx (has_ended (moments_of earlier)) has.item.sent parted.reading has.item.result none (λ ended.
             let source = source-gone rx tx sizes earlier has.place has.item far.before has.there ended in
             let same = new source.place source.item source.there in
@@ -235,29 +232,29 @@ before-tick : (bound : ℕ) (works : List Work) → tick_after works ≤ bound �
 before-tick bound [] below rising = tt
 before-tick bound (work ∷ earlier) below rising = (omega (arith, below), before-tick bound earlier (omega (arith, below, rising.0)) rising.1)
 
-told-before : (tx : TxSet) (bound : ℕ) (works : List Work) → WasSent tx (moments_of works) → AllByRecursion IsTimed works → tick_after works ≤ bound → AreRising works → AllByRecursion (λ (t : DestRecord). t.end.0 < bound) (sent_by (moments_of works))
+told-before : (tx : TxSet) (bound : ℕ) (works : List Work) → HasSent tx (moments_of works) → AllByRecursion IsTimed works → tick_after works ≤ bound → AreRising works → AllByRecursion (λ (t : DestRecord). t.end.0 < bound) (records_by (moments_of works))
 told-before tx bound works sent timed below rising =
-    let P : List Moment → Type 0 = λ ms. WasSent tx ms in
+    let P : List TxTurn → Type 0 = λ ms. HasSent tx ms in
     let all = moments-told (λ (t : ℕ). t < bound) tx (moments_of works) [] (subst P (sym (append-nil (moments_of works))) sent) (moments-in (λ (t : ℕ). t < bound) works timed (before-tick bound works below rising)) in
     let Q : List DestRecord → Type 0 = λ l. AllByRecursion (λ (t : DestRecord). t.end.0 < bound) l in
-    subst Q (sym all.is ∙ ap sent_by (append-nil (moments_of works))) all.all
+    subst Q (sym all.is ∙ ap records_by (append-nil (moments_of works))) all.all
 
 left-in : (rx : RxSet) (tx : TxSet) (sizes : List ℕ) (earlier : List Work) (work : Work) (k : ℕ) (session : SessionRecord) (opened : OpenedAt) (more : List SessionRecord) (later : List DestRecord) → AsFarWithin rx tx sizes earlier work → tx.dest.0 < rx.readers →
-    has_ended (moments_of earlier) ≡ false → AllByRecursion (λ (t : DestRecord). t.end.0 < work.tick) (sent_by (moments_of earlier)) → slice_get (records_by (turns_of (work ∷ earlier))) k ≡ Some session → session.result ≡ NoReaders → session.opened ≡ Some opened →
-    AllByRecursion (λ (t : SessionRecord). t.end.0 ≡ work.tick) more → records_by (turns_of (work ∷ earlier)) ≡ records_by (turns_of earlier) ++ more → sent_by (moments_of (work ∷ earlier)) ≡ sent_by (moments_of earlier) ++ later →
-    (slice_get (records_by (turns_of earlier)) k ≡ Some session → Has (LeftBefore session opened) (sent_by (moments_of earlier))) → Joined (records_by (turns_of earlier)) more k session → Has (LeftBefore session opened) (sent_by (moments_of (work ∷ earlier)))
+    has_ended (moments_of earlier) ≡ false → AllByRecursion (λ (t : DestRecord). t.end.0 < work.tick) (records_by (moments_of earlier)) → slice_get (records_by (turns_of (work ∷ earlier))) k ≡ Some session → session.result ≡ NoReaders → session.opened ≡ Some opened →
+    AllByRecursion (λ (t : SessionRecord). t.end.0 ≡ work.tick) more → records_by (turns_of (work ∷ earlier)) ≡ records_by (turns_of earlier) ++ more → records_by (moments_of (work ∷ earlier)) ≡ records_by (moments_of earlier) ++ later →
+    (slice_get (records_by (turns_of earlier)) k ≡ Some session → Has (LeftBefore session opened) (records_by (moments_of earlier))) → Joined (records_by (turns_of earlier)) more k session → Has (LeftBefore session opened) (records_by (moments_of (work ∷ earlier)))
 left-in rx tx sizes earlier work k session opened more later far below none past is how opened_is all grown sent before (InFirst there) =
     let P : List DestRecord → Type 0 = λ l. Has (LeftBefore session opened) l in
-    subst P (sym sent) (has-more (LeftBefore session opened) (sent_by (moments_of earlier)) later (before there))
+    subst P (sym sent) (has-more (LeftBefore session opened) (records_by (moments_of earlier)) later (before there))
 left-in rx tx sizes earlier work k session opened more later far below none past is how opened_is all grown sent before (InNext j there beyond) =
     let P : List DestRecord → Type 0 = λ l. Has (LeftBefore session opened) l in
-    subst P (sym sent) (has-more (LeftBefore session opened) (sent_by (moments_of earlier)) later
+    subst P (sym sent) (has-more (LeftBefore session opened) (records_by (moments_of earlier)) later
     (left-here rx tx sizes earlier work k session opened far below none past is how opened_is (all-at (λ (t : SessionRecord). t.end.0 ≡ work.tick) more j session all there)
     (λ i a at. (ap (λ l. slice_get l i) grown ∙ slice_get-more (records_by (turns_of earlier)) more i a at, omega (arith, beyond, slice_get_within (records_by (turns_of earlier)) i a at)))))
 
 -- each session that no destination reads
 pub left-before : (rx : RxSet) (tx : TxSet) (sizes : List ℕ) (works : List Work) → FarUpTo rx tx sizes works → FarWithin rx tx sizes works → AreTicks sizes works → AllByRecursion IsTimed works → AreRising works → tx.dest.0 < rx.readers → (k : ℕ) (session : SessionRecord)
-    (opened : OpenedAt) → slice_get (records_by (turns_of works)) k ≡ Some session → session.result ≡ NoReaders → session.opened ≡ Some opened → Has (LeftBefore session opened) (sent_by (moments_of works))
+    (opened : OpenedAt) → slice_get (records_by (turns_of works)) k ≡ Some session → session.result ≡ NoReaders → session.opened ≡ Some opened → Has (LeftBefore session opened) (records_by (moments_of works))
 left-before rx tx sizes [] far within ticks timed rising below k session opened is how opened_is = cc
 left-before rx tx sizes (work ∷ earlier) far within ticks timed rising below k session opened is how opened_is =
     let here : AsFar rx tx sizes (work ∷ earlier) = far [] (work ∷ earlier) refl in

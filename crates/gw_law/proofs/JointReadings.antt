@@ -1,5 +1,8 @@
 -- What a view has of the readings that a destination's records tell: the destination left them, with what it saw and read.
 use Rattle.std.proofs.Common.{◌≡◌, ◌≢◌, ℕ, ◌+◌, ◌<◌, ◌≤◌, Bool, true, false, Option, Some, None, List, [], ◌∷◌, ◌++◌, length, refl, ap, sym, ◌∙◌, arith, inl, inr}
+use Rattle.tp_sender.specs.State.{Transmission}
+use Rattle.tp_sender.specs.declared.transmission.Phase.{Phase}
+use Rattle.tp_sender.specs.declared.transmission.Phase.TheVariants.{Start, Bytes, Box, Fc, Gap}
 use Rattle.std.specs.Prelude.{slice_get}
 use Rattle.std.specs.List.{AllByRecursion}
 use Rattle.std.proofs.lemmas.Bool.{cases_eq}
@@ -12,10 +15,7 @@ use Rattle.hub_core.specs.declared.record.DestRecord.{DestRecord}
 use Rattle.hub_core.specs.declared.record.DestResult.{DestResult}
 use Rattle.hub_core.specs.declared.record.DestResult.TheVariants.{Sent, SourceEnded, BsTimeout, FcOverflow, InvalidFs, CsTimeout, AsTimeout, Cancelled, RunEnd as EndOfRun}
 use Rattle.tp_sender.specs.Frame.{part_after}
-use Rattle.tp_sender.specs.State.{Sending}
 use Rattle.tp_sender.specs.Table.{next_part}
-use Rattle.tp_sender.specs.declared.live.Phase.{Phase}
-use Rattle.tp_sender.specs.declared.live.Phase.TheVariants.{Start, Bytes, Box, Fc, Gap}
 use Rattle.tp_sender.specs.declared.set.TxSet.{TxSet}
 use Rattle.gw_law.proofs.JointLists.{Before, Has, Last, Pushed, has-last, has-more, other-place, pushed}
 use Rattle.gw_law.proofs.Lists.{all-push, all-weaker, slice_get-more}
@@ -59,7 +59,7 @@ boxed Fc part = 0
 boxed (Gap until) part = 0
 
 -- the reading of the session that is being sent: what was read left, lies in the box or is carried
-pub record IsReading (set : TxSet) (readings : List Reading) (s : Sending) (P : Reading → Type 0) : Type 0 where
+pub record IsReading (set : TxSet) (readings : List Reading) (s : Transmission) (P : Reading → Type 0) : Type 0 where
   pub reading : Reading
   pub there : slice_get readings s.seq ≡ Some reading
   pub stands : reading.stands ≡ true
@@ -69,7 +69,7 @@ pub record IsReading (set : TxSet) (readings : List Reading) (s : Sending) (P : 
   pub early : s.phase ≡ Start → s.sent ≡ 0
   pub so : P reading
 
-abbrev pub IsReadingBy : TxSet → List Reading → Option Sending → (Reading → Type 0) → Type 0
+abbrev pub IsReadingBy : TxSet → List Reading → Option Transmission → (Reading → Type 0) → Type 0
 IsReadingBy set readings None P = Unit {0}
 IsReadingBy set readings (Some s) P = IsReading set readings s P
 
@@ -77,7 +77,7 @@ abbrev pub IsToldOf : ℕ → DestRecord → Type 0
 IsToldOf seq told = told.seq ≡ seq
 
 -- the destination's readings are those of its records and the one of the session that is being sent
-pub record Reads (set : TxSet) (ended : Bool) (readings : List Reading) (records : List DestRecord) (next : ℕ) (live : Option Sending) (P : Reading → Type 0) : Type 0 where
+pub record Reads (set : TxSet) (ended : Bool) (readings : List Reading) (records : List DestRecord) (next : ℕ) (live : Option Transmission) (P : Reading → Type 0) : Type 0 where
   pub number : length readings ≡ next
   pub told : AllByRecursion (IsParted set ended readings) records
   pub left : (k : ℕ) (r : Reading) → slice_get readings k ≡ Some r → r.stands ≡ false → Has (IsToldOf k) records
@@ -105,7 +105,7 @@ shows-ended set ended sent r AsTimeout shows = shows
 shows-ended set ended sent r Cancelled shows = shows
 shows-ended set ended sent r (EndOfRun wait since) shows = refl
 
-pub reads-ended : (set : TxSet) (ended : Bool) (readings : List Reading) (records : List DestRecord) (next : ℕ) (live : Option Sending) (P : Reading → Type 0) → Reads set ended readings records next live P → Reads set true readings records next live P
+pub reads-ended : (set : TxSet) (ended : Bool) (readings : List Reading) (records : List DestRecord) (next : ℕ) (live : Option Transmission) (P : Reading → Type 0) → Reads set ended readings records next live P → Reads set true readings records next live P
 reads-ended set ended readings records next live P reads = record {
   number = reads.number;
   told = all-weaker (IsParted set ended readings) (IsParted set true readings) records (λ told is. record { reading = is.reading; there = is.there; stands = is.stands; shows = shows-ended set ended told.sent is.reading told.result is.shows }) reads.told;
@@ -119,7 +119,7 @@ joined-left : (records : List DestRecord) (readings : List Reading) (new : Readi
 joined-left records readings new k r stands left known (Before is) = known k r is left
 joined-left records readings new k r stands left known (Last same) = absurd (stands-both r new same left stands)
 
-pub reads-joined : (set : TxSet) (ended : Bool) (readings : List Reading) (records : List DestRecord) (next buf len : ℕ) (s : Sending) → s.seq ≡ next → s.len ≡ len → s.at ≡ 0 → s.sent ≡ 0 → s.phase ≡ Start → s.carried ≡ [] →
+pub reads-joined : (set : TxSet) (ended : Bool) (readings : List Reading) (records : List DestRecord) (next buf len : ℕ) (s : Transmission) → s.seq ≡ next → s.len ≡ len → s.at ≡ 0 → s.sent ≡ 0 → s.phase ≡ Start → s.carried ≡ [] →
     Reads set ended readings records next None NoMore → Reads set ended (readings ++ reading_new buf len ∷ []) records (next + 1) (Some s) NoMore
 reads-joined set ended readings records next buf len s seq len_is at sent phase carried reads =
     let new : Reading = reading_new buf len in
@@ -141,7 +141,7 @@ reads-joined set ended readings records next buf len s seq len_is at sent phase 
     }
 
 -- the reading changes
-changed-told : (set : TxSet) (ended : Bool) (readings : List Reading) (s : Sending) (P : Reading → Type 0) (change : Reading → Reading) (records : List DestRecord) → IsReading set readings s P → AllByRecursion (IsParted set ended readings) records →
+changed-told : (set : TxSet) (ended : Bool) (readings : List Reading) (s : Transmission) (P : Reading → Type 0) (change : Reading → Reading) (records : List DestRecord) → IsReading set readings s P → AllByRecursion (IsParted set ended readings) records →
     AllByRecursion (IsParted set ended (change_at s.seq change readings)) records
 changed-told set ended readings s P change records going told =
     all-weaker (IsParted set ended readings) (IsParted set ended (change_at s.seq change readings)) records (λ told is. record {
@@ -151,7 +151,7 @@ changed-told set ended readings s P change records going told =
       shows = is.shows;
     }) told
 
-pub reads-changed : (set : TxSet) (ended : Bool) (readings : List Reading) (records : List DestRecord) (next : ℕ) (s t : Sending) (P Q : Reading → Type 0) (change : Reading → Reading) → t.seq ≡ s.seq → t.len ≡ s.len → ((r : Reading) → (change r).stands ≡ r.stands) →
+pub reads-changed : (set : TxSet) (ended : Bool) (readings : List Reading) (records : List DestRecord) (next : ℕ) (s t : Transmission) (P Q : Reading → Type 0) (change : Reading → Reading) → t.seq ≡ s.seq → t.len ≡ s.len → ((r : Reading) → (change r).stands ≡ r.stands) →
     ((r : Reading) → (change r).len ≡ r.len) → ((r : Reading) → length r.cells ≡ s.at → length (change r).cells ≡ t.at) →
     ((r : Reading) → s.sent + boxed s.phase (next_part set s) + length s.carried ≡ counted r.cells → t.sent + boxed t.phase (next_part set t) + length t.carried ≡ counted (change r).cells) → ((s.phase ≡ Start → s.sent ≡ 0) → t.phase ≡ Start → t.sent ≡ 0) → ((r : Reading) → P r → Q (change r)) →
     Reads set ended readings records next (Some s) P → Reads set ended (change_at s.seq change readings) records next (Some t) Q
@@ -177,7 +177,7 @@ reads-changed set ended readings records next s t P Q change seq len_is keeps le
     }
 
 -- the session goes on as another one of the same reading
-pub reads-like : (set : TxSet) (ended : Bool) (readings : List Reading) (records : List DestRecord) (next : ℕ) (s t : Sending) (P Q : Reading → Type 0) → t.seq ≡ s.seq → t.len ≡ s.len → t.at ≡ s.at →
+pub reads-like : (set : TxSet) (ended : Bool) (readings : List Reading) (records : List DestRecord) (next : ℕ) (s t : Transmission) (P Q : Reading → Type 0) → t.seq ≡ s.seq → t.len ≡ s.len → t.at ≡ s.at →
     t.sent + boxed t.phase (next_part set t) + length t.carried ≡ s.sent + boxed s.phase (next_part set s) + length s.carried → ((s.phase ≡ Start → s.sent ≡ 0) → t.phase ≡ Start → t.sent ≡ 0) → ((r : Reading) → P r → Q r) →
     Reads set ended readings records next (Some s) P → Reads set ended readings records next (Some t) Q
 reads-like set ended readings records next s t P Q seq len_is at held starts on reads = record {
@@ -197,7 +197,7 @@ reads-like set ended readings records next s t P Q seq len_is at held starts on 
 }
 
 -- the destination leaves, and it is told
-pub reads-parted : (set : TxSet) (ended : Bool) (readings : List Reading) (records : List DestRecord) (next : ℕ) (s : Sending) (P : Reading → Type 0) (told : DestRecord) → told.seq ≡ s.seq →
+pub reads-parted : (set : TxSet) (ended : Bool) (readings : List Reading) (records : List DestRecord) (next : ℕ) (s : Transmission) (P : Reading → Type 0) (told : DestRecord) → told.seq ≡ s.seq →
     ((r : Reading) → r.len ≡ s.len → length r.cells ≡ s.at → s.sent + boxed s.phase (next_part set s) + length s.carried ≡ counted r.cells → (s.phase ≡ Start → s.sent ≡ 0) → P r → ShowsBy set ended told.sent (record r { stands = false }) told.result) →
     Reads set ended readings records next (Some s) P → Reads set ended (change_at s.seq (λ r. record r { stands = false }) readings) (records ++ told ∷ []) next None NoMore
 reads-parted set ended readings records next s P told seq shows reads =

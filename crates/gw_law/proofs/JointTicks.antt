@@ -1,30 +1,20 @@
 -- Each record tells whose it is, and as its end the tick of the step that made it.
 use Rattle.std.proofs.Common.{◌≡◌, ℕ, ◌+◌, Bool, true, false, Option, Some, None, List, [], ◌∷◌, ◌++◌, refl, ap, sym, ◌∙◌, subst, append-nil, append_assoc}
+use Rattle.tp_sender.specs.Runs.{HasSent}
+use Rattle.tp_sender.specs.State.{TxTurn, tx_new}
 use Rattle.tp_receiver.specs.State.{Reception, RxState, RxEvent, RxDid, Came, Timer, FcLeft, RunEnd, RxTurn, rx_new}
 use Rattle.tp_receiver.specs.Table.{due, Begins, Carries, Ends as RxEnds, FirstRow, Grants, Interrupts, Overflows as RxOverflows, RxStep, Starts, overflow, NoneReads, All as GrantsAll, NoBuffer, Completes, NoBufferFirst, Opened, NoneReadsOn, TooLittleRoom, Adds, Fills, TooLong, TooShort, WrongNumber, RightNumber, InTime, TooLate as RxTooLate, FromBox, NotAwaited}
 use Rattle.tp_receiver.specs.Runs.{HasReceived}
 use Rattle.hub_core.specs.Turns.{state_after, records_by}
-use Rattle.std.specs.Prelude.{option_to_list, take}
+use Rattle.std.specs.Prelude.{take}
 use Rattle.std.specs.List.{AllByRecursion}
-use Rattle.hub_core.specs.View.{Event}
-use Rattle.hub_core.specs.declared.port.Seen.{Seen}
 use Rattle.hub_core.specs.declared.record.DestRecord.{DestRecord}
-use Rattle.hub_core.specs.declared.record.DestResult.{DestResult}
-use Rattle.hub_core.specs.declared.record.DestResult.TheVariants.{Sent, SourceEnded, BsTimeout, FcOverflow, InvalidFs, CsTimeout, AsTimeout, RunEnd as EndOfRun}
 use Rattle.hub_core.specs.declared.record.RxLimit.TheVariants.{Cf as CfLimit}
 use Rattle.hub_core.specs.declared.record.SessionRecord.{SessionRecord}
 use Rattle.hub_core.specs.declared.record.SessionResult.{SessionResult}
 use Rattle.hub_core.specs.declared.record.SessionResult.TheVariants.{Whole, WrongSn, RxTimeout, Restarted, NoRoom, NoReaders, RunEnd as RxEnd}
-use Rattle.hub_core.specs.declared.record.TxWait.TheVariants.{Turn as ForTurn}
 use Rattle.tp_receiver.specs.declared.set.RxSet.{RxSet}
-use Rattle.tp_sender.specs.Sending.{Happened, Moment, OtherLeft, Stepped, state_from, told_by as sent_by}
-use Rattle.tp_sender.specs.State.{Sending}
-use Rattle.tp_sender.specs.Table.{Did, Ends, FrameLeft, InAnswer, InBytes, InStart, InTurn, InWait, Lacks, TxMove, TxRow, all_sent, fetched, in_phase, joined_in, revoked, wait_of}
-use Rattle.tp_sender.specs.Table.{AsksToWait, Continues, Due, Enough, FindsOne, FirstLeft, GapLasts, GapOver, IsInvalid, Joins, LastLeft, MayCome, NeverReached, NextLeft, NotDue, NotReached, NothingStands, NothingToSend, Overflows, Reached, Short, TooLate, WriterGone}
-use Rattle.tp_sender.specs.declared.event.TxEvent.{TxEvent}
-use Rattle.tp_sender.specs.declared.event.TxEvent.TheVariants.{Turn, Fc as CameFc, Left, RunEnd}
-use Rattle.tp_sender.specs.declared.live.Phase.{Phase}
-use Rattle.tp_sender.specs.declared.live.Phase.TheVariants.{Start, Bytes, Box, Fc, Gap}
+use Rattle.tp_sender.specs.declared.event.TxEvent.TheVariants.{RunEnd}
 use Rattle.tp_sender.specs.declared.set.TxSet.{TxSet}
 use Rattle.tp_unit.specs.Unit.{BoxMeaning, Keeps, Offers, Meaning, SingleFrame, FirstFrame, ConsecutiveFrame, FlowControl, NoUnit}
 use Rattle.gw_law.proofs.Fronts.{TurnIn}
@@ -127,14 +117,13 @@ pub record MoreSent (P : DestRecord → Type 0) (front whole : List DestRecord) 
   pub is : whole ≡ front ++ more
   pub all : AllByRecursion P more
 
-pub moments-told : (P : ℕ → Type 0) (set : TxSet) (moments earlier : List Moment) → Happened set (moments ++ earlier) → AllByRecursion (InTicks P) moments → MoreSent (λ (told : DestRecord). P told.end.0) (sent_by earlier) (sent_by (moments ++ earlier))
-moments-told P set [] earlier happened all = record { more = []; is = sym (append-nil (sent_by earlier)); all = tt }
-moments-told P set (Stepped m ∷ moments) earlier happened all =
-    let so = moments-told P set moments earlier happened.3 all.1 in
+pub moments-told : (P : ℕ → Type 0) (set : TxSet) (moments earlier : List TxTurn) → HasSent set (moments ++ earlier) → AllByRecursion (InTicks P) moments → MoreSent (λ (told : DestRecord). P told.end.0) (records_by earlier) (records_by (moments ++ earlier))
+moments-told P set [] earlier happened all = record { more = []; is = sym (append-nil (records_by earlier)); all = tt }
+moments-told P set (m ∷ moments) earlier happened all =
+    let so = moments-told P set moments earlier happened.2 all.1 in
     record {
-      more = so.more ++ option_to_list m.did.ended;
-      is = ap (λ l. l ++ option_to_list m.did.ended) so.is ∙ append_assoc (sent_by earlier) so.more (option_to_list m.did.ended);
-      all = all-join (λ (told : DestRecord). P told.end.0) so.more (option_to_list m.did.ended) so.all
-          (all-weaker (IsToldBy Any set m.did) (λ (told : DestRecord). P told.end.0) (option_to_list m.did.ended) (λ told is. subst P (sym is.end) all.0) (told-by set (state_from (moments ++ earlier)) m happened.2));
+      more = so.more ++ m.did.records;
+      is = ap (λ l. l ++ m.did.records) so.is ∙ append_assoc (records_by earlier) so.more m.did.records;
+      all = all-join (λ (told : DestRecord). P told.end.0) so.more m.did.records so.all
+          (all-weaker (IsToldBy Any set m.did) (λ (told : DestRecord). P told.end.0) m.did.records (λ told is. subst P (sym is.end) all.0) (told-by set (state_after tx_new (moments ++ earlier)) m happened.1.1));
     }
-moments-told P set (OtherLeft tick frame ∷ moments) earlier happened all = absurd all.0

@@ -1,5 +1,6 @@
 -- No destination waits longer for the next frame's bytes than its limit.
 use Rattle.std.proofs.Common.{◌≡◌, ℕ, ◌+◌, ◌-◌, ◌<◌, ◌≤◌, Bool, true, false, ◌&&◌, ◌==◌, if◌then◌else◌, nat_le, Option, Some, None, List, [], ◌∷◌, ◌++◌, length, map, take, min, inl, inr, refl, ap, sym, ◌∙◌, subst, arith, append-nil}
+use Rattle.tp_sender.specs.Runs.{Answer, Written}
 use Rattle.std.specs.Prelude.{filter, fold, nat_lt, slice_get}
 use Rattle.std.specs.List.{AllByRecursion}
 use Rattle.std.proofs.lemmas.Bool.{cases_lt}
@@ -15,7 +16,6 @@ use Rattle.tp_attempts.specs.Cuts.{Cut}
 use Rattle.tp_attempts.specs.Seen.{Seen, bytes_of, is_start, len_of, seen_frame}
 use Rattle.tp_attempts.specs.Walk.{Piece, Walk, begun, due, due_number, is_open, joined, look, look_at, reassembled, walk_of}
 use Rattle.tp_sender.specs.Frame.{part_after}
-use Rattle.tp_sender.specs.Sending.{Answer, Written}
 use Rattle.tp_unit.proofs.RoundTrip.{reads_back}
 use Rattle.tp_unit.proofs.Sizes.{length-address, length-frame_of-first, size_of}
 use Rattle.tp_unit.specs.Shape.{IsShape, address_size, fits_shape}

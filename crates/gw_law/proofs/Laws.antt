@@ -12,6 +12,7 @@ use Rattle.gw_law.proofs.ReceptionCauses.{reception_causes}
 use Rattle.gw_law.proofs.Timely.{timely}
 use Rattle.gw_law.proofs.TransmissionCauses.{causes}
 use Rattle.gw_law.proofs.Wholes.{route-delivers, route-each, route-source}
+use Rattle.gw_law.proofs.WholeRun.{WholeRun}
 use Rattle.tp_receiver.specs.declared.set.RxSet.{RxSet}
 use Rattle.tp_sender.specs.declared.set.TxSet.{TxSet}
 use Rattle.tp_unit.specs.declared.shape.Shape.{Shape}
@@ -20,18 +21,19 @@ pub laws : (rx : RxSet) (tx : TxSet) (shape : Shape) (source_budget budget : ℕ
     HasLawfulLimits rx tx shape source_budget budget → IsSmall (route_of rx tx shape source_budget budget sizes last count free ticks end) →
     IsRun rx tx sizes last count free ticks end → Lawful (route_of rx tx shape source_budget budget sizes last count free ticks end)
 laws rx tx shape source_budget budget sizes last count free ticks end limits small run =
-    let received = reception_causes rx tx shape source_budget budget sizes last count free ticks end limits.shape_is limits.n_cr small run in
+    let o : WholeRun = record { rx = rx; tx = tx; shape = shape; source_budget = source_budget; budget = budget; sizes = sizes; last = last; count = count; free = free; ticks = ticks; end = end; run = run } in
+    let received = reception_causes o limits.shape_is limits.n_cr small in
     record {
-      records = records_law_of rx tx shape source_budget budget sizes last count free ticks end run;
-      source = route-source rx tx shape source_budget budget sizes last count free ticks end run;
-      delivery = route-delivers rx tx shape source_budget budget sizes last count free ticks end run;
-      each = route-each rx tx shape source_budget budget sizes last count free ticks end run;
-      timely = timely rx tx shape source_budget budget sizes last count free ticks end run;
-      pool = pool_of rx tx shape source_budget budget sizes last count free ticks end run;
-      bus = bus_law_of rx tx shape source_budget budget sizes last count free ticks end limits.source_budget_is limits.budget_is run;
-      controls = flow_control_law_of rx tx shape source_budget budget sizes last count free ticks end limits.n_ar run;
+      records = records_law_of o;
+      source = route-source o;
+      delivery = route-delivers o;
+      each = route-each o;
+      timely = timely o;
+      pool = pool_of o;
+      bus = bus_law_of o limits.source_budget_is limits.budget_is;
+      controls = flow_control_law_of o limits.n_ar;
       receptions = received.0;
       never_boxed = received.1;
-      transmissions = causes rx tx shape source_budget budget sizes last count free ticks end limits.n_bs run;
-      joint = joint_causes rx tx shape source_budget budget sizes last count free ticks end limits.n_bs run;
+      transmissions = causes o limits.n_bs;
+      joint = joint_causes o limits.n_bs;
     }

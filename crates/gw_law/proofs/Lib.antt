@@ -1,3 +1,4 @@
+mod WholeRun
 pub mod Lists
 pub mod Sessions
 pub mod Stores
@@ -35,6 +36,7 @@ mod TxCausesMoments
 pub mod TxCausesEnd
 pub mod TransmissionCauses
 mod Deliveries
+mod OtherFrames
 mod EachSession
 pub mod Wholes
 mod Begins

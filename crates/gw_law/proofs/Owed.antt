@@ -1,5 +1,6 @@
 -- What the flow controls of a source channel answer so far, and how each part of a step changes it.
 use Rattle.std.proofs.Common.{◌≡◌, ◌⊎◌, inl, inr, ℕ, suc, ◌+◌, ◌<◌, ◌≤◌, true, false, Option, Some, None, List, [], ◌∷◌, ◌++◌, length, refl, ap, sym, ◌∙◌, subst, arith, append-nil}
+use Rattle.tp_sender.specs.Runs.{Written, box_then}
 use Rattle.tp_receiver.specs.State.{Reception}
 use Rattle.tp_receiver.specs.Table.{revoking, continue_to_send, overflow}
 use Rattle.std.specs.Prelude.{slice_get}
@@ -10,7 +11,6 @@ use Rattle.hub_core.specs.declared.record.RxWait.TheVariants.{Box, Cf}
 use Rattle.hub_core.specs.declared.record.SessionRecord.{SessionRecord}
 use Rattle.tp_attempts.specs.Seen.{Seen}
 use Rattle.tp_receiver.specs.declared.set.RxSet.{RxSet}
-use Rattle.tp_sender.specs.Sending.{Written, box_then}
 use Rattle.tp_unit.specs.declared.shape.Shape.{Shape}
 use Rattle.tp_unit.specs.Unit.{Meaning}
 use Rattle.tp_unit.specs.Writing.{frame_of}

@@ -1,5 +1,7 @@
 -- The pool's law of a whole run over one route: its sessions are those of its source channel, and at its end all are over.
 use Rattle.std.proofs.Common.{◌≡◌, ℕ, ◌<◌, ◌≤◌, zero, suc, cond, Option, Some, None, List, [], ◌∷◌, ◌++◌, length, map, get_or, inl, inr, refl, ap, sym, ◌∙◌, subst, arith, append-nil}
+use Rattle.tp_sender.specs.Runs.{HasSent}
+use Rattle.tp_sender.specs.State.{tx_new}
 use Rattle.hub_core.specs.Moves.{move_of}
 use Rattle.tp_receiver.specs.Runs.{HasReceived}
 use Rattle.hub_core.specs.Turns.{calls_by, state_after}
@@ -14,27 +16,26 @@ use Rattle.hub_core.specs.View.{View, Change, Taken, Event, Session, Reading, Re
 use Rattle.hub_core.specs.View.{Took, Refused, Closed, Parted}
 use Rattle.hub_core.specs.declared.record.Move.{Move}
 use Rattle.tp_receiver.specs.declared.set.RxSet.{RxSet}
-use Rattle.tp_sender.specs.Sending.{Happened as WasSent, calls_by as sent_calls, state_from}
 use Rattle.tp_sender.specs.declared.set.TxSet.{TxSet}
-use Rattle.tp_unit.specs.declared.shape.Shape.{Shape}
 use Rattle.gw_law.specs.Pool.{AreAllOver, AreAllUsed, IsIn, IsPoolRun, Source}
 use Rattle.gw_law.specs.PoolOfRoute.{PoolOf}
-use Rattle.gw_law.specs.Run.{IsRun, Work, moments_of, route_of, turns_of, view_between, view_of}
-use Rattle.gw_law.proofs.OwnCalls.{received-calls, received-front, sent-front}
+use Rattle.gw_law.specs.Run.{Work, moments_of, turns_of, view_between, view_of}
 use Rattle.gw_law.proofs.Pools.{named_of, pool_ends_of, pool_law_of}
 use Rattle.gw_law.proofs.Standing.{IsUsed, Stands, takes_of}
 use Rattle.gw_law.proofs.StandingReader.{moments-step, session_of as sent_session}
 use Rattle.gw_law.proofs.StandingWriter.{session_of, turns-step}
 use Rattle.gw_law.proofs.Wholes.{sessions-own}
 use Rattle.gw_law.proofs.Lists.{all-join, mapped-at, slice_get-more}
+use Rattle.gw_law.proofs.WholeRun.{WholeRun, route, works_of}
 use Rattle.hub_core.proofs.Growing.{slice_get-pushed}
+use Rattle.hub_core.proofs.Turns.{calls-append, happened-front}
 
 -- what both parties have left after some works
 AfterWorks : RxSet → TxSet → List Work → Type 0
 AfterWorks rx tx works =
-    Stands rx.path.0 tx.dest.0 rx.readers (state_after rx_new (turns_of works)).seq (session_of (state_after rx_new (turns_of works)).busy) (state_from (moments_of works)).next (sent_session (state_from (moments_of works)).live) (view_of works)
+    Stands rx.path.0 tx.dest.0 rx.readers (state_after rx_new (turns_of works)).seq (session_of (state_after rx_new (turns_of works)).busy) (state_after tx_new (moments_of works)).next (sent_session (state_after tx_new (moments_of works)).live) (view_of works)
 
-after-works : (rx : RxSet) (tx : TxSet) (works : List Work) → tx.path ≡ rx.path → HasReceived rx (turns_of works) → WasSent tx (moments_of works) → AfterWorks rx tx works
+after-works : (rx : RxSet) (tx : TxSet) (works : List Work) → tx.path ≡ rx.path → HasReceived rx (turns_of works) → HasSent tx (moments_of works) → AfterWorks rx tx works
 unfolding AfterWorks
 after-works rx tx [] path received sent = record {
   written = record { count = refl; left = λ k s is. absurd cc; used = tt };
@@ -42,10 +43,10 @@ after-works rx tx [] path received sent = record {
   read = record { count = refl; left = λ k r is. absurd cc };
 }
 after-works rx tx (work ∷ earlier) path received sent =
-    let before = after-works rx tx earlier path (received-front rx work.turns (turns_of earlier) received) (sent-front tx work.moments (moments_of earlier) sent) in
+    let before = after-works rx tx earlier path (happened-front _ work.turns (turns_of earlier) received) (happened-front _ work.moments (moments_of earlier) sent) in
     let state = state_after rx_new (turns_of (work ∷ earlier)) in
-    let old = state_from (moments_of earlier) in
-    let new = state_from (moments_of (work ∷ earlier)) in
+    let old = state_after tx_new (moments_of earlier) in
+    let new = state_after tx_new (moments_of (work ∷ earlier)) in
     let between = turns-step rx work.turns (turns_of earlier) received tx.dest.0 old.next (sent_session old.live) (view_of earlier) before in
     let P : ℕ → Type 0 = λ p. Stands p tx.dest.0 rx.readers state.seq (session_of state.busy) old.next (sent_session old.live) (view_between earlier work) in
     let Q : ℕ → Type 0 = λ p. Stands p tx.dest.0 rx.readers state.seq (session_of state.busy) new.next (sent_session new.live) (view_of (work ∷ earlier)) in
@@ -99,8 +100,8 @@ calls-in (work ∷ earlier) =
     let before : List Event = calls_by (turns_of earlier) in
     let calls : List Event = calls_by work.turns in
     let P : List Event → Type 0 = λ c. AllByRecursion (IsIn (view_of (work ∷ earlier))) c in
-    subst P (sym (received-calls work.turns (turns_of earlier)))
-    (all-stay between (view_of (work ∷ earlier)) (before ++ calls) (stay-by (sent_calls work.moments) between)
+    subst P (sym (calls-append work.turns (turns_of earlier)))
+    (all-stay between (view_of (work ∷ earlier)) (before ++ calls) (stay-by (calls_by work.moments) between)
     (all-join (IsIn between) before calls (all-stay (view_of earlier) between before (stay-by calls (view_of earlier)) (calls-in earlier)) (are-in calls (view_of earlier))))
 
 -- no other path has sessions
@@ -153,43 +154,42 @@ only-first : {A : Type 0} (x y : A) (place : ℕ) → slice_get (x ∷ []) place
 only-first x y zero is = refl
 only-first x y (suc place) is = absurd cc
 
-after-run : (rx : RxSet) (tx : TxSet) (sizes : List ℕ) (last count free : ℕ) (ticks : List Work) (end : Work) → IsRun rx tx sizes last count free ticks end →
-    Stands rx.path.0 tx.dest.0 1 (state_after rx_new (turns_of (end ∷ ticks))).seq None (state_from (moments_of (end ∷ ticks))).next None (view_of (end ∷ ticks))
+after-run : (o : WholeRun) →
+    Stands o.rx.path.0 o.tx.dest.0 1 (state_after rx_new (turns_of (works_of o))).seq None (state_after tx_new (moments_of (works_of o))).next None (view_of (works_of o))
 unfolding AfterWorks
-after-run rx tx sizes last count free ticks end run =
-    let works : List Work = end ∷ ticks in
+after-run o =
+    let works : List Work = works_of o in
     let seq : ℕ = (state_after rx_new (turns_of works)).seq in
-    let next : ℕ = (state_from (moments_of works)).next in
-    let P : ℕ → Option ℕ → Option ℕ → Type 0 = λ dests writes reads. Stands rx.path.0 tx.dest.0 dests seq writes next reads (view_of works) in
-    let Q : ℕ → Type 0 = λ dests. P dests (session_of (state_after rx_new (turns_of works)).busy) (sent_session (state_from (moments_of works)).live) in
-    let R : Option ℕ → Type 0 = λ writes. P 1 writes (sent_session (state_from (moments_of works)).live) in
+    let next : ℕ = (state_after tx_new (moments_of works)).next in
+    let P : ℕ → Option ℕ → Option ℕ → Type 0 = λ dests writes reads. Stands o.rx.path.0 o.tx.dest.0 dests seq writes next reads (view_of works) in
+    let Q : ℕ → Type 0 = λ dests. P dests (session_of (state_after rx_new (turns_of works)).busy) (sent_session (state_after tx_new (moments_of works)).live) in
+    let R : Option ℕ → Type 0 = λ writes. P 1 writes (sent_session (state_after tx_new (moments_of works)).live) in
     let S : Option ℕ → Type 0 = λ reads. P 1 None reads in
-    subst S (ap sent_session run.ends.idle.sender) (subst R (ap session_of run.ends.idle.receiver) (subst Q run.readers (after-works rx tx works run.path run.received run.sent)))
+    subst S (ap sent_session o.run.ends.idle.sender) (subst R (ap session_of o.run.ends.idle.receiver) (subst Q o.run.readers (after-works o.rx o.tx works o.run.path o.run.received o.run.sent)))
 
-is-pool-run : (rx : RxSet) (tx : TxSet) (sizes : List ℕ) (last count free : ℕ) (ticks : List Work) (end : Work) → IsRun rx tx sizes last count free ticks end →
-    IsPoolRun (source_of rx (end ∷ ticks) ∷ []) sizes count free (view_of (end ∷ ticks)) (map move_of (view_of (end ∷ ticks)).changes)
-is-pool-run rx tx sizes last count free ticks end run =
-    let works : List Work = end ∷ ticks in
-    let so = after-run rx tx sizes last count free ticks end run in
+is-pool-run : (o : WholeRun) →
+    IsPoolRun (source_of o.rx (works_of o) ∷ []) o.sizes o.count o.free (view_of (works_of o)) (map move_of (view_of (works_of o)).changes)
+is-pool-run o =
+    let works : List Work = works_of o in
+    let so = after-run o in
     record {
-      joint = run.joint;
+      joint = o.run.joint;
       moves_are = refl;
-      in_order = run.in_order;
-      runs = (record { received = run.received; idle = run.ends.idle.receiver; calls = calls-in works; sessions = sessions-own rx tx works run.received run.sent }, tt);
-      apart = λ chan other one two at there same. only-first (source_of rx works) one chan at ∙ sym (only-first (source_of rx works) two other there);
-      all = λ path seq s at. (0, source_of rx works, refl, sym (own-path rx.path.0 tx.dest.0 1 (state_after rx_new (turns_of works)).seq (state_from (moments_of works)).next (view_of works) None None so path seq s at));
+      in_order = o.run.in_order;
+      runs = (record { received = o.run.received; idle = o.run.ends.idle.receiver; calls = calls-in works; sessions = sessions-own o.rx o.tx works o.run.received o.run.sent }, tt);
+      apart = λ chan other one two at there same. only-first (source_of o.rx works) one chan at ∙ sym (only-first (source_of o.rx works) two other there);
+      all = λ path seq s at. (0, source_of o.rx works, refl, sym (own-path o.rx.path.0 o.tx.dest.0 1 (state_after rx_new (turns_of works)).seq (state_after tx_new (moments_of works)).next (view_of works) None None so path seq s at));
     }
 
-pub pool_of : (rx : RxSet) (tx : TxSet) (shape : Shape) (source_budget budget : ℕ) (sizes : List ℕ) (last count free : ℕ) (ticks : List Work) (end : Work) → IsRun rx tx sizes last count free ticks end →
-    PoolOf (route_of rx tx shape source_budget budget sizes last count free ticks end)
-pool_of rx tx shape source_budget budget sizes last count free ticks end run =
-    let works : List Work = end ∷ ticks in
+pub pool_of : (o : WholeRun) → PoolOf (route o)
+pool_of o =
+    let works : List Work = works_of o in
     let v : View = view_of works in
-    let sources : List Source = source_of rx works ∷ [] in
+    let sources : List Source = source_of o.rx works ∷ [] in
     let moves : List Move = map move_of v.changes in
-    let so = after-run rx tx sizes last count free ticks end run in
-    let pool = is-pool-run rx tx sizes last count free ticks end run in
-    let over : AreAllOver v = all-over sizes count free rx.path.0 tx.dest.0 (state_after rx_new (turns_of works)).seq (state_from (moments_of works)).next v run.joint so run.ends.joined in
-    let named = named_of sources sizes count free v moves pool (all-used rx.path.0 tx.dest.0 1 (state_after rx_new (turns_of works)).seq (state_from (moments_of works)).next v None None so) in
-    let ends = pool_ends_of sources sizes count free v moves pool over in
-    record { law = pool_law_of sources sizes count free v moves pool; ends = ends; named = named; whole = ends.whole named }
+    let so = after-run o in
+    let pool = is-pool-run o in
+    let over : AreAllOver v = all-over o.sizes o.count o.free o.rx.path.0 o.tx.dest.0 (state_after rx_new (turns_of works)).seq (state_after tx_new (moments_of works)).next v o.run.joint so o.run.ends.joined in
+    let named = named_of sources o.sizes o.count o.free v moves pool (all-used o.rx.path.0 o.tx.dest.0 1 (state_after rx_new (turns_of works)).seq (state_after tx_new (moments_of works)).next v None None so) in
+    let ends = pool_ends_of sources o.sizes o.count o.free v moves pool over in
+    record { law = pool_law_of sources o.sizes o.count o.free v moves pool; ends = ends; named = named; whole = ends.whole named }

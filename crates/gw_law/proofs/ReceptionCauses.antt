@@ -1,5 +1,6 @@
 -- Each record of the source channel's receptions comes of its cause, in every run.
 use Rattle.std.proofs.Common.{◌≡◌, ℕ, ◌+◌, ◌≤◌, inl, inr, Option, Some, None, List, [], ◌∷◌, ◌++◌, zero, suc, refl, ap, sym, ◌∙◌, subst, arith, append-nil}
+use Rattle.tp_sender.specs.Runs.{Written}
 use Rattle.tp_receiver.specs.State.{Reception, RxEvent, RxDid, RunEnd, RxTurn, rx_new}
 use Rattle.tp_receiver.specs.Table.{ended, EndRow, RxStep, continue_to_send}
 use Rattle.tp_receiver.specs.Runs.{HasReceived, frames_in}
@@ -19,13 +20,10 @@ use Rattle.tp_attempts.specs.Seen.{Seen}
 use Rattle.tp_attempts.specs.Walk.{Piece, last_place, walk_of}
 use Rattle.tp_attempts.proofs.Walks.{last_place-more}
 use Rattle.tp_receiver.specs.declared.set.RxSet.{RxSet}
-use Rattle.tp_sender.specs.Sending.{Written}
-use Rattle.tp_sender.specs.declared.set.TxSet.{TxSet}
-use Rattle.tp_unit.specs.declared.shape.Shape.{Shape}
 use Rattle.tp_unit.specs.Shape.{IsShape, address_size}
 use Rattle.tp_unit.specs.Unit.{Meaning}
 use Rattle.gw_law.specs.ReceptionCauses.{AreCaused, AreNeverBoxed, HasCause, HasRoom, IsCaused, IsNeverBoxed, IsShortStart, IsSmall, LetGoIn, StillWaits}
-use Rattle.gw_law.specs.Run.{EndsReceiving, IsRun, Route, Work, control_after, control_at, controls_by, route_of, tick_after, turns_of}
+use Rattle.gw_law.specs.Run.{EndsReceiving, Route, control_after, control_at, controls_by, tick_after, turns_of}
 use Rattle.gw_law.specs.Source.{Tells}
 use Rattle.gw_law.proofs.RxCauses.{IsGoing, all-late, SoBy, WaitsSo, so_far}
 use Rattle.gw_law.proofs.RxLooks.{all-look}
@@ -34,6 +32,7 @@ use Rattle.gw_law.proofs.RxSettled.{AreSettled, Comes, IsLast, IsSettled, starts
 use Rattle.gw_law.proofs.RxTicks.{AreOver, ordered, over_of}
 use Rattle.gw_law.proofs.SourceLaws.{source_law_of}
 use Rattle.gw_law.proofs.Lists.{none-some, zip-push}
+use Rattle.gw_law.proofs.WholeRun.{WholeRun, route, works_of}
 
 last-is : (begin at : ℕ) (pieces : List Piece) → IsLast at pieces → last_place begin pieces ≡ at
 last-is begin at pieces last = ap (last_place begin) last.are ∙ last_place-more begin last.front last.piece ∙ last.at_is
@@ -167,32 +166,31 @@ zip-first P Q (x ∷ xs) [] all = absurd all
 zip-first P Q (x ∷ xs) (y ∷ ys) all = let rest = zip-first P Q xs ys all.1 in ((all.0.0, rest.0), (all.0.1, rest.1))
 
 -- in every run each record of the source channel comes of its cause, and none waits for a box
-pub reception_causes : (rx : RxSet) (tx : TxSet) (shape : Shape) (source_budget budget : ℕ) (sizes : List ℕ) (last count free : ℕ) (ticks : List Work) (end : Work) → IsShape shape → 1 ≤ rx.n_cr → IsSmall (route_of rx tx shape source_budget budget sizes last count free ticks end) →
-    IsRun rx tx sizes last count free ticks end →
-    AreCaused (route_of rx tx shape source_budget budget sizes last count free ticks end) × AreNeverBoxed (route_of rx tx shape source_budget budget sizes last count free ticks end)
-reception_causes rx tx shape source_budget budget sizes last count free ticks end sound some small run =
-    let r : Route = route_of rx tx shape source_budget budget sizes last count free ticks end in
-    let turns : List RxTurn = turns_of ticks in
-    let one : IsOneEnd last end.turns = one-end last end.turns run.ends.receives in
-    let H : List RxTurn → Type 0 = λ t. HasReceived rx (t ++ turns) in
-    let happened : HasReceived rx (one.turn ∷ turns) = subst H one.is run.received in
-    let before : HasReceived rx turns = happened.2 in
-    let over : AreOver (tick_after ticks) turns = ordered rx sizes ticks run.ticks_are before in
-    let law = source_law_of rx (turns_of (end ∷ ticks)) run.received run.ends.idle.receiver in
-    let controls : controls_by shape (end.turns ++ turns) ≡ controls_by shape turns = ap (λ t. controls_by shape (t ++ turns)) one.is ∙ ap (λ e. controls_by shape turns ++ control_at shape e one.turn.did.tick (control_after turns)) one.event ∙ append-nil (controls_by shape turns) in
-    let seen : came_by frames_in (end.turns ++ turns) ≡ came_by frames_in turns = ap (λ t. came_by frames_in (t ++ turns)) one.is ∙ ap (λ e. came_by frames_in turns ++ frames_in one.turn.did.tick e) one.event ∙ append-nil (came_by frames_in turns) in
-    let told : records_by (end.turns ++ turns) ≡ records_by turns ++ one.turn.did.records = ap (λ t. records_by (t ++ turns)) one.is in
+pub reception_causes : (o : WholeRun) → IsShape o.shape → 1 ≤ o.rx.n_cr → IsSmall (route o) →
+    AreCaused (route o) × AreNeverBoxed (route o)
+reception_causes o sound some small =
+    let r : Route = route o in
+    let turns : List RxTurn = turns_of o.ticks in
+    let one : IsOneEnd o.last o.end.turns = one-end o.last o.end.turns o.run.ends.receives in
+    let H : List RxTurn → Type 0 = λ t. HasReceived o.rx (t ++ turns) in
+    let happened : HasReceived o.rx (one.turn ∷ turns) = subst H one.is o.run.received in
+    let before : HasReceived o.rx turns = happened.2 in
+    let over : AreOver (tick_after o.ticks) turns = ordered o.rx o.sizes o.ticks o.run.ticks_are before in
+    let law = source_law_of o.rx (turns_of (works_of o)) o.run.received o.run.ends.idle.receiver in
+    let controls : controls_by o.shape (o.end.turns ++ turns) ≡ controls_by o.shape turns = ap (λ t. controls_by o.shape (t ++ turns)) one.is ∙ ap (λ e. controls_by o.shape turns ++ control_at o.shape e one.turn.did.tick (control_after turns)) one.event ∙ append-nil (controls_by o.shape turns) in
+    let seen : came_by frames_in (o.end.turns ++ turns) ≡ came_by frames_in turns = ap (λ t. came_by frames_in (t ++ turns)) one.is ∙ ap (λ e. came_by frames_in turns ++ frames_in one.turn.did.tick e) one.event ∙ append-nil (came_by frames_in turns) in
+    let told : records_by (o.end.turns ++ turns) ≡ records_by turns ++ one.turn.did.records = ap (λ t. records_by (t ++ turns)) one.is in
     let short : AllByRecursion (λ (frame : Seen). IsShortStart frame.size frame.meaning) (came_by frames_in turns) =
     let P : List Seen → Type 0 = λ s. AllByRecursion (λ (frame : Seen). IsShortStart frame.size frame.meaning) s in subst P seen small.starts in
-    let roomy = (rooms rx turns small.address before (all-look rx tx sizes last count free ticks end small.buffer run) short).1 in
-    let P : List Written → Type 0 = λ c. SoBy rx (address_size shape) (state_after rx_new turns).busy (control_after turns) c (now_of turns) (over_of turns) (came_by frames_in turns) (records_by turns) in
-    let Q : List Seen → Type 0 = λ s. SoBy rx (address_size shape) (state_after rx_new turns).busy (control_after turns) r.controls (now_of turns) (over_of turns) s (records_by turns) in
-    let R : RxEvent → Type 0 = λ e. RxStep rx (state_after rx_new turns) e one.turn.did in
-    let S : List SessionRecord → Type 0 = λ records. AllZip (IsSaid r) (attempts_in rx.functional r.seen) records in
-    zip-first (IsCaused r) (λ (told_one : SessionRecord). IsNeverBoxed told_one.result) (attempts_in rx.functional r.seen) r.sessions (subst S (sym told)
+    let roomy = (rooms o.rx turns small.address before (all-look o small.buffer) short).1 in
+    let P : List Written → Type 0 = λ c. SoBy o.rx (address_size o.shape) (state_after rx_new turns).busy (control_after turns) c (now_of turns) (over_of turns) (came_by frames_in turns) (records_by turns) in
+    let Q : List Seen → Type 0 = λ s. SoBy o.rx (address_size o.shape) (state_after rx_new turns).busy (control_after turns) r.controls (now_of turns) (over_of turns) s (records_by turns) in
+    let R : RxEvent → Type 0 = λ e. RxStep o.rx (state_after rx_new turns) e one.turn.did in
+    let S : List SessionRecord → Type 0 = λ records. AllZip (IsSaid r) (attempts_in o.rx.functional r.seen) records in
+    zip-first (IsCaused r) (λ (told_one : SessionRecord). IsNeverBoxed told_one.result) (attempts_in o.rx.functional r.seen) r.sessions (subst S (sym told)
     (said-ended r (state_after rx_new turns).next (state_after rx_new turns).seq (now_of turns) (over_of turns) (state_after rx_new turns).busy (control_after turns) one.turn.did (records_by turns) law.tells roomy
-    (subst Q (sym seen) (subst P (sym controls) (so_far rx shape turns sound some before over.ordered))) over.empty
-    (λ b busy. elim run.ends.reached [
+    (subst Q (sym seen) (subst P (sym controls) (so_far o.rx o.shape turns sound some before over.ordered))) over.empty
+    (λ b busy. elim o.run.ends.reached [
       | inl idle ↦ absurd (none-some idle.receiver busy)
       | inr reached ↦ over.over ∙ reached
     ])

@@ -1,26 +1,25 @@
 -- Whose the records of a run are, that they lie within it, and that one follows another.
-use Rattle.std.proofs.Common.{◌≡◌, ℕ, ◌+◌, ◌<◌, ◌≤◌, inl, inr, Option, Some, None, List, [], ◌∷◌, ◌++◌, length, refl, ap, sym, ◌∙◌, subst, arith, append-nil}
+use Rattle.std.proofs.Common.{◌≡◌, ℕ, ◌+◌, ◌≤◌, inl, inr, Option, Some, List, [], ◌∷◌, ◌++◌, length, refl, sym, ◌∙◌, subst, arith, append-nil}
+use Rattle.tp_sender.specs.Runs.{HasSent}
+use Rattle.tp_sender.specs.State.{TxTurn, tx_new, Transmission, TxDid}
 use Rattle.tp_receiver.specs.Runs.{HasReceived}
 use Rattle.tp_receiver.specs.State.{RxTurn, rx_new}
-use Rattle.hub_core.specs.Turns.{state_after, records_by}
-use Rattle.std.specs.Prelude.{option_to_list, slice_get}
+use Rattle.hub_core.specs.Turns.{state_after, records_by, now_of}
+use Rattle.std.specs.Prelude.{slice_get}
 use Rattle.std.specs.List.{AllByRecursion}
 use Rattle.std.proofs.lemmas.Option.{slice_get_within}
 use Rattle.hub_core.specs.declared.record.DestRecord.{DestRecord}
 use Rattle.hub_core.specs.declared.record.SessionRecord.{SessionRecord}
 use Rattle.tp_receiver.specs.declared.set.RxSet.{RxSet}
-use Rattle.tp_sender.specs.Sending.{Happened as WasSent, Moment, OtherLeft, Stepped, now_of, state_from, told_by as sent_by}
-use Rattle.tp_sender.specs.State.{Sending}
-use Rattle.tp_sender.specs.Table.{Did}
 use Rattle.tp_sender.specs.declared.set.TxSet.{TxSet}
-use Rattle.tp_unit.specs.declared.shape.Shape.{Shape}
 use Rattle.gw_law.specs.Records.{IsOfDestination, IsOfSource, RecordsLaw}
-use Rattle.gw_law.specs.Run.{IsRun, Route, Work, moments_of, route_of, turns_of}
+use Rattle.gw_law.specs.Run.{Route, Work, moments_of, turns_of}
 use Rattle.gw_law.proofs.FlowControls.{IsKnown, begins-at, known-of-run, start-at}
 use Rattle.gw_law.proofs.Fronts.{IsTimed, TurnIn, WorkIn, moments-in, rises-below, run-rising, run-timed, turns-in}
 use Rattle.gw_law.proofs.JointTicks.{EndsAt, tells-now}
 use Rattle.gw_law.proofs.Lists.{all-at, all-join, all-push, all-weaker, at-next}
 use Rattle.gw_law.proofs.Origins.{InTicks, IsToldBy, OfLive, row-by, told-by}
+use Rattle.gw_law.proofs.WholeRun.{WholeRun, route, works_of}
 
 -- the source's records, in turns up to a tick
 sessions-of : (set : RxSet) (last : ℕ) (turns : List RxTurn) → HasReceived set turns → AllByRecursion (TurnIn (λ (t : ℕ). t ≤ last)) turns → AllByRecursion (λ (told : SessionRecord). (told.chan ≡ set.chan) × (told.end.0 ≤ last)) (records_by turns)
@@ -34,12 +33,11 @@ sessions-of set last (turn ∷ earlier) happened all =
 abbrev IsSent : TxSet → ℕ → DestRecord → Type 0
 IsSent set last told = (told.path ≡ set.path) × (told.dest ≡ set.dest) × (told.end.0 ≤ last)
 
-dests-of : (set : TxSet) (last : ℕ) (moments : List Moment) → WasSent set moments → AllByRecursion (InTicks (λ (t : ℕ). t ≤ last)) moments → AllByRecursion (IsSent set last) (sent_by moments)
+dests-of : (set : TxSet) (last : ℕ) (moments : List TxTurn) → HasSent set moments → AllByRecursion (InTicks (λ (t : ℕ). t ≤ last)) moments → AllByRecursion (IsSent set last) (records_by moments)
 dests-of set last [] happened all = tt
-dests-of set last (Stepped m ∷ earlier) happened all =
-    all-join (IsSent set last) (sent_by earlier) (option_to_list m.did.ended) (dests-of set last earlier happened.3 all.1)
-    (all-weaker (IsToldBy _ set m.did) (IsSent set last) (option_to_list m.did.ended) (λ told is. (is.path, is.dest, omega (arith, is.end, all.0))) (told-by set (state_from earlier) m happened.2))
-dests-of set last (OtherLeft tick frame ∷ earlier) happened all = absurd all.0
+dests-of set last (m ∷ earlier) happened all =
+    all-join (IsSent set last) (records_by earlier) m.did.records (dests-of set last earlier happened.2 all.1)
+    (all-weaker (IsToldBy _ set m.did) (IsSent set last) m.did.records (λ told is. (is.path, is.dest, omega (arith, is.end, all.0))) (told-by set (state_after tx_new earlier) m happened.1.1))
 
 -- all records so far ended by that tick
 abbrev EndBy : List DestRecord → ℕ → Type 0
@@ -49,7 +47,7 @@ abbrev Follow : List DestRecord → Type 0
 Follow records = (place : ℕ) (told next : DestRecord) → slice_get records place ≡ Some told → slice_get records (place + 1) ≡ Some next → told.end.0 ≤ next.begin.0
 
 -- one record follows another, and what is being sent began after all of them
-record AreApart (records : List DestRecord) (live : Option Sending) (now : ℕ) : Type 0 where
+record AreApart (records : List DestRecord) (live : Option Transmission) (now : ℕ) : Type 0 where
   past : EndBy records now
   begun : OfLive (λ number begin. EndBy records begin) live
   follow : Follow records
@@ -66,25 +64,23 @@ follow-push records one past follow place told next there after = elim (at-next 
   ]
 ]
 
-apart-next : (set : TxSet) (records : List DestRecord) (did : Did) (before : ℕ) (ended : Option DestRecord) (live : Option Sending) → before ≤ did.tick → did.live ≡ live → EndBy records before → Follow records →
-    AllByRecursion (IsToldBy (λ number begin. EndBy records begin) set did) (option_to_list ended) → OfLive (λ number begin. EndBy records begin) live → AreApart (records ++ option_to_list ended) live did.tick
-apart-next set records did before None live later is past follow told going = rw append-nil (record { past = end-later records before did.tick later past; begun = going; follow = follow })
-apart-next set records did before (Some one) live later is past follow told going = record {
+apart-next : (set : TxSet) (records : List DestRecord) (did : TxDid) (before : ℕ) (ended : List DestRecord) (live : Option Transmission) → before ≤ did.tick → did.new.live ≡ live → EndBy records before → Follow records →
+    AllByRecursion (IsToldBy (λ number begin. EndBy records begin) set did) ended → length ended ≤ 1 → OfLive (λ number begin. EndBy records begin) live → AreApart (records ++ ended) live did.tick
+apart-next set records did before [] live later is past follow told few going = rw append-nil (record { past = end-later records before did.tick later past; begun = going; follow = follow })
+apart-next set records did before (one ∷ two ∷ more) live later is past follow told few going = absurd (omega (arith, few))
+apart-next set records did before (one ∷ []) live later is past follow told few going = record {
   past = all-push (λ (t : DestRecord). t.end.0 ≤ did.tick) records one (end-later records before did.tick later past) (omega (arith, told.0.end));
   begun = subst (OfLive (λ number begin. EndBy (records ++ one ∷ []) begin)) (sym told.0.over ∙ is) tt;
   follow = follow-push records one told.0.of follow;
 }
 
-dests-apart : (set : TxSet) (moments : List Moment) → WasSent set moments → AreApart (sent_by moments) (state_from moments).live (now_of moments)
+dests-apart : (set : TxSet) (moments : List TxTurn) → HasSent set moments → AreApart (records_by moments) (state_after tx_new moments).live (now_of moments)
 dests-apart set [] happened = record { past = tt; begun = tt; follow = λ place told next there after. cc }
-dests-apart set (Stepped m ∷ earlier) happened =
-    let so : AreApart (sent_by earlier) (state_from earlier).live (now_of earlier) = dests-apart set earlier happened.3 in
-    let row = row-by (λ number begin. EndBy (sent_by earlier) begin) set (state_from earlier).next (state_from earlier).live m so.begun happened.2 in
-    let now = row.1 (λ grown. end-later (sent_by earlier) (now_of earlier) m.did.tick happened.0 so.past) in
-    apart-next set (sent_by earlier) m.did (now_of earlier) m.did.ended m.did.live happened.0 refl so.past so.follow now.0 now.1
-dests-apart set (OtherLeft tick frame ∷ earlier) happened =
-    let so : AreApart (sent_by earlier) (state_from earlier).live (now_of earlier) = dests-apart set earlier happened.2 in
-    record { past = end-later (sent_by earlier) (now_of earlier) tick happened.0 so.past; begun = so.begun; follow = so.follow }
+dests-apart set (m ∷ earlier) happened =
+    let so : AreApart (records_by earlier) (state_after tx_new earlier).live (now_of earlier) = dests-apart set earlier happened.2 in
+    let row = row-by (λ number begin. EndBy (records_by earlier) begin) set (state_after tx_new earlier).next (state_after tx_new earlier).live m so.begun happened.1.1 in
+    let now = row.1 (λ grown. end-later (records_by earlier) (now_of earlier) m.did.tick happened.0 so.past) in
+    apart-next set (records_by earlier) m.did (now_of earlier) m.did.records m.did.new.live happened.0 refl so.past so.follow now.0 now.2 now.1
 
 sessions-apart : (r : Route) → IsKnown r → (place : ℕ) (told next : SessionRecord) → slice_get r.sessions place ≡ Some told → slice_get r.sessions (place + 1) ≡ Some next → told.end.0 ≤ next.begin.0
 sessions-apart r known place told next there after =
@@ -92,16 +88,15 @@ sessions-apart r known place told next there after =
     let begin = begins-at r (place + 1) start.0 next known start.1 after in
     omega (arith, known.facts.order place (place + 1) told start.0 (omega arith) there start.1, begin.0)
 
-pub records_law_of : (rx : RxSet) (tx : TxSet) (shape : Shape) (source_budget budget : ℕ) (sizes : List ℕ) (last count free : ℕ) (ticks : List Work) (end : Work) → IsRun rx tx sizes last count free ticks end →
-    RecordsLaw (route_of rx tx shape source_budget budget sizes last count free ticks end)
-records_law_of rx tx shape source_budget budget sizes last count free ticks end run =
-    let r : Route = route_of rx tx shape source_budget budget sizes last count free ticks end in
-    let works : List Work = end ∷ ticks in
-    let timed : AllByRecursion IsTimed works = run-timed rx tx sizes last count free ticks end run in
-    let within : AllByRecursion (WorkIn (λ (t : ℕ). t ≤ last)) works = rises-below last works (omega (arith, run.ends.tick_is)) (run-rising rx tx sizes last count free ticks end run) in
+pub records_law_of : (o : WholeRun) → RecordsLaw (route o)
+records_law_of o =
+    let r : Route = route o in
+    let works : List Work = works_of o in
+    let timed : AllByRecursion IsTimed works = run-timed o in
+    let within : AllByRecursion (WorkIn (λ (t : ℕ). t ≤ o.last)) works = rises-below o.last works (omega (arith, o.run.ends.tick_is)) (run-rising o) in
     record {
-      sessions = all-weaker (λ (told : SessionRecord). (told.chan ≡ rx.chan) × (told.end.0 ≤ last)) (IsOfSource r) r.sessions (λ told is. record { chan = is.0; end = is.1 }) (sessions-of rx last (turns_of works) run.received (turns-in (λ (t : ℕ). t ≤ last) works timed within));
-      dests = all-weaker (IsSent tx last) (IsOfDestination r) r.dests (λ told is. record { path = is.0; dest = is.1; end = is.2 }) (dests-of tx last (moments_of works) run.sent (moments-in (λ (t : ℕ). t ≤ last) works timed within));
-      sessions_follow = sessions-apart r (known-of-run rx tx shape source_budget budget sizes last count free ticks end run);
-      dests_follow = (dests-apart tx (moments_of works) run.sent).follow;
+      sessions = all-weaker (λ (told : SessionRecord). (told.chan ≡ o.rx.chan) × (told.end.0 ≤ o.last)) (IsOfSource r) r.sessions (λ told is. record { chan = is.0; end = is.1 }) (sessions-of o.rx o.last (turns_of works) o.run.received (turns-in (λ (t : ℕ). t ≤ o.last) works timed within));
+      dests = all-weaker (IsSent o.tx o.last) (IsOfDestination r) r.dests (λ told is. record { path = is.0; dest = is.1; end = is.2 }) (dests-of o.tx o.last (moments_of works) o.run.sent (moments-in (λ (t : ℕ). t ≤ o.last) works timed within));
+      sessions_follow = sessions-apart r (known-of-run o);
+      dests_follow = (dests-apart o.tx (moments_of works) o.run.sent).follow;
     }

@@ -1,5 +1,6 @@
 -- What each record of a source channel came of so far, and what its reception waits for, by the rows of the receiver's steps.
 use Rattle.std.proofs.Common.{◌≡◌, ◌≢◌, ℕ, ◌+◌, ◌<◌, ◌≤◌, Bool, true, false, not, inl, inr, Option, Some, None, List, [], ◌∷◌, ◌++◌, length, take, refl, ap, sym, ◌∙◌, subst, arith, append-nil, append_assoc}
+use Rattle.tp_sender.specs.Runs.{Written, box_then}
 use Rattle.tp_receiver.specs.State.{Reception, RxEvent, RxDid, RxState, Came, Timer, FcLeft, RunEnd, busy_with, idle, RxTurn, rx_new}
 use Rattle.tp_receiver.specs.Table.{awaited_since, begun, due as busy_due, ended, gone_on, later_act, refused, Begins, Carries, Continues, ConsecutiveRow, FirstRow, Grants, Interrupts, IsLate, Leaves, RxStep, Starts, Times, continue_to_send, NoneReads, All, NoBuffer, Completes, NoBufferFirst, Opened, NoneReadsOn, TooLittleRoom, Adds, Fills, TooLong, TooShort, WrongNumber, RightNumber, InTime, TooLate, FromBox, NotAwaited}
 use Rattle.tp_receiver.specs.Runs.{HasReceived, frames_in}
@@ -24,7 +25,6 @@ use Rattle.tp_attempts.specs.Walk.{Piece, Walk, joined, look, walk_of}
 use Rattle.tp_attempts.proofs.Cuts.{cuts-begin, cuts-more}
 use Rattle.tp_attempts.proofs.Walks.{joined-more, len-walk_of, look-counts, look-long, look-short, walk_of-more}
 use Rattle.tp_receiver.specs.declared.set.RxSet.{RxSet}
-use Rattle.tp_sender.specs.Sending.{Written, box_then}
 use Rattle.tp_unit.specs.declared.shape.Shape.{Shape}
 use Rattle.tp_unit.specs.Shape.{IsShape, address_size}
 use Rattle.tp_unit.specs.Unit.{BoxMeaning, Keeps, Meaning, SingleFrame, FirstFrame, ConsecutiveFrame, FlowControl, NoUnit}

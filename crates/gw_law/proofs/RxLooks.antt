@@ -1,5 +1,6 @@
 -- Each look of a receiver at the room counts all of the buffer but the cells that it put.
 use Rattle.std.proofs.Common.{◌≡◌, ℕ, ◌+◌, ◌<◌, inl, inr, zero, suc, false, Option, Some, None, List, [], ◌∷◌, ◌++◌, length, map, refl, ap, sym, ◌∙◌, subst, arith, append-nil, eq-eqb}
+use Rattle.tp_sender.specs.Runs.{HasSent}
 use Rattle.tp_receiver.specs.State.{Reception, RxTurn, rx_new}
 use Rattle.tp_receiver.specs.Runs.{HasReceived}
 use Rattle.hub_core.specs.Turns.{calls_by, state_after}
@@ -11,17 +12,17 @@ use Rattle.std.proofs.lemmas.Option.{slice_get-get_or}
 use Rattle.hub_core.specs.Floors.{Floors, AreFresh}
 use Rattle.hub_core.specs.View.{View, Event, Session, at_one, change_at, empty_view, session_new, grow, grows, Took, Refused, Entered, Asked, Put, Published, Joining, Missed, Saw, Read, Closed, Parted}
 use Rattle.tp_receiver.specs.declared.set.RxSet.{RxSet}
-use Rattle.tp_sender.specs.Sending.{Happened as WasSent}
 use Rattle.tp_sender.specs.declared.set.TxSet.{TxSet}
-use Rattle.gw_law.specs.Run.{AreLooks, AreTicks, IsRun, LooksCount, Work, moments_of, turns_of, view_of}
-use Rattle.gw_law.proofs.OwnCalls.{received-calls, received-front, sent-front}
+use Rattle.gw_law.specs.Run.{AreLooks, AreTicks, LooksCount, Work, moments_of, turns_of, view_of}
 use Rattle.gw_law.proofs.RxRooms.{AllLook, LooksWell}
 use Rattle.gw_law.proofs.Sessions.{AllFilled, all-filled, stored_in}
 use Rattle.gw_law.proofs.Wholes.{OwnSessions, sessions-own}
 use Rattle.gw_law.proofs.Lists.{all-front}
 use Rattle.hub_core.proofs.Growing.{grows-append}
+use Rattle.hub_core.proofs.Turns.{calls-append, happened-front}
 use Rattle.gw_law.proofs.Beside.{sessions-grown}
 use Rattle.gw_law.proofs.Openings.{IsBelow}
+use Rattle.gw_law.proofs.WholeRun.{WholeRun, works_of}
 
 -- the cells of the buffers of a path's sessions
 abbrev sizes_at : ℕ → View → List ℕ
@@ -87,7 +88,7 @@ four-front : (rx : RxSet) (turns earlier : List RxTurn) → AreFour rx.path.0 (g
 four-front rx turns earlier four =
     let P : List Event → Type 0 = λ calls. AreFour rx.path.0 (grows calls empty_view) in
     let Q : View → Type 0 = λ v. AreFour rx.path.0 v in
-    four-before rx.path.0 (calls_by turns) (grows (calls_by earlier) empty_view) (subst Q (grows-append (calls_by earlier) (calls_by turns) empty_view) (subst P (received-calls turns earlier) four))
+    four-before rx.path.0 (calls_by turns) (grows (calls_by earlier) empty_view) (subst Q (grows-append (calls_by earlier) (calls_by turns) empty_view) (subst P (calls-append turns earlier) four))
 
 four-at : (sessions : List Session) (place : ℕ) (s : Session) → AllByRecursion (λ (size : ℕ). size ≡ 4) (map (λ (t : Session). t.size) sessions) → slice_get sessions place ≡ Some s → s.size ≡ 4
 four-at [] place s four is = cc
@@ -131,25 +132,25 @@ looks-turns rx [] earlier start looks happened own four known = known
 looks-turns rx (turn ∷ turns) earlier start looks happened own four known =
     let here : View = grows (calls_by turns) start in
     let P : List Event → Type 0 = λ calls. here.sessions rx.path.0 ≡ (grows calls empty_view).sessions rx.path.0 in
-    let own_here : OwnSessions rx (turns ++ earlier) here = subst P (sym (received-calls turns earlier)) (sessions-grown rx.path.0 (calls_by earlier) (calls_by turns) start here refl own) in
+    let own_here : OwnSessions rx (turns ++ earlier) here = subst P (sym (calls-append turns earlier)) (sessions-grown rx.path.0 (calls_by earlier) (calls_by turns) start here refl own) in
     let four_here : AreFour rx.path.0 (grows (calls_by (turns ++ earlier)) empty_view) = four-front rx (turn ∷ []) (turns ++ earlier) four in (
       looks-busy rx (state_after rx_new (turns ++ earlier)).busy (state_after rx_new (turns ++ earlier)).seq (turns ++ earlier) here turn.did.calls happened.2 own_here four_here (below-at rx (turns ++ earlier) (all-filled rx (turns ++ earlier) happened.2)) looks.0,
       looks-turns rx turns earlier start looks.1 happened.2 own four_here known,
     )
 
 -- the looks of all ticks
-looks-ticks : (rx : RxSet) (tx : TxSet) (sizes : List ℕ) (works : List Work) → AreTicks sizes works → HasReceived rx (turns_of works) → WasSent tx (moments_of works) → AreFour rx.path.0 (grows (calls_by (turns_of works)) empty_view) → AllLook rx (turns_of works)
+looks-ticks : (rx : RxSet) (tx : TxSet) (sizes : List ℕ) (works : List Work) → AreTicks sizes works → HasReceived rx (turns_of works) → HasSent tx (moments_of works) → AreFour rx.path.0 (grows (calls_by (turns_of works)) empty_view) → AllLook rx (turns_of works)
 looks-ticks rx tx sizes [] ticks received sent four = tt
 looks-ticks rx tx sizes (work ∷ earlier) ticks received sent four =
-    let before : HasReceived rx (turns_of earlier) = received-front rx work.turns (turns_of earlier) received in
-    let sent_before : WasSent tx (moments_of earlier) = sent-front tx work.moments (moments_of earlier) sent in
+    let before : HasReceived rx (turns_of earlier) = happened-front _ work.turns (turns_of earlier) received in
+    let sent_before : HasSent tx (moments_of earlier) = happened-front _ work.moments (moments_of earlier) sent in
     looks-turns rx work.turns (turns_of earlier) (view_of earlier) ticks.0.looks received (sessions-own rx tx earlier before sent_before) four
     (looks-ticks rx tx sizes earlier ticks.1 before sent_before (four-front rx work.turns (turns_of earlier) four))
 
-pub all-look : (rx : RxSet) (tx : TxSet) (sizes : List ℕ) (last count free : ℕ) (ticks : List Work) (end : Work) → sizes ≡ 4 ∷ [] → IsRun rx tx sizes last count free ticks end → AllLook rx (turns_of ticks)
-all-look rx tx sizes last count free ticks end one run =
-    let v : View = view_of (end ∷ ticks) in
+pub all-look : (o : WholeRun) → o.sizes ≡ 4 ∷ [] → AllLook o.rx (turns_of o.ticks)
+all-look o one =
+    let v : View = view_of (works_of o) in
     let P : List Session → Type 0 = λ sessions. AllByRecursion (λ (size : ℕ). size ≡ 4) (map (λ (s : Session). s.size) sessions) in
-    let four : AreFour rx.path.0 (grows (calls_by (turns_of (end ∷ ticks))) empty_view) = subst P (sessions-own rx tx (end ∷ ticks) run.received run.sent) (four-all (v.sessions rx.path.0) (λ place s is.
-    let taken = run.joint.owned.taken rx.path.0 place s is in only-size sizes s.buf s.size one taken.size)) in
-    looks-ticks rx tx sizes ticks run.ticks_are (received-front rx end.turns (turns_of ticks) run.received) (sent-front tx end.moments (moments_of ticks) run.sent) (four-front rx end.turns (turns_of ticks) four)
+    let four : AreFour o.rx.path.0 (grows (calls_by (turns_of (works_of o))) empty_view) = subst P (sessions-own o.rx o.tx (works_of o) o.run.received o.run.sent) (four-all (v.sessions o.rx.path.0) (λ place s is.
+    let taken = o.run.joint.owned.taken o.rx.path.0 place s is in only-size o.sizes s.buf s.size one taken.size)) in
+    looks-ticks o.rx o.tx o.sizes o.ticks o.run.ticks_are (happened-front _ o.end.turns (turns_of o.ticks) o.run.received) (happened-front _ o.end.moments (moments_of o.ticks) o.run.sent) (four-front o.rx o.end.turns (turns_of o.ticks) four)

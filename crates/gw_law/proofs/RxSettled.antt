@@ -1,5 +1,6 @@
 -- What a record of a reception came of, and that what comes later doesn't change it.
 use Rattle.std.proofs.Common.{◌≡◌, ℕ, ◌+◌, ◌<◌, ◌≤◌, Bool, false, Some, List, [], ◌∷◌, ◌++◌, length, map, refl, ap, sym, ◌∙◌, subst, arith, append_assoc, append-nil}
+use Rattle.tp_sender.specs.Runs.{Written}
 use Rattle.std.specs.Prelude.{slice_get}
 use Rattle.std.specs.List.{AllByRecursion, AllZip}
 use Rattle.hub_core.specs.declared.record.RxLimit.TheVariants.{Cf as CfLimit}
@@ -13,7 +14,6 @@ use Rattle.tp_attempts.specs.Walk.{Piece, Walk, joined, look_at, walk_of}
 use Rattle.tp_attempts.proofs.Cuts.{cuts-grow, grow, grow_after}
 use Rattle.tp_attempts.proofs.Walks.{look-full, walk_of-more}
 use Rattle.tp_receiver.specs.declared.set.RxSet.{RxSet}
-use Rattle.tp_sender.specs.Sending.{Written}
 use Rattle.gw_law.specs.ReceptionCauses.{IsFoundBy, IsSilent, LetGoIn}
 use Rattle.gw_law.proofs.Tellings.{Looked, looked, with_frame}
 use Rattle.gw_law.proofs.Lists.{all-front, all-join, slice_get-more, zip-grow, zip-weaker}

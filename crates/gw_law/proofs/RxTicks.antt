@@ -1,16 +1,16 @@
 -- In what order a receiver's turns stand: the frames of a tick, the timer, the flow control that leaves.
 use Rattle.std.proofs.Common.{◌≡◌, ℕ, ◌+◌, ◌≤◌, inl, inr, Option, Some, None, List, [], ◌∷◌, ◌++◌, refl, ap, sym, ◌∙◌, subst, arith, append_assoc}
+use Rattle.tp_sender.specs.Runs.{box_then}
 use Rattle.tp_receiver.specs.State.{Reception, RxEvent, RxDid, RxState, Came, Timer, FcLeft, RunEnd, RxTurn, rx_new}
 use Rattle.tp_receiver.specs.Table.{RxStep, FromBox, NotAwaited}
 use Rattle.tp_receiver.specs.Runs.{HasReceived}
 use Rattle.hub_core.specs.Turns.{now_of, state_after}
 use Rattle.std.specs.List.{AllByRecursion}
 use Rattle.tp_receiver.specs.declared.set.RxSet.{RxSet}
-use Rattle.tp_sender.specs.Sending.{box_then}
 use Rattle.tp_unit.specs.Unit.{Keeps, Meaning}
-use Rattle.gw_law.proofs.OwnCalls.{received-front}
 use Rattle.gw_law.specs.Run.{Work, AreTicks, CameIn, ControlLeaves, control_after, control_once, tick_after, turns_of}
 use Rattle.gw_law.proofs.Lists.{none-some}
+use Rattle.hub_core.proofs.Turns.{happened-front}
 
 -- the tick from which on the next frame may come
 abbrev pub over_by : RxEvent → ℕ → ℕ
@@ -104,7 +104,7 @@ pub ordered : (set : RxSet) (sizes : List ℕ) (ticks : List Work) → AreTicks 
 ordered set sizes [] are happened = record { ordered = tt; over = refl; empty = refl }
 ordered set sizes (work ∷ earlier) are happened =
     let before : List RxTurn = turns_of earlier in
-    let so : AreOver (tick_after earlier) before = ordered set sizes earlier are.1 (received-front set work.turns before happened) in
+    let so : AreOver (tick_after earlier) before = ordered set sizes earlier are.1 (happened-front _ work.turns before happened) in
     let ready : Ready work.tick before = record {
       early = omega (arith, so.over, are.0.later);
       next = λ b some. elim are.0.next [

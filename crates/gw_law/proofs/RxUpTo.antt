@@ -21,7 +21,6 @@ use Rattle.gw_law.specs.Source.{CountsFrom, Tells, opened_by, sessions_in}
 use Rattle.gw_law.specs.Timely.{bytes_to}
 use Rattle.gw_law.proofs.Begins.{Split, begin-at, begin_going, begins-are, begins-more, begins_by, begins_told, seq-at, splits, told-long}
 use Rattle.gw_law.proofs.Fronts.{More, TurnIn, received-more, seen-more}
-use Rattle.gw_law.proofs.OwnCalls.{received-front}
 use Rattle.gw_law.proofs.Pieces.{After, CutFront, CutIn, Within, bytes-front, bytes-whole, cut-front, cuts-in, pieces-in}
 use Rattle.gw_law.proofs.SoFars.{AreTold, IsBusy}
 use Rattle.gw_law.proofs.SourceLaws.{HoldsBy, holds, source_law_of}
@@ -29,6 +28,7 @@ use Rattle.gw_law.proofs.Stores.{store}
 use Rattle.gw_law.proofs.Tellings.{TellsPut}
 use Rattle.gw_law.proofs.Lists.{all-at, get-append, slice_get-more, zip-at, zip-back, zip-long}
 use Rattle.hub_core.proofs.Growing.{slice_get-pushed}
+use Rattle.hub_core.proofs.Turns.{happened-front}
 
 -- the sessions of a front of the records have the first numbers
 seq-earlier : (records : List SessionRecord) (place : ℕ) (s : SessionRecord) (o : OpenedAt) → CountsFrom 0 (sessions_in records) → slice_get records place ≡ Some s → s.opened ≡ Some o → o.seq < length (sessions_in records)
@@ -131,7 +131,7 @@ pub put-up-to : (rx : RxSet) (later front : List RxTurn) (tick place : ℕ) (uni
     length (store rx.path.0 (calls_by front) opened.seq) ≤ bytes_to tick (walk_of rx.a unit).pieces
 put-up-to rx later front tick place unit session opened happened idle late early unit_is session_is opened_is =
     let law = source_law_of rx (later ++ front) happened idle in
-    let past : HasReceived rx front = received-front rx later front happened in
+    let past : HasReceived rx front = happened-front _ later front happened in
     let told = received-more later front in
     let frames : More (λ (s : Seen). tick < s.at) (came_by frames_in front) (came_by frames_in (later ++ front)) = seen-more (λ (t : ℕ). tick < t) later front late in
     let more = begins-more later front in

@@ -342,23 +342,22 @@ overflows set next seq len number free need calls seen records frame start len_i
     let P : List (Cut Seen) → Type 0 = λ attempts. AreTold set calls frame.at attempts (records ++ r ∷ []) in
     let sessions : sessions_in (records ++ r ∷ []) ≡ sessions_in records = flat_map-append opened_by records (r ∷ []) ∙ append-nil (sessions_in records) in
     record {
-      told = subst P (sym (cuts-begin (λ (s : Seen). is_start set.functional s.meaning) seen frame start)) (told-push set calls frame.at (attempts_in set.functional seen) records (record { start = frame; after = [] }) r so.told
-          (
-            record {
-              chan_is = refl;
-              len = len_is;
-              begin = refl;
-              order = omega arith;
-              opens = refl;
-              overflow = λ is. (refl, refl);
-              covers = λ is. cc;
-              whole = λ is. cc;
-              within = omega arith;
-              wrong = λ want got is. cc;
-              none_passed = λ wrong is. cc;
-            },
-            λ opened is. cc,
-          )
+      told = subst P (sym (cuts-begin (λ (s : Seen). is_start set.functional s.meaning) seen frame start)) (told-push set calls frame.at (attempts_in set.functional seen) records (record { start = frame; after = [] }) r so.told (
+        record {
+          chan_is = refl;
+          len = len_is;
+          begin = refl;
+          order = omega arith;
+          opens = refl;
+          overflow = λ is. (refl, refl);
+          covers = λ is. cc;
+          whole = λ is. cc;
+          within = omega arith;
+          wrong = λ want got is. cc;
+          none_passed = λ wrong is. cc;
+        },
+        λ opened is. cc,
+      )
           so.next_is (omega arith) (rw append-nil so.told.sessions) (λ opened is. cc));
       next_is = rw length-append (omega (arith, so.next_is));
       seq_is = so.seq_is ∙ ap length (sym sessions);

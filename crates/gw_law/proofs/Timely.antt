@@ -1,5 +1,7 @@
 -- The law of time, of every run: what leaves is no earlier than what came.
 use Rattle.std.proofs.Common.{◌≡◌, ℕ, ◌<◌, ◌≤◌, zero, suc, false, Option, Some, None, List, [], ◌∷◌, ◌++◌, length, take, refl, ap, sym, ◌∙◌, subst, arith, append-nil}
+use Rattle.tp_sender.specs.Runs.{HasSent, cells_in as cells_read, left_by}
+use Rattle.tp_sender.specs.State.{TxTurn, tx_new, Transmission}
 use Rattle.tp_receiver.specs.Runs.{HasReceived, put_in, frames_in}
 use Rattle.tp_receiver.specs.State.{RxTurn, rx_new}
 use Rattle.hub_core.specs.Turns.{calls_by, came_by, state_after, records_by}
@@ -16,12 +18,9 @@ use Rattle.tp_attempts.specs.Cuts.{Cut}
 use Rattle.tp_attempts.specs.Seen.{Seen}
 use Rattle.tp_receiver.specs.declared.set.RxSet.{RxSet}
 use Rattle.tp_sender.specs.declared.set.TxSet.{TxSet}
-use Rattle.tp_sender.specs.Sending.{Happened as WasSent, Moment, calls_by as sent_calls, cells_in as cells_read, left_by, state_from, told_by as sent_by}
-use Rattle.tp_sender.specs.State.{Sending}
-use Rattle.tp_unit.specs.declared.shape.Shape.{Shape}
 use Rattle.tp_unit.specs.Shape.{address_size}
 use Rattle.gw_law.specs.Delivery.{Delivery}
-use Rattle.gw_law.specs.Run.{IsRun, Route, Work, moments_of, route_of, turns_of, view_of}
+use Rattle.gw_law.specs.Run.{Route, Work, moments_of, turns_of, view_of}
 use Rattle.gw_law.specs.Source.{CountsFrom, sessions_in}
 use Rattle.gw_law.specs.Timely.{BeginsAfter, IsTimely, TimelyLaw, delivery_of_route}
 use Rattle.gw_law.specs.Transfer.{GoesOnWith, SendsFor, Transfer, TransferLaw, has_sent, transfer_of}
@@ -42,6 +41,7 @@ use Rattle.gw_law.proofs.TxUpTo.{sent-up-to}
 use Rattle.gw_law.proofs.TxWorld.{SoFar}
 use Rattle.gw_law.proofs.TxWritten.{AreWritten, ticks-counted, written}
 use Rattle.gw_law.proofs.Wholes.{AsFar}
+use Rattle.gw_law.proofs.WholeRun.{WholeRun, route, works_of}
 
 -- a session of that number began by that tick
 abbrev pub IsBegun : List ℕ → ℕ → ℕ → Type 0
@@ -53,23 +53,23 @@ begun-so begins seq tick below all =
     (_, is, all-at (λ (b : ℕ). b ≤ tick) begins seq _ all is)
 
 -- what is joined is entered
-joined-entered : (rx : RxSet) (tx : TxSet) (sizes : List ℕ) (works : List Work) → AsFar rx tx sizes works → (state_from (moments_of works)).next ≤ length (begins_by (turns_of works))
+joined-entered : (rx : RxSet) (tx : TxSet) (sizes : List ℕ) (works : List Work) → AsFar rx tx sizes works → (state_after tx_new (moments_of works)).next ≤ length (begins_by (turns_of works))
 joined-entered rx tx sizes works far =
     let v : View = view_of works in
-    let moments : List Moment = moments_of works in
+    let moments : List TxTurn = moments_of works in
     let turns : List RxTurn = turns_of works in
     let so : SoFar tx.shape (world_of tx moments) = so-far tx moments far.shape far.sent in
     let read = readings tx moments far.shape far.sent empty_view refl in
-    let known : List Reading = (grows (sent_calls moments) empty_view).readings tx.path.0 tx.dest.0 in
-    let joined : length known ≡ (state_from moments).next = sym (length-map known (λ (r : Reading). r.len)) ∙ ap length read.fixed ∙ so.lens in
-    let most : (state_from moments).next ≤ length (v.sessions tx.path.0) =
-    at-most tx v known (state_from moments).next far.readings joined (λ seq r is. let s = far.joint.2.streams.joined tx.path.0 tx.dest.0 seq r is in (s.0, s.1)) in
+    let known : List Reading = (grows (calls_by moments) empty_view).readings tx.path.0 tx.dest.0 in
+    let joined : length known ≡ (state_after tx_new moments).next = sym (length-map known (λ (r : Reading). r.len)) ∙ ap length read.fixed ∙ so.lens in
+    let most : (state_after tx_new moments).next ≤ length (v.sessions tx.path.0) =
+    at-most tx v known (state_after tx_new moments).next far.readings joined (λ seq r is. let s = far.joint.2.streams.joined tx.path.0 tx.dest.0 seq r is in (s.0, s.1)) in
     let put = (openings rx turns far.received).fill empty_view refl in
     let entered : length (v.sessions rx.path.0) ≡ length (begins_by turns) =
     ap length far.sessions ∙ sym (length-map ((grows (calls_by turns) empty_view).sessions rx.path.0) (writing rx.path.0).fixed) ∙ ap length put.fixed ∙ sym (begins-long turns) in
     omega (arith, most, ap (λ p. length (v.sessions p)) (ap (λ p. p.0) far.path), entered)
 
-live-map : (Q R : ℕ → ℕ → Type 0) (live : Option Sending) → ((seq begin : ℕ) → Q seq begin → R seq begin) → OfLive Q live → OfLive R live
+live-map : (Q R : ℕ → ℕ → Type 0) (live : Option Transmission) → ((seq begin : ℕ) → Q seq begin → R seq begin) → OfLive Q live → OfLive R live
 live-map Q R None on is = tt
 live-map Q R (Some s) on is = on s.seq s.begin is
 
@@ -83,7 +83,7 @@ begun-by rx tx sizes (work ∷ earlier) far timed rising =
     let more = begins-more work.turns (turns_of earlier) in
     let on : (seq begin : ℕ) → IsBegun old seq begin → IsBegun all seq begin = λ seq begin is. (is.0, ap (λ l. slice_get l seq) more.1 ∙ slice_get-more old more.0 seq is.0 is.1, is.2) in
     let so : Originates (IsBegun old) (moments_of earlier) = begun-by rx tx sizes earlier (λ later front is. far (work ∷ later) front (ap (λ l. work ∷ l) is)) timed.1 rising.1 in
-    let before : Originates (IsBegun all) (moments_of earlier) = record { told = all-weaker (OfTold (IsBegun old)) (OfTold (IsBegun all)) (sent_by (moments_of earlier)) (λ told is. on told.seq told.begin.0 is) so.told; live = live-map (IsBegun old) (IsBegun all) (state_from (moments_of earlier)).live on so.live } in
+    let before : Originates (IsBegun all) (moments_of earlier) = record { told = all-weaker (OfTold (IsBegun old)) (OfTold (IsBegun all)) (records_by (moments_of earlier)) (λ told is. on told.seq told.begin.0 is) so.told; live = live-map (IsBegun old) (IsBegun all) (state_after tx_new (moments_of earlier)).live on so.live } in
     let past : AllByRecursion (λ (b : ℕ). b ≤ work.tick) all =
     begins-in (λ (b : ℕ). b ≤ work.tick) (turns_of (work ∷ earlier)) (turns-in (λ (t : ℕ). t ≤ work.tick) (work ∷ earlier) timed (rises-below work.tick (work ∷ earlier) (omega arith) rising)) in
     (originates (λ (t : ℕ). t ≡ work.tick) (IsBegun all) tx (length all) work.moments (moments_of earlier)
@@ -104,11 +104,11 @@ cells-none zero (r ∷ known) is = cc
 cells-none (suc seq) (r ∷ known) is = cells-none seq known is
 
 -- what is read of a session is a front of what is put into it
-read-put : (rx : RxSet) (tx : TxSet) (sizes : List ℕ) (works : List Work) (seq : ℕ) (known : Option Reading) → AsFar rx tx sizes works → slice_get ((grows (sent_calls (moments_of works)) empty_view).readings tx.path.0 tx.dest.0) seq ≡ known →
-    length (bytes_of (cells_read seq (sent_calls (moments_of works)))) ≤ length (bytes_of (put_in rx (turns_of works) seq))
+read-put : (rx : RxSet) (tx : TxSet) (sizes : List ℕ) (works : List Work) (seq : ℕ) (known : Option Reading) → AsFar rx tx sizes works → slice_get ((grows (calls_by (moments_of works)) empty_view).readings tx.path.0 tx.dest.0) seq ≡ known →
+    length (bytes_of (cells_read seq (calls_by (moments_of works)))) ≤ length (bytes_of (put_in rx (turns_of works) seq))
 read-put rx tx sizes works seq None far is =
     let read = readings tx (moments_of works) far.shape far.sent empty_view refl in
-    omega (arith, ap (λ c. length (bytes_of c)) (sym (read.cells seq) ∙ cells-none seq ((grows (sent_calls (moments_of works)) empty_view).readings tx.path.0 tx.dest.0) is))
+    omega (arith, ap (λ c. length (bytes_of c)) (sym (read.cells seq) ∙ cells-none seq ((grows (calls_by (moments_of works)) empty_view).readings tx.path.0 tx.dest.0) is))
 read-put rx tx sizes works seq (Some r) far is =
     let read = readings tx (moments_of works) far.shape far.sent empty_view refl in
     let put = (openings rx (turns_of works) far.received).fill empty_view refl in
@@ -117,18 +117,18 @@ read-put rx tx sizes works seq (Some r) far is =
     let session : slice_get ((grows (calls_by (turns_of works)) empty_view).sessions rx.path.0) seq ≡ Some s =
     sym (ap (λ l. slice_get l seq) far.sessions) ∙ ap (λ (p : ℕ). slice_get ((view_of works).sessions p) seq) (sym (ap (λ p. p.0) far.path)) ∙ known.1 in
     let cells : s.cells ≡ put_in rx (turns_of works) seq = sym (cells_at-there (λ (x : Session). x.cells) seq ((grows (calls_by (turns_of works)) empty_view).sessions rx.path.0) s session) ∙ put.cells seq in
-    let cells_were : r.cells ≡ cells_read seq (sent_calls (moments_of works)) = sym (cells_at-there (λ (x : Reading). x.cells) seq ((grows (sent_calls (moments_of works)) empty_view).readings tx.path.0 tx.dest.0) r is) ∙ read.cells seq in
-    (front-bytes (put_in rx (turns_of works) seq) (bytes_of (cells_read seq (sent_calls (moments_of works)))) (length r.cells) 0 (ap bytes_of (sym cells_were ∙ known.2.prefix) ∙ ap (λ c. bytes_of (take (length r.cells) c)) cells) (omega arith)).0
+    let cells_were : r.cells ≡ cells_read seq (calls_by (moments_of works)) = sym (cells_at-there (λ (x : Reading). x.cells) seq ((grows (calls_by (moments_of works)) empty_view).readings tx.path.0 tx.dest.0) r is) ∙ read.cells seq in
+    (front-bytes (put_in rx (turns_of works) seq) (bytes_of (cells_read seq (calls_by (moments_of works)))) (length r.cells) 0 (ap bytes_of (sym cells_were ∙ known.2.prefix) ∙ ap (λ c. bytes_of (take (length r.cells) c)) cells) (omega arith)).0
 
 all-parts : {A : Type 0} (P : A → Type 0) (xs ys : List A) → AllByRecursion P (xs ++ ys) → AllByRecursion P xs × AllByRecursion P ys
 all-parts P [] ys all = (tt, all)
 all-parts P (x ∷ xs) ys all = let so = all-parts P xs ys all.1 in ((all.0, so.0), so.1)
 
 -- a transmission, and the record in its place
-record IsAt (tx : TxSet) (k : ℕ) (cut : Cut Seen) (told : DestRecord) (moments : List Moment) : Type 0 where
-  sent : WasSent tx moments
+record IsAt (tx : TxSet) (k : ℕ) (cut : Cut Seen) (told : DestRecord) (moments : List TxTurn) : Type 0 where
+  sent : HasSent tx moments
   cut_is : slice_get (attempts_in false (transfer_of tx moments).frames) k ≡ Some cut
-  told_is : slice_get (filter has_sent (sent_by moments)) k ≡ Some told
+  told_is : slice_get (filter has_sent (records_by moments)) k ≡ Some told
   sends : SendsFor (transfer_of tx moments) cut told
 
 -- a session's record, and the unit in its place
@@ -138,59 +138,58 @@ record IsOf (rx : RxSet) (place : ℕ) (unit : Cut Seen) (session : SessionRecor
   unit_is : slice_get (attempts_in rx.functional (came_by frames_in turns)) place ≡ Some unit
   session_is : slice_get (records_by turns) place ≡ Some session
 
-is-timely : (rx : RxSet) (tx : TxSet) (sizes : List ℕ) (last count free : ℕ) (ticks : List Work) (end : Work) (d : Delivery) (k : ℕ) (cut : Cut Seen) (told : DestRecord) → IsRun rx tx sizes last count free ticks end →
-    d.address ≡ address_size tx.shape → d.source ≡ rx.a → d.functional ≡ rx.functional → d.seen ≡ came_by frames_in (turns_of (end ∷ ticks)) → d.received ≡ records_by (turns_of (end ∷ ticks)) → IsAt tx k cut told (moments_of (end ∷ ticks)) → IsTimely d cut told
-is-timely rx tx sizes last count free ticks end d k cut told run address source functional seen received at unit session named tick =
-    let works : List Work = end ∷ ticks in
-    let up : UpTo tick works = up-to tick works (run-rising rx tx sizes last count free ticks end run) in
-    let timed : AllByRecursion IsTimed works = run-timed rx tx sizes last count free ticks end run in
+is-timely : (o : WholeRun) (d : Delivery) (k : ℕ) (cut : Cut Seen) (told : DestRecord) →
+    d.address ≡ address_size o.tx.shape → d.source ≡ o.rx.a → d.functional ≡ o.rx.functional → d.seen ≡ came_by frames_in (turns_of (works_of o)) → d.received ≡ records_by (turns_of (works_of o)) → IsAt o.tx k cut told (moments_of (works_of o)) → IsTimely d cut told
+is-timely o d k cut told address source functional seen received at unit session named tick =
+    let works : List Work = works_of o in
+    let up : UpTo tick works = up-to tick works (run-rising o) in
+    let timed : AllByRecursion IsTimed works = run-timed o in
     let T : List Work → Type 0 = λ l. AllByRecursion IsTimed l in
     let both = all-parts IsTimed up.later up.front (subst T (sym up.is) timed) in
-    let far : AsFar rx tx sizes up.front = as-far-up-to rx tx sizes last count free ticks end up.later up.front up.is run in
-    let M : List Moment → Type 0 = λ l. IsAt tx k cut told l in
-    let so : IsAt tx k cut told (moments_of up.later ++ moments_of up.front) = subst M (ap moments_of (sym up.is) ∙ moments-append up.later up.front) at in
-    let R : List RxTurn → Type 0 = λ l. IsOf rx named.place unit session l in
-    let of : IsOf rx named.place unit session (turns_of works) = record {
-      received = run.received;
-      idle = run.ends.idle.receiver;
-      unit_is = ap (λ l. slice_get l named.place) (ap (λ l. attempts_in rx.functional l) (sym seen) ∙ ap (λ f. attempts_in f d.seen) (sym functional)) ∙ named.unit_is;
+    let far : AsFar o.rx o.tx o.sizes up.front = as-far-up-to o up.later up.front up.is in
+    let M : List TxTurn → Type 0 = λ l. IsAt o.tx k cut told l in
+    let so : IsAt o.tx k cut told (moments_of up.later ++ moments_of up.front) = subst M (ap moments_of (sym up.is) ∙ moments-append up.later up.front) at in
+    let R : List RxTurn → Type 0 = λ l. IsOf o.rx named.place unit session l in
+    let of : IsOf o.rx named.place unit session (turns_of works) = record {
+      received = o.run.received;
+      idle = o.run.ends.idle.receiver;
+      unit_is = ap (λ l. slice_get l named.place) (ap (λ l. attempts_in o.rx.functional l) (sym seen) ∙ ap (λ f. attempts_in f d.seen) (sym functional)) ∙ named.unit_is;
       session_is = ap (λ l. slice_get l named.place) (sym received) ∙ named.session_is;
     } in
-    let is : IsOf rx named.place unit session (turns_of up.later ++ turns_of up.front) = subst R (ap turns_of (sym up.is) ∙ turns-append up.later up.front) of in
-    let sent = sent-up-to tx (moments_of up.later) (moments_of up.front) tick k cut told run.shape so.sent (moments-in (λ (t : ℕ). tick < t) up.later both.0 up.late) (moments-in (λ (t : ℕ). t ≤ tick) up.front both.1 up.early) so.cut_is so.told_is so.sends in
-    let put = put-up-to rx (turns_of up.later) (turns_of up.front) tick named.place unit session named.opened is.received is.idle (turns-in (λ (t : ℕ). tick < t) up.later both.0 up.late) (turns-in (λ (t : ℕ). t ≤ tick) up.front both.1 up.early) is.unit_is is.session_is named.opened_is in
-    rw (address, source) (omega (arith, sent, read-put rx tx sizes up.front told.seq _ far refl, ap (λ n. length (store rx.path.0 (calls_by (turns_of up.front)) n)) named.seq_is, put))
+    let is : IsOf o.rx named.place unit session (turns_of up.later ++ turns_of up.front) = subst R (ap turns_of (sym up.is) ∙ turns-append up.later up.front) of in
+    let sent = sent-up-to o.tx (moments_of up.later) (moments_of up.front) tick k cut told o.run.shape so.sent (moments-in (λ (t : ℕ). tick < t) up.later both.0 up.late) (moments-in (λ (t : ℕ). t ≤ tick) up.front both.1 up.early) so.cut_is so.told_is so.sends in
+    let put = put-up-to o.rx (turns_of up.later) (turns_of up.front) tick named.place unit session named.opened is.received is.idle (turns-in (λ (t : ℕ). tick < t) up.later both.0 up.late) (turns-in (λ (t : ℕ). t ≤ tick) up.front both.1 up.early) is.unit_is is.session_is named.opened_is in
+    rw (address, source) (omega (arith, sent, read-put o.rx o.tx o.sizes up.front told.seq _ far refl, ap (λ n. length (store o.rx.path.0 (calls_by (turns_of up.front)) n)) named.seq_is, put))
 
 any-tick : (works : List Work) → AllByRecursion (WorkIn (λ (t : ℕ). Unit {0})) works
 any-tick [] = tt
 any-tick (work ∷ works) = (tt, any-tick works)
 
 -- where no transmission goes on, all have ended
-all-ended : (t : Transfer) (now : ℕ) (live : Option Sending) (ended going : List (Cut Seen)) → live ≡ None → GoesOnWith t now live going → ended ++ going ≡ ended
+all-ended : (t : Transfer) (now : ℕ) (live : Option Transmission) (ended going : List (Cut Seen)) → live ≡ None → GoesOnWith t now live going → ended ++ going ≡ ended
 all-ended t now None ended going is goes = ap (λ l. ended ++ l) goes ∙ append-nil ended
 all-ended t now (Some s) ended going is goes = cc
 
-pub timely : (rx : RxSet) (tx : TxSet) (shape : Shape) (source_budget budget : ℕ) (sizes : List ℕ) (last count free : ℕ) (ticks : List Work) (end : Work) → IsRun rx tx sizes last count free ticks end →
-    TimelyLaw (route_of rx tx shape source_budget budget sizes last count free ticks end)
-timely rx tx shape source_budget budget sizes last count free ticks end run =
-    let works : List Work = end ∷ ticks in
-    let r : Route = route_of rx tx shape source_budget budget sizes last count free ticks end in
+pub timely : (o : WholeRun) → TimelyLaw (route o)
+timely o =
+    let works : List Work = works_of o in
+    let r : Route = route o in
     let d : Delivery = delivery_of_route r in
-    let t : Transfer = transfer_of tx (moments_of works) in
-    let timed : AllByRecursion IsTimed works = run-timed rx tx sizes last count free ticks end run in
-    let transfer : TransferLaw t = law tx (moments_of works) run.shape run.sent in
-    let ended : attempts_in false t.frames ≡ transfer.ended = transfer.cut ∙ all-ended t t.now t.live transfer.ended transfer.going run.ends.idle.sender transfer.goes_on in
+    let t : Transfer = transfer_of o.tx (moments_of works) in
+    let timed : AllByRecursion IsTimed works = run-timed o in
+    let transfer : TransferLaw t = law o.tx (moments_of works) o.run.shape o.run.sent in
+    let ended : attempts_in false t.frames ≡ transfer.ended = transfer.cut ∙ all-ended t t.now t.live transfer.ended transfer.going o.run.ends.idle.sender transfer.goes_on in
     let sends : AllZip (SendsFor t) (attempts_in false t.frames) (filter has_sent t.records) = rw ended transfer.sends in
     let begins : begins_by (turns_of works) ≡ begins_told (records_by (turns_of works)) =
-    begins-are rx (turns_of works) run.received ∙ ap (λ b. begins_told (records_by (turns_of works)) ++ begin_going b) run.ends.idle.receiver ∙ append-nil (begins_told (records_by (turns_of works))) in
+    begins-are o.rx (turns_of works) o.run.received ∙ ap (λ b. begins_told (records_by (turns_of works)) ++ begin_going b) o.run.ends.idle.receiver ∙ append-nil (begins_told (records_by (turns_of works))) in
     let begun : Originates (IsBegun (begins_by (turns_of works))) (moments_of works) =
-    begun-by rx tx sizes works (λ later front is. as-far-up-to rx tx sizes last count free ticks end later front is run) timed (run-rising rx tx sizes last count free ticks end run) in
-    let counts : CountsFrom 0 (sessions_in (records_by (turns_of works))) = (source_law_of rx (turns_of works) run.received run.ends.idle.receiver).sessions in
-    let frames : AreWritten tx.shape (left_by tx.shape (moments_of works)) = written (λ (n : ℕ). Unit {0}) tx (moments_of works) run.shape run.sent (moments-in (λ (n : ℕ). Unit {0}) works timed (any-tick works)) in
+    begun-by o.rx o.tx o.sizes works (λ later front is. as-far-up-to o later front is) timed (run-rising o) in
+    let counts : CountsFrom 0 (sessions_in (records_by (turns_of works))) = (source_law_of o.rx (turns_of works) o.run.received o.run.ends.idle.receiver).sessions in
+    let frames : AreWritten o.tx.shape (left_by o.tx.shape (moments_of works)) = written (λ (n : ℕ). Unit {0}) o.tx (moments_of works) o.run.shape o.run.sent (moments-in (λ (n : ℕ). Unit {0}) works timed (any-tick works)) in
     record {
-      begins = all-weaker (OfTold (IsBegun (begins_by (turns_of works)))) (BeginsAfter d) (sent_by (moments_of works)) (λ told of. begins-after d (begins_by (turns_of works)) told begins counts of) begun.told;
+      begins = all-weaker (OfTold (IsBegun (begins_by (turns_of works)))) (BeginsAfter d) (records_by (moments_of works)) (λ told of. begins-after d (begins_by (turns_of works)) told begins counts of) begun.told;
       timely = zip-index (SendsFor t) (IsTimely d) (attempts_in false t.frames) (filter has_sent t.records)
-          (λ k cut told cut_is told_is sends_so. is-timely rx tx sizes last count free ticks end d k cut told run refl refl refl refl refl (record { sent = run.sent; cut_is = cut_is; told_is = told_is; sends = sends_so })) sends;
+          (λ k cut told cut_is told_is sends_so. is-timely o d k cut told refl refl refl refl refl (record { sent = o.run.sent; cut_is = cut_is; told_is = told_is; sends = sends_so })) sends;
       own = frames.own;
       counted = frames.counted ∙ ticks-counted t (attempts_in false t.frames) (filter has_sent t.records) sends;
     }

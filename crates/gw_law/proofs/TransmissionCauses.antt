@@ -1,5 +1,10 @@
 -- Each record of a destination is caused, in every run.
 use Rattle.std.proofs.Common.{◌≡◌, ℕ, ◌+◌, ◌≤◌, ◌⊎◌, Bool, true, false, Option, Some, None, List, [], ◌∷◌, ◌++◌, refl, ap, sym, subst, ◌∙◌, arith, append-nil, append_assoc, inl, inr}
+use Rattle.tp_sender.specs.declared.transmission.Phase.{Phase}
+use Rattle.tp_sender.specs.declared.transmission.Phase.TheVariants.{Start, Bytes, Box, Fc, Gap}
+use Rattle.tp_sender.specs.Runs.{Answer, HasSent, controls_in, box_after}
+use Rattle.tp_sender.specs.State.{TxTurn, tx_new, Transmission}
+use Rattle.hub_core.specs.Turns.{came_by, now_of, state_after, records_by}
 use Rattle.std.specs.Prelude.{filter, map, nat_lt}
 use Rattle.std.specs.List.{AllByRecursion, AllZip}
 use Rattle.std.proofs.lemmas.Bool.{cases_lt}
@@ -8,19 +13,12 @@ use Rattle.hub_core.specs.declared.record.DestRecord.{DestRecord}
 use Rattle.tp_attempts.specs.Attempts.{attempts_in}
 use Rattle.tp_attempts.specs.Cuts.{Cut}
 use Rattle.tp_attempts.specs.Seen.{Seen}
-use Rattle.tp_receiver.specs.declared.set.RxSet.{RxSet}
 use Rattle.tp_sender.specs.declared.event.TxEvent.{TxEvent}
 use Rattle.tp_sender.specs.declared.event.TxEvent.TheVariants.{Turn, Fc as CameFc, Left, RunEnd}
-use Rattle.tp_sender.specs.declared.live.Phase.{Phase}
-use Rattle.tp_sender.specs.declared.live.Phase.TheVariants.{Start, Bytes, Box, Fc, Gap}
 use Rattle.tp_sender.specs.declared.set.TxSet.{TxSet}
-use Rattle.tp_sender.specs.Sending.{Answer, Moment, OtherLeft, Stepped, Happened, answer_at, answered_by, box_after, now_of, state_from, told_by}
-use Rattle.tp_sender.specs.State.{Sending}
-use Rattle.tp_sender.specs.Table.{TxMove}
-use Rattle.tp_unit.specs.declared.shape.Shape.{Shape}
 use Rattle.tp_unit.specs.Shape.{IsShape, address_size}
 use Rattle.tp_unit.specs.Unit.{Meaning}
-use Rattle.gw_law.specs.Run.{AnswersIn, AreTicks, FrameLeaves, IsAnswerIn, IsEnd, IsIdle, IsRun, IsStepIn, SendsIn, Work, moments_of, route_of, tick_after}
+use Rattle.gw_law.specs.Run.{AnswersIn, AreTicks, FrameLeaves, IsAnswerIn, IsEnd, IsIdle, IsStepIn, SendsIn, Work, moments_of, tick_after}
 use Rattle.gw_law.specs.Transfer.{SendsFor, Transfer, TransferLaw, has_sent, ticks_of, transfer_of}
 use Rattle.gw_law.specs.TransmissionCauses.{IsCaused, TransmissionCauses, left_in}
 use Rattle.gw_law.proofs.TxLaw.{law, so-far, world_of}
@@ -32,6 +30,8 @@ use Rattle.gw_law.proofs.TxCausesMoments.{Holds, Lives, answer-step, answered-mo
 use Rattle.gw_law.proofs.TxCausesSteps.{Counted, Opens, OpensIn, Tells, Turned, came}
 use Rattle.gw_law.proofs.Lists.{all-front, all-join, all-weaker, zip-both}
 use Rattle.gw_law.proofs.Deliveries.{none-going}
+use Rattle.gw_law.proofs.WholeRun.{WholeRun, route}
+use Rattle.hub_core.proofs.Turns.{happened-front}
 
 -- a flow control that came in a tick
 record Came (tick : ℕ) (event : TxEvent) (at : ℕ) : Type 0 where
@@ -57,20 +57,19 @@ splits-before all so_far now next a le is = record {
 }
 
 -- the flow controls of a tick, one by one
-answering : (tx : TxSet) (all : List Answer) (last tick : ℕ) (moments earlier : List Moment) → AllByRecursion (IsAnswerIn tick) moments → 1 ≤ tx.n_bs → Happened tx (moments ++ earlier) → Splits all (answered_by (moments ++ earlier)) tick tick →
-    Holds tx all last (Opens tx all (answered_by earlier) tick) earlier → Holds tx all last (Opens tx all (answered_by (moments ++ earlier)) tick) (moments ++ earlier)
+answering : (tx : TxSet) (all : List Answer) (last tick : ℕ) (moments earlier : List TxTurn) → AllByRecursion (IsAnswerIn tick) moments → 1 ≤ tx.n_bs → HasSent tx (moments ++ earlier) → Splits all (came_by controls_in (moments ++ earlier)) tick tick →
+    Holds tx all last (Opens tx all (came_by controls_in earlier) tick) earlier → Holds tx all last (Opens tx all (came_by controls_in (moments ++ earlier)) tick) (moments ++ earlier)
 answering tx all last tick [] earlier are some happened splits holds = holds
-answering tx all last tick (Stepped m ∷ moments) earlier are some happened splits holds =
+answering tx all last tick (m ∷ moments) earlier are some happened splits holds =
     let came_in : Came tick m.event m.did.tick = came-in tick m.event m.did.tick are.0 in
-    let so_far : List Answer = answered_by (moments ++ earlier) in
+    let so_far : List Answer = came_by controls_in (moments ++ earlier) in
     let a : Answer = came m.did came_in.fs came_in.bs came_in.st in
     let S : List Answer → Type 0 = λ l. Splits all l tick tick in
     let here : Splits all (so_far ++ a ∷ []) tick tick = subst S (answered-more m (moments ++ earlier) (CameFc came_in.fs came_in.bs came_in.st) came_in.event_is) splits in
     let before : Splits all so_far tick tick = splits-before all so_far tick tick a (omega (arith, came_in.at_is)) here in
-    let held = answering tx all last tick moments earlier are.1 some happened.3 before holds in
-    let T : ℕ → Type 0 = λ t. Splits all (so_far ++ a ∷ []) t t → AllByRecursion (λ (x : Answer). x.tick ≤ t) so_far → Holds tx all last (Opens tx all so_far t) (moments ++ earlier) → Holds tx all last (Opens tx all (answered_by (Stepped m ∷ (moments ++ earlier))) t) (Stepped m ∷ (moments ++ earlier)) in
+    let held = answering tx all last tick moments earlier are.1 some happened.2 before holds in
+    let T : ℕ → Type 0 = λ t. Splits all (so_far ++ a ∷ []) t t → AllByRecursion (λ (x : Answer). x.tick ≤ t) so_far → Holds tx all last (Opens tx all so_far t) (moments ++ earlier) → Holds tx all last (Opens tx all (came_by controls_in (m ∷ (moments ++ earlier))) t) (m ∷ (moments ++ earlier)) in
     subst T came_in.at_is (answer-step tx all last m (moments ++ earlier) came_in.fs came_in.bs came_in.st came_in.event_is some happened) here before.past held
-answering tx all last tick (OtherLeft at frame ∷ moments) earlier are some happened splits holds = absurd are.0
 
 splits-sooner : (all so_far : List Answer) (tick : ℕ) → Splits all so_far tick (tick + 1) → Splits all so_far tick tick
 splits-sooner all so_far tick is = record {
@@ -81,135 +80,125 @@ splits-sooner all so_far tick is = record {
 }
 
 -- a step for no flow control
-answered-same : (m : TxMove) (earlier : List Moment) (event : TxEvent) → m.event ≡ event → answer_at event m.did.tick ≡ [] → answered_by (Stepped m ∷ earlier) ≡ answered_by earlier
-answered-same m earlier event at none = answered-more m earlier event at ∙ ap (λ l. answered_by earlier ++ l) none ∙ append-nil (answered_by earlier)
+answered-same : (m : TxTurn) (earlier : List TxTurn) (event : TxEvent) → m.event ≡ event → controls_in m.did.tick event ≡ [] → came_by controls_in (m ∷ earlier) ≡ came_by controls_in earlier
+answered-same m earlier event at none = answered-more m earlier event at ∙ ap (λ l. came_by controls_in earlier ++ l) none ∙ append-nil (came_by controls_in earlier)
 
 -- the turn of a tick, after its flow controls
-turning : (tx : TxSet) (all : List Answer) (last tick : ℕ) (answers earlier : List Moment) (turn : TxMove) → AllByRecursion (IsAnswerIn tick) answers → turn.event ≡ Turn → turn.did.tick ≡ tick → 1 ≤ tx.n_bs → Happened tx (Stepped turn ∷ (answers ++ earlier)) →
-    Splits all (answered_by (answers ++ earlier)) tick (tick + 1) → Holds tx all last (Opens tx all (answered_by earlier) tick) earlier → Holds tx all last (Turned tx all (answered_by (answers ++ earlier)) tick) (Stepped turn ∷ (answers ++ earlier))
+turning : (tx : TxSet) (all : List Answer) (last tick : ℕ) (answers earlier : List TxTurn) (turn : TxTurn) → AllByRecursion (IsAnswerIn tick) answers → turn.event ≡ Turn → turn.did.tick ≡ tick → 1 ≤ tx.n_bs → HasSent tx (turn ∷ (answers ++ earlier)) →
+    Splits all (came_by controls_in (answers ++ earlier)) tick (tick + 1) → Holds tx all last (Opens tx all (came_by controls_in earlier) tick) earlier → Holds tx all last (Turned tx all (came_by controls_in (answers ++ earlier)) tick) (turn ∷ (answers ++ earlier))
 turning tx all last tick answers earlier turn are event at some happened splits holds =
-    let so_far : List Answer = answered_by (answers ++ earlier) in
-    let T : ℕ → Type 0 = λ t. Splits all so_far t (t + 1) → Holds tx all last (Opens tx all so_far t) (answers ++ earlier) → Holds tx all last (Turned tx all so_far t) (Stepped turn ∷ (answers ++ earlier)) in
-    subst T at (turn-step tx all last turn (answers ++ earlier) event happened) splits (answering tx all last tick answers earlier are some happened.3 (splits-sooner all so_far tick splits) holds)
+    let so_far : List Answer = came_by controls_in (answers ++ earlier) in
+    let T : ℕ → Type 0 = λ t. Splits all so_far t (t + 1) → Holds tx all last (Opens tx all so_far t) (answers ++ earlier) → Holds tx all last (Turned tx all so_far t) (turn ∷ (answers ++ earlier)) in
+    subst T at (turn-step tx all last turn (answers ++ earlier) event happened) splits (answering tx all last tick answers earlier are some happened.2 (splits-sooner all so_far tick splits) holds)
 
-leaves-one : (tick : ℕ) (box : Option Meaning) (moment : Moment) (more : List Moment) → FrameLeaves tick box (moment ∷ more) → IsStepIn tick Left moment × (more ≡ [])
+leaves-one : (tick : ℕ) (box : Option Meaning) (moment : TxTurn) (more : List TxTurn) → FrameLeaves tick box (moment ∷ more) → IsStepIn tick Left moment × (more ≡ [])
 leaves-one tick None moment more is = cc
 leaves-one tick (Some meaning) moment more is = is
 
 -- a whole tick
-in-tick-by : (tx : TxSet) (all : List Answer) (last tick : ℕ) (left answers earlier : List Moment) (turn : TxMove) → AllByRecursion (IsAnswerIn tick) answers → turn.event ≡ Turn → turn.did.tick ≡ tick → FrameLeaves tick (box_after (Stepped turn ∷ (answers ++ earlier))) left →
-    IsShape tx.shape → 1 ≤ tx.n_bs → Happened tx ((left ++ Stepped turn ∷ answers) ++ earlier) → Splits all (answered_by ((left ++ Stepped turn ∷ answers) ++ earlier)) tick (tick + 1) →
-    Holds tx all last (Opens tx all (answered_by earlier) tick) earlier → Holds tx all last (Opens tx all (answered_by ((left ++ Stepped turn ∷ answers) ++ earlier)) (tick + 1)) ((left ++ Stepped turn ∷ answers) ++ earlier)
+in-tick-by : (tx : TxSet) (all : List Answer) (last tick : ℕ) (left answers earlier : List TxTurn) (turn : TxTurn) → AllByRecursion (IsAnswerIn tick) answers → turn.event ≡ Turn → turn.did.tick ≡ tick → FrameLeaves tick (box_after (turn ∷ (answers ++ earlier))) left →
+    IsShape tx.shape → 1 ≤ tx.n_bs → HasSent tx ((left ++ turn ∷ answers) ++ earlier) → Splits all (came_by controls_in ((left ++ turn ∷ answers) ++ earlier)) tick (tick + 1) →
+    Holds tx all last (Opens tx all (came_by controls_in earlier) tick) earlier → Holds tx all last (Opens tx all (came_by controls_in ((left ++ turn ∷ answers) ++ earlier)) (tick + 1)) ((left ++ turn ∷ answers) ++ earlier)
 in-tick-by tx all last tick [] answers earlier turn are event at leaves sound some happened splits holds =
-    let ms : List Moment = Stepped turn ∷ (answers ++ earlier) in
-    let same : answered_by ms ≡ answered_by (answers ++ earlier) = answered-same turn (answers ++ earlier) Turn event refl in
+    let ms : List TxTurn = turn ∷ (answers ++ earlier) in
+    let same : came_by controls_in ms ≡ came_by controls_in (answers ++ earlier) = answered-same turn (answers ++ earlier) Turn event refl in
     let S : List Answer → Type 0 = λ l. Splits all l tick (tick + 1) in
     let H : List Answer → Type 0 = λ l. Holds tx all last (Opens tx all l (tick + 1)) ms in
-    let here : Splits all (answered_by (answers ++ earlier)) tick (tick + 1) = subst S same splits in
-    subst H (sym same) (stays-step tx all (answered_by (answers ++ earlier)) last tick ms sound happened here leaves (turning tx all last tick answers earlier turn are event at some happened here holds))
-in-tick-by tx all last tick (Stepped m ∷ []) answers earlier turn are event at leaves sound some happened splits holds =
-    let ms : List Moment = Stepped turn ∷ (answers ++ earlier) in
-    let so_far : List Answer = answered_by (answers ++ earlier) in
-    let step : IsStepIn tick Left (Stepped m) × ([] ≡ []) = leaves-one tick (box_after ms) (Stepped m) [] leaves in
-    let same : answered_by (Stepped m ∷ ms) ≡ so_far = answered-same m ms Left step.0.0 refl ∙ answered-same turn (answers ++ earlier) Turn event refl in
+    let here : Splits all (came_by controls_in (answers ++ earlier)) tick (tick + 1) = subst S same splits in
+    subst H (sym same) (stays-step tx all (came_by controls_in (answers ++ earlier)) last tick ms sound happened here leaves (turning tx all last tick answers earlier turn are event at some happened here holds))
+in-tick-by tx all last tick (m ∷ []) answers earlier turn are event at leaves sound some happened splits holds =
+    let ms : List TxTurn = turn ∷ (answers ++ earlier) in
+    let so_far : List Answer = came_by controls_in (answers ++ earlier) in
+    let step : IsStepIn tick Left m × ([] ≡ []) = leaves-one tick (box_after ms) m [] leaves in
+    let same : came_by controls_in (m ∷ ms) ≡ so_far = answered-same m ms Left step.0.0 refl ∙ answered-same turn (answers ++ earlier) Turn event refl in
     let S : List Answer → Type 0 = λ l. Splits all l tick (tick + 1) in
-    let H : List Answer → Type 0 = λ l. Holds tx all last (Opens tx all l (tick + 1)) (Stepped m ∷ ms) in
-    let T : ℕ → Type 0 = λ t. Splits all so_far t (t + 1) → Holds tx all last (Turned tx all so_far t) ms → Holds tx all last (Opens tx all so_far (t + 1)) (Stepped m ∷ ms) in
+    let H : List Answer → Type 0 = λ l. Holds tx all last (Opens tx all l (tick + 1)) (m ∷ ms) in
+    let T : ℕ → Type 0 = λ t. Splits all so_far t (t + 1) → Holds tx all last (Turned tx all so_far t) ms → Holds tx all last (Opens tx all so_far (t + 1)) (m ∷ ms) in
     let here : Splits all so_far tick (tick + 1) = subst S same splits in
-    subst H (sym same) (subst T step.0.1 (left-step tx all so_far last m ms step.0.0 sound some happened) here (turning tx all last tick answers earlier turn are event at some happened.3 here holds))
-in-tick-by tx all last tick (Stepped m ∷ next ∷ more) answers earlier turn are event at leaves sound some happened splits holds =
-    let step : IsStepIn tick Left (Stepped m) × (next ∷ more ≡ []) = leaves-one tick (box_after (Stepped turn ∷ (answers ++ earlier))) (Stepped m) (next ∷ more) leaves in
+    subst H (sym same) (subst T step.0.1 (left-step tx all so_far last m ms step.0.0 sound some happened) here (turning tx all last tick answers earlier turn are event at some happened.2 here holds))
+in-tick-by tx all last tick (m ∷ next ∷ more) answers earlier turn are event at leaves sound some happened splits holds =
+    let step : IsStepIn tick Left m × (next ∷ more ≡ []) = leaves-one tick (box_after (turn ∷ (answers ++ earlier))) m (next ∷ more) leaves in
     let no : next ∷ more ≡ [] = step.1 in absurd cc
-in-tick-by tx all last tick (OtherLeft on frame ∷ more) answers earlier turn are event at leaves sound some happened splits holds =
-    absurd (leaves-one tick (box_after (Stepped turn ∷ (answers ++ earlier))) (OtherLeft on frame) more leaves).0
 
-in-tick : (tx : TxSet) (all : List Answer) (last tick : ℕ) (earlier moments : List Moment) → SendsIn tick earlier moments → IsShape tx.shape → 1 ≤ tx.n_bs → Happened tx (moments ++ earlier) → Splits all (answered_by (moments ++ earlier)) tick (tick + 1) →
-    Holds tx all last (Opens tx all (answered_by earlier) tick) earlier → Holds tx all last (Opens tx all (answered_by (moments ++ earlier)) (tick + 1)) (moments ++ earlier)
+in-tick : (tx : TxSet) (all : List Answer) (last tick : ℕ) (earlier moments : List TxTurn) → SendsIn tick earlier moments → IsShape tx.shape → 1 ≤ tx.n_bs → HasSent tx (moments ++ earlier) → Splits all (came_by controls_in (moments ++ earlier)) tick (tick + 1) →
+    Holds tx all last (Opens tx all (came_by controls_in earlier) tick) earlier → Holds tx all last (Opens tx all (came_by controls_in (moments ++ earlier)) (tick + 1)) (moments ++ earlier)
 in-tick tx all last tick earlier moments is sound some =
-    let P : List Moment → Type 0 = λ ms. Happened tx (ms ++ earlier) → Splits all (answered_by (ms ++ earlier)) tick (tick + 1) → Holds tx all last (Opens tx all (answered_by earlier) tick) earlier →
-    Holds tx all last (Opens tx all (answered_by (ms ++ earlier)) (tick + 1)) (ms ++ earlier) in
+    let P : List TxTurn → Type 0 = λ ms. HasSent tx (ms ++ earlier) → Splits all (came_by controls_in (ms ++ earlier)) tick (tick + 1) → Holds tx all last (Opens tx all (came_by controls_in earlier) tick) earlier →
+    Holds tx all last (Opens tx all (came_by controls_in (ms ++ earlier)) (tick + 1)) (ms ++ earlier) in
     subst P (sym is.moments_are) (λ happened splits holds. in-tick-by tx all last tick is.left is.answers earlier is.turn is.answers_only is.turn_is is.turn_tick is.left_is sound some happened splits holds)
 
 -- the flow controls of some moments, and of those before
-answered-join : (moments earlier : List Moment) → answered_by (moments ++ earlier) ≡ answered_by earlier ++ answered_by moments
-answered-join [] earlier = sym (append-nil (answered_by earlier))
-answered-join (Stepped m ∷ moments) earlier = ap (λ l. l ++ answer_at m.event m.did.tick) (answered-join moments earlier) ∙ append_assoc (answered_by earlier) (answered_by moments) (answer_at m.event m.did.tick)
-answered-join (OtherLeft at frame ∷ moments) earlier = answered-join moments earlier
+answered-join : (moments earlier : List TxTurn) → came_by controls_in (moments ++ earlier) ≡ came_by controls_in earlier ++ came_by controls_in moments
+answered-join [] earlier = sym (append-nil (came_by controls_in earlier))
+answered-join (m ∷ moments) earlier = ap (λ l. l ++ controls_in m.did.tick m.event) (answered-join moments earlier) ∙ append_assoc (came_by controls_in earlier) (came_by controls_in moments) (controls_in m.did.tick m.event)
 
-came-all : (tick : ℕ) (answers : List Moment) → AllByRecursion (IsAnswerIn tick) answers → AllByRecursion (λ (a : Answer). tick ≤ a.tick) (answered_by answers)
+came-all : (tick : ℕ) (answers : List TxTurn) → AllByRecursion (IsAnswerIn tick) answers → AllByRecursion (λ (a : Answer). tick ≤ a.tick) (came_by controls_in answers)
 came-all tick [] are = tt
-came-all tick (Stepped m ∷ answers) are =
+came-all tick (m ∷ answers) are =
     let came_in : Came tick m.event m.did.tick = came-in tick m.event m.did.tick are.0 in
     let A : List Answer → Type 0 = λ l. AllByRecursion (λ (a : Answer). tick ≤ a.tick) l in
     subst A (sym (answered-more m answers (CameFc came_in.fs came_in.bs came_in.st) came_in.event_is))
-    (all-join (λ (a : Answer). tick ≤ a.tick) (answered_by answers) (came m.did came_in.fs came_in.bs came_in.st ∷ []) (came-all tick answers are.1) (omega (arith, came_in.at_is), tt))
-came-all tick (OtherLeft at frame ∷ answers) are = absurd are.0
+    (all-join (λ (a : Answer). tick ≤ a.tick) (came_by controls_in answers) (came m.did came_in.fs came_in.bs came_in.st ∷ []) (came-all tick answers are.1) (omega (arith, came_in.at_is), tt))
 
 -- what a tick's moments say of the flow controls
-record TickAnswers (tick : ℕ) (earlier moments : List Moment) : Type 0 where
+record TickAnswers (tick : ℕ) (earlier moments : List TxTurn) : Type 0 where
   now : now_of (moments ++ earlier) ≡ tick
   came : List Answer
-  came_is : answered_by (moments ++ earlier) ≡ answered_by earlier ++ came
+  came_is : came_by controls_in (moments ++ earlier) ≡ came_by controls_in earlier ++ came
   came_now : AllByRecursion (λ (a : Answer). tick ≤ a.tick) came
 
-tick-answers-by : (tick : ℕ) (left answers earlier : List Moment) (turn : TxMove) (box : Option Meaning) → AllByRecursion (IsAnswerIn tick) answers → turn.event ≡ Turn → turn.did.tick ≡ tick → FrameLeaves tick box left → TickAnswers tick earlier (left ++ Stepped turn ∷ answers)
+tick-answers-by : (tick : ℕ) (left answers earlier : List TxTurn) (turn : TxTurn) (box : Option Meaning) → AllByRecursion (IsAnswerIn tick) answers → turn.event ≡ Turn → turn.did.tick ≡ tick → FrameLeaves tick box left → TickAnswers tick earlier (left ++ turn ∷ answers)
 tick-answers-by tick [] answers earlier turn box are event at leaves = record {
   now = at;
-  came = answered_by answers;
+  came = came_by controls_in answers;
   came_is = answered-same turn (answers ++ earlier) Turn event refl ∙ answered-join answers earlier;
   came_now = came-all tick answers are;
 }
-tick-answers-by tick (Stepped m ∷ []) answers earlier turn box are event at leaves =
-    let step : IsStepIn tick Left (Stepped m) × ([] ≡ []) = leaves-one tick box (Stepped m) [] leaves in
+tick-answers-by tick (m ∷ []) answers earlier turn box are event at leaves =
+    let step : IsStepIn tick Left m × ([] ≡ []) = leaves-one tick box m [] leaves in
     record {
       now = step.0.1;
-      came = answered_by answers;
-      came_is = answered-same m (Stepped turn ∷ (answers ++ earlier)) Left step.0.0 refl ∙ answered-same turn (answers ++ earlier) Turn event refl ∙ answered-join answers earlier;
+      came = came_by controls_in answers;
+      came_is = answered-same m (turn ∷ (answers ++ earlier)) Left step.0.0 refl ∙ answered-same turn (answers ++ earlier) Turn event refl ∙ answered-join answers earlier;
       came_now = came-all tick answers are;
     }
-tick-answers-by tick (Stepped m ∷ next ∷ more) answers earlier turn box are event at leaves =
-    let step : IsStepIn tick Left (Stepped m) × (next ∷ more ≡ []) = leaves-one tick box (Stepped m) (next ∷ more) leaves in
+tick-answers-by tick (m ∷ next ∷ more) answers earlier turn box are event at leaves =
+    let step : IsStepIn tick Left m × (next ∷ more ≡ []) = leaves-one tick box m (next ∷ more) leaves in
     let no : next ∷ more ≡ [] = step.1 in absurd cc
-tick-answers-by tick (OtherLeft on frame ∷ more) answers earlier turn box are event at leaves = absurd (leaves-one tick box (OtherLeft on frame) more leaves).0
 
-tick-answers : (tick : ℕ) (earlier moments : List Moment) → SendsIn tick earlier moments → TickAnswers tick earlier moments
+tick-answers : (tick : ℕ) (earlier moments : List TxTurn) → SendsIn tick earlier moments → TickAnswers tick earlier moments
 tick-answers tick earlier moments is =
-    let P : List Moment → Type 0 = λ ms. TickAnswers tick earlier ms in
-    subst P (sym is.moments_are) (tick-answers-by tick is.left is.answers earlier is.turn (box_after (Stepped is.turn ∷ (is.answers ++ earlier))) is.answers_only is.turn_is is.turn_tick is.left_is)
+    let P : List TxTurn → Type 0 = λ ms. TickAnswers tick earlier ms in
+    subst P (sym is.moments_are) (tick-answers-by tick is.left is.answers earlier is.turn (box_after (is.turn ∷ (is.answers ++ earlier))) is.answers_only is.turn_is is.turn_tick is.left_is)
 
-splits-at : (tx : TxSet) (all : List Answer) (tick next : ℕ) (moments : List Moment) (rest : List Answer) → IsShape tx.shape → Happened tx moments → now_of moments ≡ tick → all ≡ answered_by moments ++ rest → AllByRecursion (λ (a : Answer). next ≤ a.tick) rest → Splits all (answered_by moments) tick next
+splits-at : (tx : TxSet) (all : List Answer) (tick next : ℕ) (moments : List TxTurn) (rest : List Answer) → IsShape tx.shape → HasSent tx moments → now_of moments ≡ tick → all ≡ came_by controls_in moments ++ rest → AllByRecursion (λ (a : Answer). next ≤ a.tick) rest → Splits all (came_by controls_in moments) tick next
 splits-at tx all tick next moments rest sound happened at are later =
     let so : SoFar tx.shape (world_of tx moments) = so-far tx moments sound happened in
-    let P : ℕ → Type 0 = λ t. AllByRecursion (λ (a : Answer). a.tick ≤ t) (answered_by moments) in
+    let P : ℕ → Type 0 = λ t. AllByRecursion (λ (a : Answer). a.tick ≤ t) (came_by controls_in moments) in
     record { rest = rest; all_is = are; past = subst P at so.past; later = later }
 
-happened-before : (tx : TxSet) (moments earlier : List Moment) → Happened tx (moments ++ earlier) → Happened tx earlier
-happened-before tx [] earlier happened = happened
-happened-before tx (Stepped m ∷ moments) earlier happened = happened-before tx moments earlier happened.3
-happened-before tx (OtherLeft at frame ∷ moments) earlier happened = happened-before tx moments earlier happened.2
-
 -- nothing is sent, or the next tick is the one after the last
-idle-any : (P Q : List ℕ → Sending → Type 0) (ticks : List ℕ) (live : Option Sending) → live ≡ None → Lives P ticks live → Lives Q ticks live
+idle-any : (P Q : List ℕ → Transmission → Type 0) (ticks : List ℕ) (live : Option Transmission) → live ≡ None → Lives P ticks live → Lives Q ticks live
 idle-any P Q ticks None is lives = lives
 idle-any P Q ticks (Some s) is lives = cc
 
-reopens : (tx : TxSet) (all : List Answer) (last tick : ℕ) (earlier : List Work) → IsIdle earlier ⊎ (tick ≡ tick_after earlier) → Holds tx all last (Opens tx all (answered_by (moments_of earlier)) (tick_after earlier)) (moments_of earlier) →
-    Holds tx all last (Opens tx all (answered_by (moments_of earlier)) tick) (moments_of earlier)
+reopens : (tx : TxSet) (all : List Answer) (last tick : ℕ) (earlier : List Work) → IsIdle earlier ⊎ (tick ≡ tick_after earlier) → Holds tx all last (Opens tx all (came_by controls_in (moments_of earlier)) (tick_after earlier)) (moments_of earlier) →
+    Holds tx all last (Opens tx all (came_by controls_in (moments_of earlier)) tick) (moments_of earlier)
 reopens tx all last tick earlier (inl idle) holds = record {
   told = holds.told;
   cuts = holds.cuts;
-  live = idle-any (Opens tx all (answered_by (moments_of earlier)) (tick_after earlier)) (Opens tx all (answered_by (moments_of earlier)) tick) (live_ticks (moments_of earlier)) (state_from (moments_of earlier)).live idle.sender holds.live;
+  live = idle-any (Opens tx all (came_by controls_in (moments_of earlier)) (tick_after earlier)) (Opens tx all (came_by controls_in (moments_of earlier)) tick) (live_ticks (moments_of earlier)) (state_after tx_new (moments_of earlier)).live idle.sender holds.live;
 }
-reopens tx all last tick earlier (inr at) holds = let P : ℕ → Type 0 = λ t. Holds tx all last (Opens tx all (answered_by (moments_of earlier)) t) (moments_of earlier) in subst P (sym at) holds
+reopens tx all last tick earlier (inr at) holds = let P : ℕ → Type 0 = λ t. Holds tx all last (Opens tx all (came_by controls_in (moments_of earlier)) t) (moments_of earlier) in subst P (sym at) holds
 
 -- tick by tick
-pub in-ticks : (tx : TxSet) (sizes : List ℕ) (all : List Answer) (last : ℕ) (works : List Work) (rest : List Answer) → IsShape tx.shape → 1 ≤ tx.n_bs → AreTicks sizes works → Happened tx (moments_of works) → all ≡ answered_by (moments_of works) ++ rest →
-    AllByRecursion (λ (a : Answer). tick_after works ≤ a.tick) rest → Holds tx all last (Opens tx all (answered_by (moments_of works)) (tick_after works)) (moments_of works)
+pub in-ticks : (tx : TxSet) (sizes : List ℕ) (all : List Answer) (last : ℕ) (works : List Work) (rest : List Answer) → IsShape tx.shape → 1 ≤ tx.n_bs → AreTicks sizes works → HasSent tx (moments_of works) → all ≡ came_by controls_in (moments_of works) ++ rest →
+    AllByRecursion (λ (a : Answer). tick_after works ≤ a.tick) rest → Holds tx all last (Opens tx all (came_by controls_in (moments_of works)) (tick_after works)) (moments_of works)
 in-ticks tx sizes all last [] rest sound some ticks happened are later = record { told = tt; cuts = refl; live = refl }
 in-ticks tx sizes all last (work ∷ earlier) rest sound some ticks happened are later =
     let here : TickAnswers work.tick (moments_of earlier) work.moments = tick-answers work.tick (moments_of earlier) work.moments ticks.0.sends in
-    let before = in-ticks tx sizes all last earlier (here.came ++ rest) sound some ticks.1 (happened-before tx work.moments (moments_of earlier) happened)
-    (are ∙ ap (λ l. l ++ rest) here.came_is ∙ append_assoc (answered_by (moments_of earlier)) here.came rest)
+    let before = in-ticks tx sizes all last earlier (here.came ++ rest) sound some ticks.1 (happened-front _ work.moments (moments_of earlier) happened)
+    (are ∙ ap (λ l. l ++ rest) here.came_is ∙ append_assoc (came_by controls_in (moments_of earlier)) here.came rest)
     (all-join (λ (a : Answer). tick_after earlier ≤ a.tick) here.came rest (all-weaker (λ (a : Answer). work.tick ≤ a.tick) (λ (a : Answer). tick_after earlier ≤ a.tick) here.came (λ a le. omega (arith, le, ticks.0.later)) here.came_now)
     (all-weaker (λ (a : Answer). work.tick + 1 ≤ a.tick) (λ (a : Answer). tick_after earlier ≤ a.tick) rest (λ a le. omega (arith, le, ticks.0.later)) later)) in
     in-tick tx all last work.tick (moments_of earlier) work.moments ticks.0.sends sound some happened (splits-at tx all work.tick (work.tick + 1) (work.moments ++ moments_of earlier) rest sound happened here.now are later)
@@ -219,25 +208,25 @@ now-within : (sizes : List ℕ) (works : List Work) (last : ℕ) → AreTicks si
 now-within sizes [] last ticks le = omega arith
 now-within sizes (work ∷ earlier) last ticks le = omega (arith, le, (tick-answers work.tick (moments_of earlier) work.moments ticks.0.sends).now)
 
-ends-at : (tx : TxSet) (all : List Answer) (last : ℕ) (ticks : List Work) → IsIdle ticks ⊎ (tick_after ticks ≡ last + 1) → Holds tx all last (Opens tx all (answered_by (moments_of ticks)) (tick_after ticks)) (moments_of ticks) →
-    Holds tx all last (Opens tx all (answered_by (moments_of ticks)) (last + 1)) (moments_of ticks)
+ends-at : (tx : TxSet) (all : List Answer) (last : ℕ) (ticks : List Work) → IsIdle ticks ⊎ (tick_after ticks ≡ last + 1) → Holds tx all last (Opens tx all (came_by controls_in (moments_of ticks)) (tick_after ticks)) (moments_of ticks) →
+    Holds tx all last (Opens tx all (came_by controls_in (moments_of ticks)) (last + 1)) (moments_of ticks)
 ends-at tx all last ticks (inl idle) holds = reopens tx all last (last + 1) ticks (inl idle) holds
 ends-at tx all last ticks (inr at) holds = reopens tx all last (last + 1) ticks (inr (sym at)) holds
 
 -- a whole run
-in-run : (tx : TxSet) (sizes : List ℕ) (path last : ℕ) (ticks : List Work) (end : Work) → IsShape tx.shape → 1 ≤ tx.n_bs → AreTicks sizes ticks → IsEnd sizes path last ticks end → Happened tx (end.moments ++ moments_of ticks) →
-    Holds tx (answered_by (end.moments ++ moments_of ticks)) last (Opens tx (answered_by (end.moments ++ moments_of ticks)) (answered_by (end.moments ++ moments_of ticks)) (last + 1)) (end.moments ++ moments_of ticks)
+in-run : (tx : TxSet) (sizes : List ℕ) (path last : ℕ) (ticks : List Work) (end : Work) → IsShape tx.shape → 1 ≤ tx.n_bs → AreTicks sizes ticks → IsEnd sizes path last ticks end → HasSent tx (end.moments ++ moments_of ticks) →
+    Holds tx (came_by controls_in (end.moments ++ moments_of ticks)) last (Opens tx (came_by controls_in (end.moments ++ moments_of ticks)) (came_by controls_in (end.moments ++ moments_of ticks)) (last + 1)) (end.moments ++ moments_of ticks)
 in-run tx sizes path last ticks end sound some are ends happened =
-    let all : List Answer = answered_by (end.moments ++ moments_of ticks) in
-    let same : all ≡ answered_by (moments_of ticks) = end-answers last end.moments (moments_of ticks) ends.sends in
-    let before : Happened tx (moments_of ticks) = happened-before tx end.moments (moments_of ticks) happened in
+    let all : List Answer = came_by controls_in (end.moments ++ moments_of ticks) in
+    let same : all ≡ came_by controls_in (moments_of ticks) = end-answers last end.moments (moments_of ticks) ends.sends in
+    let before : HasSent tx (moments_of ticks) = happened-front _ end.moments (moments_of ticks) happened in
     let so : SoFar tx.shape (world_of tx (moments_of ticks)) = so-far tx (moments_of ticks) sound before in
     let A : List Answer → Type 0 = λ l. AllByRecursion (λ (a : Answer). a.tick ≤ last) l in
     let H : List Answer → Type 0 = λ l. Holds tx all last (Opens tx all l (last + 1)) (moments_of ticks) in
-    let past : AllByRecursion (λ (a : Answer). a.tick ≤ last) (answered_by (moments_of ticks)) =
-    all-weaker (λ (a : Answer). a.tick ≤ now_of (moments_of ticks)) (λ (a : Answer). a.tick ≤ last) (answered_by (moments_of ticks)) (λ a le. omega (arith, le, now-within sizes ticks last are ends.in_time)) so.past in
+    let past : AllByRecursion (λ (a : Answer). a.tick ≤ last) (came_by controls_in (moments_of ticks)) =
+    all-weaker (λ (a : Answer). a.tick ≤ now_of (moments_of ticks)) (λ (a : Answer). a.tick ≤ last) (came_by controls_in (moments_of ticks)) (λ a le. omega (arith, le, now-within sizes ticks last are ends.in_time)) so.past in
     end-steps tx all last end.moments (moments_of ticks) ends.sends sound happened (record { rest = []; all_is = sym (append-nil all); past = subst A (sym same) past; later = tt })
-    (subst H (sym same) (ends-at tx all last ticks ends.reached (in-ticks tx sizes all last ticks [] sound some are before (same ∙ sym (append-nil (answered_by (moments_of ticks)))) tt)))
+    (subst H (sym same) (ends-at tx all last ticks ends.reached (in-ticks tx sizes all last ticks [] sound some are before (same ∙ sym (append-nil (came_by controls_in (moments_of ticks)))) tt)))
 
 -- the records with sent bytes are those of which frames left
 has-sent-by : (sent : ℕ) (ticks : List ℕ) → Counted sent ticks → nat_lt 0 sent ≡ is_left ticks
@@ -276,37 +265,36 @@ zip-of f R [] (y ∷ ys) zip = absurd zip
 zip-of f R (x ∷ xs) [] zip = absurd zip
 zip-of f R (x ∷ xs) (y ∷ ys) zip = (zip.0, zip-of f R xs ys zip.1)
 
-none-left : (P : List ℕ → Sending → Type 0) (ticks : List ℕ) (live : Option Sending) → live ≡ None → Lives P ticks live → ticks ≡ []
+none-left : (P : List ℕ → Transmission → Type 0) (ticks : List ℕ) (live : Option Transmission) → live ≡ None → Lives P ticks live → ticks ≡ []
 none-left P ticks None is lives = lives
 none-left P ticks (Some s) is lives = cc
 
 -- of moments after which nothing is sent
-of-moments : (tx : TxSet) (last next : ℕ) (moments : List Moment) → IsShape tx.shape → Happened tx moments → (state_from moments).live ≡ None → Holds tx (answered_by moments) last (Opens tx (answered_by moments) (answered_by moments) next) moments →
-    AllZip (λ cut told. IsCaused tx (answered_by moments) last (left_in (address_size tx.shape) cut) told) (attempts_in false (frames_by tx moments)) (filter has_sent (told_by moments))
+of-moments : (tx : TxSet) (last next : ℕ) (moments : List TxTurn) → IsShape tx.shape → HasSent tx moments → (state_after tx_new moments).live ≡ None → Holds tx (came_by controls_in moments) last (Opens tx (came_by controls_in moments) (came_by controls_in moments) next) moments →
+    AllZip (λ cut told. IsCaused tx (came_by controls_in moments) last (left_in (address_size tx.shape) cut) told) (attempts_in false (frames_by tx moments)) (filter has_sent (records_by moments))
 of-moments tx last next moments sound happened idle holds =
     let t : Transfer = transfer_of tx moments in
-    let all : List Answer = answered_by moments in
+    let all : List Answer = came_by controls_in moments in
     let sends : TransferLaw t = law tx moments sound happened in
     let whole : attempts_in false (frames_by tx moments) ≡ sends.ended = sends.cut ∙ ap (λ l. sends.ended ++ l) (none-going t t.now t.live sends.going idle sends.goes_on) ∙ append-nil sends.ended in
-    let none : live_ticks moments ≡ [] = none-left (Opens tx all all next) (live_ticks moments) (state_from moments).live idle holds.live in
+    let none : live_ticks moments ≡ [] = none-left (Opens tx all all next) (live_ticks moments) (state_after tx_new moments).live idle holds.live in
     let ticks : map ticks_of sends.ended ≡ filter is_left (ended_ticks moments) =
     ap (λ l. map ticks_of l) (sym whole) ∙ holds.cuts ∙ ap (λ l. filter is_left (ended_ticks moments) ++ filter is_left (l ∷ [])) none ∙ append-nil (filter is_left (ended_ticks moments)) in
-    let Z : List (List ℕ) → Type 0 = λ l. AllZip (Tells tx all last) l (filter has_sent (told_by moments)) in
-    let C : List (Cut Seen) → Type 0 = λ l. AllZip (λ cut told. IsCaused tx all last (left_in (address_size tx.shape) cut) told) l (filter has_sent (told_by moments)) in
-    let told : AllZip (λ cut d. Tells tx all last (ticks_of cut) d) sends.ended (filter has_sent (told_by moments)) =
-    zip-of ticks_of (Tells tx all last) sends.ended (filter has_sent (told_by moments)) (subst Z (sym ticks) (zip-left tx all last (ended_ticks moments) (told_by moments) holds.told)) in
+    let Z : List (List ℕ) → Type 0 = λ l. AllZip (Tells tx all last) l (filter has_sent (records_by moments)) in
+    let C : List (Cut Seen) → Type 0 = λ l. AllZip (λ cut told. IsCaused tx all last (left_in (address_size tx.shape) cut) told) l (filter has_sent (records_by moments)) in
+    let told : AllZip (λ cut d. Tells tx all last (ticks_of cut) d) sends.ended (filter has_sent (records_by moments)) =
+    zip-of ticks_of (Tells tx all last) sends.ended (filter has_sent (records_by moments)) (subst Z (sym ticks) (zip-left tx all last (ended_ticks moments) (records_by moments) holds.told)) in
     subst C (sym whole)
-    (zip-both (SendsFor t) (λ cut d. Tells tx all last (ticks_of cut) d) (λ cut d. IsCaused tx all last (left_in (address_size tx.shape) cut) d) sends.ended (filter has_sent (told_by moments))
+    (zip-both (SendsFor t) (λ cut d. Tells tx all last (ticks_of cut) d) (λ cut d. IsCaused tx all last (left_in (address_size tx.shape) cut) d) sends.ended (filter has_sent (records_by moments))
     (λ cut d sent is. let T : List ℕ → Type 0 = λ l. IsCaused tx all last l d in subst T (sym sent.counts) is.caused) sends.sends told)
 
-pub causes : (rx : RxSet) (tx : TxSet) (shape : Shape) (source_budget budget : ℕ) (sizes : List ℕ) (last count free : ℕ) (ticks : List Work) (end : Work) → 1 ≤ tx.n_bs → IsRun rx tx sizes last count free ticks end →
-    TransmissionCauses (route_of rx tx shape source_budget budget sizes last count free ticks end)
-causes rx tx shape source_budget budget sizes last count free ticks end some run =
-    let moments : List Moment = end.moments ++ moments_of ticks in
-    let holds = in-run tx sizes rx.path.0 last ticks end run.shape some run.ticks_are run.ends run.sent in
+pub causes : (o : WholeRun) → 1 ≤ o.tx.n_bs → TransmissionCauses (route o)
+causes o some =
+    let moments : List TxTurn = o.end.moments ++ moments_of o.ticks in
+    let holds = in-run o.tx o.sizes o.rx.path.0 o.last o.ticks o.end o.run.shape some o.run.ticks_are o.run.ends o.run.sent in
     record {
-      sent = of-moments tx last (last + 1) moments run.shape run.sent run.ends.idle.sender holds;
-      unsent = zip-unsent tx (answered_by moments) last (ended_ticks moments) (told_by moments) holds.told;
+      sent = of-moments o.tx o.last (o.last + 1) moments o.run.shape o.run.sent o.run.ends.idle.sender holds;
+      unsent = zip-unsent o.tx (came_by controls_in moments) o.last (ended_ticks moments) (records_by moments) holds.told;
     }
 
 -- what the session that is being sent waits for once a tick's work is done, and that the limit isn't over below the next tick
@@ -324,17 +312,17 @@ waits-on tx all so_far next begin ticks since Box opens = opens
 waits-on tx all so_far next begin ticks since Fc opens = opens.in_time
 waits-on tx all so_far next begin ticks since (Gap until) opens = (opens.now, opens.until_is)
 
-lives-so : (P : List ℕ → Sending → Type 0) (ticks : List ℕ) (live : Option Sending) (s : Sending) → live ≡ Some s → Lives P ticks live → P ticks s
-lives-so P ticks live s is lives = let L : Option Sending → Type 0 = λ l. Lives P ticks l in subst L is lives
+lives-so : (P : List ℕ → Transmission → Type 0) (ticks : List ℕ) (live : Option Transmission) (s : Transmission) → live ≡ Some s → Lives P ticks live → P ticks s
+lives-so P ticks live s is lives = let L : Option Transmission → Type 0 = λ l. Lives P ticks l in subst L is lives
 
-pub after-ticks : (tx : TxSet) (sizes : List ℕ) (works : List Work) (s : Sending) → IsShape tx.shape → 1 ≤ tx.n_bs → AreTicks sizes works → Happened tx (moments_of works) → (state_from (moments_of works)).live ≡ Some s →
-    Opens tx (answered_by (moments_of works)) (answered_by (moments_of works)) (tick_after works) (live_ticks (moments_of works)) s
+pub after-ticks : (tx : TxSet) (sizes : List ℕ) (works : List Work) (s : Transmission) → IsShape tx.shape → 1 ≤ tx.n_bs → AreTicks sizes works → HasSent tx (moments_of works) → (state_after tx_new (moments_of works)).live ≡ Some s →
+    Opens tx (came_by controls_in (moments_of works)) (came_by controls_in (moments_of works)) (tick_after works) (live_ticks (moments_of works)) s
 after-ticks tx sizes works s sound some ticks happened is =
-    let all : List Answer = answered_by (moments_of works) in
+    let all : List Answer = came_by controls_in (moments_of works) in
     let holds = in-ticks tx sizes all 0 works [] sound some ticks happened (sym (append-nil all)) tt in
-    lives-so (Opens tx all all (tick_after works)) (live_ticks (moments_of works)) (state_from (moments_of works)).live s is holds.live
+    lives-so (Opens tx all all (tick_after works)) (live_ticks (moments_of works)) (state_after tx_new (moments_of works)).live s is holds.live
 
-pub waits-after : (tx : TxSet) (sizes : List ℕ) (works : List Work) (s : Sending) → IsShape tx.shape → 1 ≤ tx.n_bs → AreTicks sizes works → Happened tx (moments_of works) → (state_from (moments_of works)).live ≡ Some s → WaitsOn tx (tick_after works) s.begin s.since s.phase
+pub waits-after : (tx : TxSet) (sizes : List ℕ) (works : List Work) (s : Transmission) → IsShape tx.shape → 1 ≤ tx.n_bs → AreTicks sizes works → HasSent tx (moments_of works) → (state_after tx_new (moments_of works)).live ≡ Some s → WaitsOn tx (tick_after works) s.begin s.since s.phase
 waits-after tx sizes works s sound some ticks happened is =
-    let all : List Answer = answered_by (moments_of works) in
+    let all : List Answer = came_by controls_in (moments_of works) in
     waits-on tx all all (tick_after works) s.begin (live_ticks (moments_of works)) s.since s.phase (after-ticks tx sizes works s sound some ticks happened is).phase

@@ -1,5 +1,10 @@
 -- The ticks of each session's frames, and the transmissions that they are.
-use Rattle.std.proofs.Common.{◌≡◌, ℕ, ◌<◌, Bool, true, false, Option, Some, None, List, [], ◌∷◌, ◌++◌, length, refl, ap, sym, subst, ◌∙◌, arith, append-nil}
+use Rattle.std.proofs.Common.{◌≡◌, ℕ, ◌<◌, Bool, true, false, Some, List, [], ◌∷◌, ◌++◌, length, refl, ap, sym, subst, ◌∙◌, arith, append-nil}
+use Rattle.tp_sender.specs.declared.transmission.Phase.{Phase}
+use Rattle.tp_sender.specs.declared.transmission.Phase.TheVariants.{Box}
+use Rattle.tp_sender.specs.Runs.{Answer, Written, box_after, left_by, written_at}
+use Rattle.tp_sender.specs.State.{TxTurn, tx_new, Transmission}
+use Rattle.hub_core.specs.Turns.{state_after}
 use Rattle.std.specs.Prelude.{filter, map, ◌==◌}
 use Rattle.std.proofs.lemmas.Bool.Decides.{nat_tests}
 use Rattle.std.proofs.lemmas.List.{map-append, same_from_push}
@@ -11,13 +16,8 @@ use Rattle.tp_attempts.specs.Seen.{Seen, is_start}
 use Rattle.tp_attempts.proofs.Cuts.{cuts-begin, cuts-more}
 use Rattle.tp_sender.specs.declared.event.TxEvent.{TxEvent}
 use Rattle.tp_sender.specs.declared.event.TxEvent.TheVariants.{Turn, Fc, Left, RunEnd}
-use Rattle.tp_sender.specs.declared.live.Phase.{Phase}
-use Rattle.tp_sender.specs.declared.live.Phase.TheVariants.{Box}
 use Rattle.tp_sender.specs.declared.set.TxSet.{TxSet}
 use Rattle.tp_sender.specs.Frame.{part_after, start_with, unit_after}
-use Rattle.tp_sender.specs.Sending.{Answer, Moment, OtherLeft, Stepped, Written, box_after, left_by, state_from, written_at}
-use Rattle.tp_sender.specs.State.{Sending}
-use Rattle.tp_sender.specs.Table.{TxMove}
 use Rattle.tp_unit.specs.declared.shape.Shape.{Shape}
 use Rattle.tp_unit.specs.Shape.{IsShape, address_size, fits_shape, part_of_start}
 use Rattle.tp_unit.specs.Unit.{Meaning, ConsecutiveFrame}
@@ -38,24 +38,22 @@ ticks_then (Fc fs bs st) tick ticks = ticks
 ticks_then Left tick ticks = ticks ++ tick ∷ []
 ticks_then RunEnd tick ticks = ticks
 
-abbrev pub unless_ended : Option DestRecord → List ℕ → List ℕ
-unless_ended None ticks = ticks
-unless_ended (Some told) ticks = []
+abbrev pub unless_ended : List DestRecord → List ℕ → List ℕ
+unless_ended [] ticks = ticks
+unless_ended (told ∷ more) ticks = []
 
-abbrev pub live_ticks : List Moment → List ℕ
+abbrev pub live_ticks : List TxTurn → List ℕ
 live_ticks [] = []
-live_ticks (Stepped m ∷ earlier) = unless_ended m.did.ended (ticks_then m.event m.did.tick (live_ticks earlier))
-live_ticks (OtherLeft tick frame ∷ earlier) = live_ticks earlier
+live_ticks (m ∷ earlier) = unless_ended m.did.records (ticks_then m.event m.did.tick (live_ticks earlier))
 
 -- those of the sessions that ended
-abbrev pub where_ended : Option DestRecord → List ℕ → List (List ℕ)
-where_ended None ticks = []
-where_ended (Some told) ticks = ticks ∷ []
+abbrev pub where_ended : List DestRecord → List ℕ → List (List ℕ)
+where_ended [] ticks = []
+where_ended (told ∷ more) ticks = ticks ∷ []
 
-abbrev pub ended_ticks : List Moment → List (List ℕ)
+abbrev pub ended_ticks : List TxTurn → List (List ℕ)
 ended_ticks [] = []
-ended_ticks (Stepped m ∷ earlier) = ended_ticks earlier ++ where_ended m.did.ended (ticks_then m.event m.did.tick (live_ticks earlier))
-ended_ticks (OtherLeft tick frame ∷ earlier) = ended_ticks earlier
+ended_ticks (m ∷ earlier) = ended_ticks earlier ++ where_ended m.did.records (ticks_then m.event m.did.tick (live_ticks earlier))
 
 -- some frames left
 abbrev pub is_left : List ℕ → Bool
@@ -63,24 +61,24 @@ is_left [] = false
 is_left (first ∷ later) = true
 
 -- the frames as reassembly sees them
-abbrev pub frames_by : TxSet → List Moment → List Seen
+abbrev pub frames_by : TxSet → List TxTurn → List Seen
 frames_by tx moments = map (seen_of (address_size tx.shape)) (left_by tx.shape moments)
 
 -- the transmissions are the sessions of which frames left
 abbrev pub AreCuts : List Seen → List (List ℕ) → List ℕ → Type 0
 AreCuts frames ended live = map ticks_of (attempts_in false frames) ≡ filter is_left ended ++ filter is_left (live ∷ [])
 
-told-by : (o : Option DestRecord) (ended : List (List ℕ)) (ticks : List ℕ) → filter is_left (ended ++ where_ended o ticks) ++ filter is_left (unless_ended o ticks ∷ []) ≡ filter is_left ended ++ filter is_left (ticks ∷ [])
-told-by None ended ticks = ap (λ l. filter is_left l ++ filter is_left (ticks ∷ [])) (append-nil ended)
-told-by (Some told) ended ticks = append-nil (filter is_left (ended ++ ticks ∷ [])) ∙ filter-append is_left ended (ticks ∷ [])
+told-by : (o : List DestRecord) (ended : List (List ℕ)) (ticks : List ℕ) → filter is_left (ended ++ where_ended o ticks) ++ filter is_left (unless_ended o ticks ∷ []) ≡ filter is_left ended ++ filter is_left (ticks ∷ [])
+told-by [] ended ticks = ap (λ l. filter is_left l ++ filter is_left (ticks ∷ [])) (append-nil ended)
+told-by (told ∷ more) ended ticks = append-nil (filter is_left (ended ++ ticks ∷ [])) ∙ filter-append is_left ended (ticks ∷ [])
 
-pub cuts-told : (tx : TxSet) (m : TxMove) (earlier : List Moment) → AreCuts (frames_by tx (Stepped m ∷ earlier)) (ended_ticks earlier) (ticks_then m.event m.did.tick (live_ticks earlier)) →
-    AreCuts (frames_by tx (Stepped m ∷ earlier)) (ended_ticks (Stepped m ∷ earlier)) (live_ticks (Stepped m ∷ earlier))
-cuts-told tx m earlier is = is ∙ sym (told-by m.did.ended (ended_ticks earlier) (ticks_then m.event m.did.tick (live_ticks earlier)))
+pub cuts-told : (tx : TxSet) (m : TxTurn) (earlier : List TxTurn) → AreCuts (frames_by tx (m ∷ earlier)) (ended_ticks earlier) (ticks_then m.event m.did.tick (live_ticks earlier)) →
+    AreCuts (frames_by tx (m ∷ earlier)) (ended_ticks (m ∷ earlier)) (live_ticks (m ∷ earlier))
+cuts-told tx m earlier is = is ∙ sym (told-by m.did.records (ended_ticks earlier) (ticks_then m.event m.did.tick (live_ticks earlier)))
 
 -- no frame left
-pub cuts-quiet : (tx : TxSet) (m : TxMove) (earlier : List Moment) (event : TxEvent) → m.event ≡ event → written_at tx.shape event m.did.tick (box_after earlier) ≡ [] → ticks_then event m.did.tick (live_ticks earlier) ≡ live_ticks earlier →
-    AreCuts (frames_by tx earlier) (ended_ticks earlier) (live_ticks earlier) → AreCuts (frames_by tx (Stepped m ∷ earlier)) (ended_ticks earlier) (ticks_then m.event m.did.tick (live_ticks earlier))
+pub cuts-quiet : (tx : TxSet) (m : TxTurn) (earlier : List TxTurn) (event : TxEvent) → m.event ≡ event → written_at tx.shape event m.did.tick (box_after earlier) ≡ [] → ticks_then event m.did.tick (live_ticks earlier) ≡ live_ticks earlier →
+    AreCuts (frames_by tx earlier) (ended_ticks earlier) (live_ticks earlier) → AreCuts (frames_by tx (m ∷ earlier)) (ended_ticks earlier) (ticks_then m.event m.did.tick (live_ticks earlier))
 cuts-quiet tx m earlier event at none same is =
     let W : List Written → Type 0 = λ l. AreCuts (map (seen_of (address_size tx.shape)) l) (ended_ticks earlier) (live_ticks earlier) in
     let written : left_by tx.shape earlier ++ written_at tx.shape event m.did.tick (box_after earlier) ≡ left_by tx.shape earlier = ap (λ l. left_by tx.shape earlier ++ l) none ∙ append-nil (left_by tx.shape earlier) in
@@ -134,11 +132,11 @@ cuts-by shape all clear begin was now len number sent taken since frames ended g
     ∙ ap (λ l. filter is_left closed ++ l ∷ []) (ticks-next one x kind.1 ∙ ap (λ l. l ++ now ∷ []) same.1) ∙ ap (λ l. filter is_left closed ++ l) (sym (left-by-one ticks now))
 
 -- the frame in the box left
-pub cuts-left : (tx : TxSet) (m : TxMove) (earlier : List Moment) (s : Sending) → IsShape tx.shape → m.event ≡ Left → (state_from earlier).live ≡ Some s → s.phase ≡ Box → SoFar tx.shape (world_of tx earlier) → Counted s.sent (live_ticks earlier) →
-    AreCuts (frames_by tx earlier) (ended_ticks earlier) (live_ticks earlier) → AreCuts (frames_by tx (Stepped m ∷ earlier)) (ended_ticks earlier) (ticks_then m.event m.did.tick (live_ticks earlier))
+pub cuts-left : (tx : TxSet) (m : TxTurn) (earlier : List TxTurn) (s : Transmission) → IsShape tx.shape → m.event ≡ Left → (state_after tx_new earlier).live ≡ Some s → s.phase ≡ Box → SoFar tx.shape (world_of tx earlier) → Counted s.sent (live_ticks earlier) →
+    AreCuts (frames_by tx earlier) (ended_ticks earlier) (live_ticks earlier) → AreCuts (frames_by tx (m ∷ earlier)) (ended_ticks earlier) (ticks_then m.event m.did.tick (live_ticks earlier))
 cuts-left tx m earlier s sound at is phase so counted are =
     let w = world_of tx earlier in
-    let on : GoesOn tx.shape w s so.going = lives-some tx.shape w (state_from earlier).live s so.going is so.lives in
+    let on : GoesOn tx.shape w s so.going = lives-some tx.shape w (state_after tx_new earlier).live s so.going is so.lives in
     let boxed : IsBoxed tx.shape s.len s.sent s.number (box_after earlier) on.offered = in-box tx.shape s.len s.sent s.number s.phase (box_after earlier) on.offered phase on.box in
     let W : Phase → Type 0 = λ p. Way tx.shape w.told.answers w.clear s.begin w.told.now s.len s.number s.sent on.taken p s.since so.going in
     let f : Written → Seen = seen_of (address_size tx.shape) in

@@ -1,15 +1,15 @@
 -- A destination's session after a tick's work: its frame left, or none did, and no limit is passed in that tick.
 use Rattle.std.proofs.Common.{◌≡◌, ℕ, ◌+◌, ◌%◌, ◌<◌, ◌≤◌, Option, Some, None, List, [], ◌∷◌, ◌++◌, length, refl, ap, sym, subst, ◌∙◌, arith, inl, inr, length-append}
+use Rattle.tp_sender.specs.declared.transmission.Phase.{Phase}
+use Rattle.tp_sender.specs.declared.transmission.Phase.TheVariants.{Start, Bytes, Box, Fc, Gap}
+use Rattle.tp_sender.specs.Runs.{Answer}
+use Rattle.tp_sender.specs.State.{Transmission, TxDid}
 use Rattle.std.specs.List.{AllByRecursion}
 use Rattle.std.proofs.lemmas.Bool.{cases_lt}
 use Rattle.hub_core.specs.View.{Event}
 use Rattle.hub_core.specs.declared.record.DestResult.TheVariants.{Sent}
-use Rattle.tp_sender.specs.declared.live.Phase.{Phase}
-use Rattle.tp_sender.specs.declared.live.Phase.TheVariants.{Start, Bytes, Box, Fc, Gap}
 use Rattle.tp_sender.specs.declared.set.TxSet.{TxSet}
-use Rattle.tp_sender.specs.Sending.{Answer}
-use Rattle.tp_sender.specs.State.{Sending}
-use Rattle.tp_sender.specs.Table.{Did, FrameLeft, all_sent, in_phase, next_part}
+use Rattle.tp_sender.specs.Table.{FrameLeft, all_sent, in_phase, next_part}
 use Rattle.tp_sender.specs.Table.{FirstLeft, LastLeft, NextLeft}
 use Rattle.tp_unit.specs.Shape.{IsShape}
 use Rattle.tp_unit.specs.Unit.{Keeps}
@@ -104,7 +104,7 @@ stays-by tx all so_far now ticks begin since Box out turned = out refl
 stays-by tx all so_far now ticks begin since Fc out turned = turned
 stays-by tx all so_far now ticks begin since (Gap until) out turned = absurd turned
 
-pub stays : (tx : TxSet) (all so_far : List Answer) (now : ℕ) (ticks : List ℕ) (s : Sending) → Splits all so_far now (now + 1) → (s.phase ≡ Box → ⊥) → Turned tx all so_far now ticks s → Opens tx all so_far (now + 1) ticks s
+pub stays : (tx : TxSet) (all so_far : List Answer) (now : ℕ) (ticks : List ℕ) (s : Transmission) → Splits all so_far now (now + 1) → (s.phase ≡ Box → ⊥) → Turned tx all so_far now ticks s → Opens tx all so_far (now + 1) ticks s
 stays tx all so_far now ticks s splits out turned =
     let opens : OpensIn tx all so_far (now + 1) s.begin ticks s.since s.phase = stays-by tx all so_far now ticks s.begin s.since s.phase out turned.phase in
     record {
@@ -142,8 +142,8 @@ gap-now all (first ∷ second ∷ later) now some is = record { first = first; s
 counted-next : (sent : ℕ) (ticks : List ℕ) (now : ℕ) → 0 < sent → Counted sent (ticks ++ now ∷ [])
 counted-next sent ticks now some = record { none = λ none. absurd (omega (arith, some, none)); some = λ _. some-next ticks now }
 
-pub left : (tx : TxSet) (all so_far : List Answer) (last : ℕ) (ticks : List ℕ) (s : Sending) (calls : List Event) (did : Did) → IsShape tx.shape → 1 ≤ tx.n_bs → Splits all so_far did.tick (did.tick + 1) → s.phase ≡ Box → s.sent < s.len →
-    Turned tx all so_far did.tick ticks s → FrameLeft tx s calls did → Comes tx all last (Opens tx all so_far (did.tick + 1)) (ticks ++ did.tick ∷ []) did.ended did.live
+pub left : (tx : TxSet) (all so_far : List Answer) (last : ℕ) (ticks : List ℕ) (s : Transmission) (calls : List Event) (did : TxDid) → IsShape tx.shape → 1 ≤ tx.n_bs → Splits all so_far did.tick (did.tick + 1) → s.phase ≡ Box → s.sent < s.len →
+    Turned tx all so_far did.tick ticks s → FrameLeft tx s calls did → Comes tx all last (Opens tx all so_far (did.tick + 1)) (ticks ++ did.tick ∷ []) did.records did.new.live
 left tx all so_far last ticks s calls did sound limit splits phase unfinished turned (LastLeft whole row) =
     let P : Phase → Type 0 = λ p. TurnedIn tx all so_far did.tick s.begin ticks s.since p in
     ends tx all last (Opens tx all so_far (did.tick + 1)) (ticks ++ did.tick ∷ []) (all_sent s) Keeps Sent calls did row (left-now ticks did.tick) (none-refused all ticks did.tick (subst P phase turned.phase))
@@ -155,7 +155,7 @@ left tx all so_far last ticks s calls did sound limit splits phase unfinished tu
       awaits = record { first = did.tick; alone = alone; unanswered = none-after did.tick so_far splits.past; since_is = sym (latest-same did.tick so_far splits.past) };
       in_time = omega (arith, limit);
     } in
-    Goes (in_phase Fc did.tick (record s { sent = next_part tx s })) row.ended row.live (record {
+    Goes (in_phase Fc did.tick (record s { sent = next_part tx s })) row.records row.live (record {
       stands = after tx all so_far did.tick (ticks ++ did.tick ∷ []) s.begin (next_part tx s) did.tick Fc splits turned.stands.began (omega arith) (counted-next (next_part tx s) ticks did.tick (part-some tx.shape s.len s.sent sound unfinished))
           (all-push (λ (at : ℕ). at ≤ did.tick) ticks did.tick (below-now ticks did.tick turned.stands.past) (omega arith)) (still-in-time tx all did.tick s.begin ticks turned.stands.in_time) opens;
       phase = opens;
@@ -163,7 +163,7 @@ left tx all so_far last ticks s calls did sound limit splits phase unfinished tu
 left tx all so_far last ticks s calls did sound limit splits phase unfinished turned (NextLeft some more row) =
     let P : Phase → Type 0 = λ p. TurnedIn tx all so_far did.tick s.begin ticks s.since p in
     let opens : InGapNow all (did.tick + 1) (ticks ++ did.tick ∷ []) did.tick (did.tick + 1) = gap-now all ticks did.tick (turned.stands.counted.some some) (subst P phase turned.phase) in
-    Goes (in_phase (Gap (record { 0 = did.tick + 1 })) did.tick (record s { sent = s.sent + next_part tx s; number = (s.number + 1) % 16 })) row.ended row.live (record {
+    Goes (in_phase (Gap (record { 0 = did.tick + 1 })) did.tick (record s { sent = s.sent + next_part tx s; number = (s.number + 1) % 16 })) row.records row.live (record {
       stands = after tx all so_far did.tick (ticks ++ did.tick ∷ []) s.begin (s.sent + next_part tx s) did.tick (Gap (record { 0 = did.tick + 1 })) splits turned.stands.began (omega arith)
           (counted-next (s.sent + next_part tx s) ticks did.tick (omega (arith, some)))
           (all-push (λ (at : ℕ). at ≤ did.tick) ticks did.tick (below-now ticks did.tick turned.stands.past) (omega arith)) (still-in-time tx all did.tick s.begin ticks turned.stands.in_time) opens;

@@ -1,11 +1,11 @@
 -- Flow controls and frames up to a tick, and the flow control that answers a first frame.
 use Rattle.std.proofs.Common.{◌≡◌, ℕ, ◌+◌, ◌<◌, ◌≤◌, Bool, true, false, Option, Some, None, List, [], ◌∷◌, ◌++◌, refl, ap, sym, ◌∙◌, arith, append-nil}
+use Rattle.tp_sender.specs.Runs.{Answer}
 use Rattle.std.specs.Prelude.{filter, max, nat_le, if◌then◌else◌}
 use Rattle.std.specs.List.{AllByRecursion}
 use Rattle.std.proofs.lemmas.Bool.Decides.{nat_tests}
 use Rattle.std.proofs.lemmas.Grind.{fold-append}
 use Rattle.std.proofs.lemmas.List.Elements.{filter-append}
-use Rattle.tp_sender.specs.Sending.{Answer}
 use Rattle.gw_law.specs.Transfer.{answer_after}
 use Rattle.gw_law.specs.TransmissionCauses.{answers_up_to, last_of, latest, left_up_to}
 use Rattle.gw_law.proofs.TxPaces.{answer-more, answer-next, answer-skips, counts_after}

@@ -1,16 +1,16 @@
 -- A destination's session in a tick, step by step: since when it waits, and why it ends.
 use Rattle.std.proofs.Common.{◌≡◌, ℕ, ◌+◌, ◌<◌, ◌≤◌, Option, Some, None, List, [], ◌∷◌, ◌++◌, length, refl, ap, sym, subst, ◌∙◌, arith}
+use Rattle.tp_sender.specs.declared.transmission.Phase.{Phase}
+use Rattle.tp_sender.specs.declared.transmission.Phase.TheVariants.{Start, Bytes, Box, Fc, Gap}
+use Rattle.tp_sender.specs.Runs.{Answer}
+use Rattle.tp_sender.specs.State.{Transmission, TxDid}
 use Rattle.std.specs.List.{AllByRecursion}
 use Rattle.hub_core.specs.View.{Event}
 use Rattle.hub_core.specs.declared.record.DestRecord.{DestRecord}
 use Rattle.hub_core.specs.declared.record.DestResult.{DestResult}
 use Rattle.hub_core.specs.declared.record.DestResult.TheVariants.{FcOverflow, InvalidFs}
-use Rattle.tp_sender.specs.declared.live.Phase.{Phase}
-use Rattle.tp_sender.specs.declared.live.Phase.TheVariants.{Start, Bytes, Box, Fc, Gap}
 use Rattle.tp_sender.specs.declared.set.TxSet.{TxSet}
-use Rattle.tp_sender.specs.Sending.{Answer}
-use Rattle.tp_sender.specs.State.{Sending}
-use Rattle.tp_sender.specs.Table.{Answered, Did, Ends, GoesOn, InAnswer, in_phase}
+use Rattle.tp_sender.specs.Table.{Answered, Ends, GoesOn, InAnswer, in_phase}
 use Rattle.tp_sender.specs.Table.{AsksToWait, Continues, IsInvalid, Overflows}
 use Rattle.tp_unit.specs.Unit.{BoxMeaning, Keeps}
 use Rattle.gw_law.specs.Transfer.{answer_after}
@@ -73,11 +73,11 @@ pub record Stands (tx : TxSet) (all : List Answer) (next : ℕ) (ticks : List �
   pub past : AllByRecursion (λ (at : ℕ). at < next) ticks
   pub in_time : (tick : ℕ) → begin ≤ tick → tick < next → IsInTime tx all begin ticks tick
 
-pub record Opens (tx : TxSet) (all so_far : List Answer) (next : ℕ) (ticks : List ℕ) (s : Sending) : Type 0 where
+pub record Opens (tx : TxSet) (all so_far : List Answer) (next : ℕ) (ticks : List ℕ) (s : Transmission) : Type 0 where
   pub stands : Stands tx all next ticks s.begin s.sent s.since
   pub phase : OpensIn tx all so_far next s.begin ticks s.since s.phase
 
-pub record Turned (tx : TxSet) (all so_far : List Answer) (tick : ℕ) (ticks : List ℕ) (s : Sending) : Type 0 where
+pub record Turned (tx : TxSet) (all so_far : List Answer) (tick : ℕ) (ticks : List ℕ) (s : Transmission) : Type 0 where
   pub stands : Stands tx all tick ticks s.begin s.sent s.since
   pub phase : TurnedIn tx all so_far tick s.begin ticks s.since s.phase
 
@@ -87,15 +87,15 @@ pub record Tells (tx : TxSet) (all : List Answer) (last : ℕ) (ticks : List ℕ
   pub counted : Counted told.sent ticks
 
 -- what a step comes to: the session goes on, or it ends with its cause, or none is sent
-pub data Comes (tx : TxSet) (all : List Answer) (last : ℕ) (P : List ℕ → Sending → Type 0) (ticks : List ℕ) (ended : Option DestRecord) (live : Option Sending) : Type 0 where
-  Goes : (s : Sending) → ended ≡ None → live ≡ Some s → P ticks s → Comes tx all last P ticks ended live
-  Closes : (told : DestRecord) → ended ≡ Some told → live ≡ None → Tells tx all last ticks told → Comes tx all last P ticks ended live
-  Rests : ended ≡ None → live ≡ None → ticks ≡ [] → Comes tx all last P ticks ended live
+pub data Comes (tx : TxSet) (all : List Answer) (last : ℕ) (P : List ℕ → Transmission → Type 0) (ticks : List ℕ) (ended : List DestRecord) (live : Option Transmission) : Type 0 where
+  Goes : (s : Transmission) → ended ≡ [] → live ≡ Some s → P ticks s → Comes tx all last P ticks ended live
+  Closes : (told : DestRecord) → ended ≡ told ∷ [] → live ≡ None → Tells tx all last ticks told → Comes tx all last P ticks ended live
+  Rests : ended ≡ [] → live ≡ None → ticks ≡ [] → Comes tx all last P ticks ended live
 
-pub ends : (tx : TxSet) (all : List Answer) (last : ℕ) (P : List ℕ → Sending → Type 0) (ticks : List ℕ) (s : Sending) (act : BoxMeaning) (result : DestResult) (calls : List Event) (did : Did) → Ends tx s act result calls did →
-    CauseOf tx all last s.begin ticks did.tick s.sent result → NoneRefuses all ticks did.tick → Counted s.sent ticks → ((tick : ℕ) → s.begin ≤ tick → tick < did.tick → IsInTime tx all s.begin ticks tick) → Comes tx all last P ticks did.ended did.live
+pub ends : (tx : TxSet) (all : List Answer) (last : ℕ) (P : List ℕ → Transmission → Type 0) (ticks : List ℕ) (s : Transmission) (act : BoxMeaning) (result : DestResult) (calls : List Event) (did : TxDid) → Ends tx s act result calls did →
+    CauseOf tx all last s.begin ticks did.tick s.sent result → NoneRefuses all ticks did.tick → Counted s.sent ticks → ((tick : ℕ) → s.begin ≤ tick → tick < did.tick → IsInTime tx all s.begin ticks tick) → Comes tx all last P ticks did.records did.new.live
 ends tx all last P ticks s act result calls did row cause none counted in_time =
-    Closes (record { path = tx.path; dest = tx.dest; seq = s.seq; begin = record { 0 = s.begin }; sent = s.sent; end = record { 0 = did.tick }; result = result }) row.ended row.live
+    Closes (record { path = tx.path; dest = tx.dest; seq = s.seq; begin = record { 0 = s.begin }; sent = s.sent; end = record { 0 = did.tick }; result = result }) row.records row.live
     (record { caused = record { cause = cause; none_refuses = none; in_time = in_time }; counted = counted })
 
 pub waits-anew : (tx : TxSet) (all : List Answer) (next : ℕ) (ticks : List ℕ) (begin sent since anew : ℕ) → anew ≤ next → Stands tx all next ticks begin sent since → Stands tx all next ticks begin sent anew
@@ -127,7 +127,7 @@ none-sooner all [] end none = tt
 none-sooner all (first ∷ later) end none = λ a found lt. none a found (omega (arith, lt))
 
 -- a flow control came in this tick
-abbrev pub came : Did → (fs bs st : ℕ) → Answer
+abbrev pub came : TxDid → (fs bs st : ℕ) → Answer
 came did fs bs st = record { tick = did.tick; status = fs; block_size = bs; separation = st }
 
 -- the first frame left before
@@ -135,13 +135,13 @@ first-below : (ticks : List ℕ) (first now : ℕ) → ticks ≡ first ∷ [] �
 first-below ticks first now alone past = let P : List ℕ → Type 0 = λ l. AllByRecursion (λ (at : ℕ). at < now) l in (subst P alone past).0
 
 -- the flow control that came answers the first frame
-came-answers : (all so_far : List Answer) (ticks : List ℕ) (since fs bs st : ℕ) (did : Did) → (fs ≡ 1 → ⊥) → Splits all (so_far ++ came did fs bs st ∷ []) did.tick did.tick → AllByRecursion (λ (at : ℕ). at < did.tick) ticks →
+came-answers : (all so_far : List Answer) (ticks : List ℕ) (since fs bs st : ℕ) (did : TxDid) → (fs ≡ 1 → ⊥) → Splits all (so_far ++ came did fs bs st ∷ []) did.tick did.tick → AllByRecursion (λ (at : ℕ). at < did.tick) ticks →
     (awaits : AwaitsSince so_far ticks since) → answer_after awaits.first all ≡ Some (came did fs bs st)
 came-answers all so_far ticks since fs bs st did out splits past awaits =
     answer-stays awaits.first all (so_far ++ came did fs bs st ∷ []) did.tick did.tick (came did fs bs st) splits
     (answer-now awaits.first so_far (came did fs bs st) awaits.unanswered (first-below ticks awaits.first did.tick awaits.alone past) out)
 
-refused : (tx : TxSet) (all so_far : List Answer) (ticks : List ℕ) (since fs bs st : ℕ) (did : Did) → (fs ≡ 1 → ⊥) → Splits all (so_far ++ came did fs bs st ∷ []) did.tick did.tick → AllByRecursion (λ (at : ℕ). at < did.tick) ticks →
+refused : (tx : TxSet) (all so_far : List Answer) (ticks : List ℕ) (since fs bs st : ℕ) (did : TxDid) → (fs ≡ 1 → ⊥) → Splits all (so_far ++ came did fs bs st ∷ []) did.tick did.tick → AllByRecursion (λ (at : ℕ). at < did.tick) ticks →
     (awaits : AwaitsSince so_far ticks since) → IsRefused all ticks did.tick fs × NoneRefuses all ticks did.tick
 refused tx all so_far ticks since fs bs st did out splits past awaits =
     let found : answer_after awaits.first all ≡ Some (came did fs bs st) = came-answers all so_far ticks since fs bs st did out splits past awaits in
@@ -150,19 +150,19 @@ refused tx all so_far ticks since fs bs st did out splits past awaits =
       subst P (sym awaits.alone) (λ a is lt. let same : a ≡ came did fs bs st = cc in absurd (omega (arith, lt, ap (λ (x : Answer). x.tick) same))),
     )
 
-awaited : (tx : TxSet) (all so_far : List Answer) (last : ℕ) (ticks : List ℕ) (s : Sending) (fs bs st : ℕ) (calls : List Event) (did : Did) → 1 ≤ tx.n_bs → Splits all (so_far ++ came did fs bs st ∷ []) did.tick did.tick →
+awaited : (tx : TxSet) (all so_far : List Answer) (last : ℕ) (ticks : List ℕ) (s : Transmission) (fs bs st : ℕ) (calls : List Event) (did : TxDid) → 1 ≤ tx.n_bs → Splits all (so_far ++ came did fs bs st ∷ []) did.tick did.tick →
     AllByRecursion (λ (a : Answer). a.tick ≤ did.tick) so_far → Stands tx all did.tick ticks s.begin s.sent s.since → Waits tx so_far did.tick ticks s.since → Answered tx s fs calls did →
-    Comes tx all last (Opens tx all (so_far ++ came did fs bs st ∷ []) did.tick) ticks did.ended did.live
+    Comes tx all last (Opens tx all (so_far ++ came did fs bs st ∷ []) did.tick) ticks did.records did.new.live
 awaited tx all so_far last ticks s fs bs st calls did some splits past stands waits (Continues zero row) =
     let P : List ℕ → Type 0 = λ l. AllowedFrom all s.begin l did.tick in
     let found : answer_after waits.awaits.first all ≡ Some (came did fs bs st) = came-answers all so_far ticks s.since fs bs st did (λ e. omega (arith, e, zero)) splits stands.past waits.awaits in
-    Goes (in_phase Bytes did.tick s) row.ended row.live (record {
+    Goes (in_phase Bytes did.tick s) row.records row.live (record {
       stands = waits-anew tx all did.tick ticks s.begin s.sent s.since did.tick (omega arith) stands;
       phase = (subst P (sym waits.awaits.alone) (came did fs bs st, found, zero, refl), omega arith);
     })
 awaited tx all so_far last ticks s fs bs st calls did some splits past stands waits (AsksToWait one row) =
     let below : waits.awaits.first < did.tick = first-below ticks waits.awaits.first did.tick waits.awaits.alone stands.past in
-    Goes (in_phase Fc did.tick s) row.ended row.live (record {
+    Goes (in_phase Fc did.tick s) row.records row.live (record {
       stands = waits-anew tx all did.tick ticks s.begin s.sent s.since did.tick (omega arith) stands;
       phase = record {
         awaits = record {
@@ -183,16 +183,16 @@ awaited tx all so_far last ticks s fs bs st calls did some splits past stands wa
     ends tx all last (Opens tx all (so_far ++ came did fs bs st ∷ []) did.tick) ticks s Keeps (InvalidFs fs) calls did row (is.0, more) is.1 stands.counted stands.in_time
 
 -- a phase in which none is awaited goes on
-goes-on : (tx : TxSet) (all more : List Answer) (last : ℕ) (ticks : List ℕ) (s : Sending) (calls : List Event) (did : Did) → Stands tx all did.tick ticks s.begin s.sent s.since → OpensIn tx all more did.tick s.begin ticks s.since s.phase → GoesOn s calls did →
-    Comes tx all last (Opens tx all more did.tick) ticks did.ended did.live
-goes-on tx all more last ticks s calls did stands opens row = Goes s row.ended row.live (record { stands = stands; phase = opens })
+goes-on : (tx : TxSet) (all more : List Answer) (last : ℕ) (ticks : List ℕ) (s : Transmission) (calls : List Event) (did : TxDid) → Stands tx all did.tick ticks s.begin s.sent s.since → OpensIn tx all more did.tick s.begin ticks s.since s.phase → GoesOn s calls did →
+    Comes tx all last (Opens tx all more did.tick) ticks did.records did.new.live
+goes-on tx all more last ticks s calls did stands opens row = Goes s row.records row.live (record { stands = stands; phase = opens })
 
 pub at-phase : (P : Phase → Type 0) (phase is : Phase) → phase ≡ is → P is → P phase
 at-phase P phase is same held = subst P (sym same) held
 
-answers-by : (tx : TxSet) (all so_far : List Answer) (last : ℕ) (ticks : List ℕ) (s : Sending) (phase : Phase) (fs bs st : ℕ) (calls : List Event) (did : Did) → s.phase ≡ phase → 1 ≤ tx.n_bs → Splits all (so_far ++ came did fs bs st ∷ []) did.tick did.tick →
+answers-by : (tx : TxSet) (all so_far : List Answer) (last : ℕ) (ticks : List ℕ) (s : Transmission) (phase : Phase) (fs bs st : ℕ) (calls : List Event) (did : TxDid) → s.phase ≡ phase → 1 ≤ tx.n_bs → Splits all (so_far ++ came did fs bs st ∷ []) did.tick did.tick →
     AllByRecursion (λ (a : Answer). a.tick ≤ did.tick) so_far → Stands tx all did.tick ticks s.begin s.sent s.since → OpensIn tx all so_far did.tick s.begin ticks s.since phase → InAnswer tx s phase fs calls did →
-    Comes tx all last (Opens tx all (so_far ++ came did fs bs st ∷ []) did.tick) ticks did.ended did.live
+    Comes tx all last (Opens tx all (so_far ++ came did fs bs st ∷ []) did.tick) ticks did.records did.new.live
 answers-by tx all so_far last ticks s Start fs bs st calls did same some splits past stands opens row =
     let more : List Answer = so_far ++ came did fs bs st ∷ [] in
     goes-on tx all more last ticks s calls did stands (at-phase (OpensIn tx all more did.tick s.begin ticks s.since) s.phase Start same opens) row
@@ -205,6 +205,6 @@ answers-by tx all so_far last ticks s (Gap until) fs bs st calls did same some s
     let more : List Answer = so_far ++ came did fs bs st ∷ [] in
     goes-on tx all more last ticks s calls did stands (at-phase (OpensIn tx all more did.tick s.begin ticks s.since) s.phase (Gap until) same opens) row
 
-pub answers : (tx : TxSet) (all so_far : List Answer) (last : ℕ) (ticks : List ℕ) (s : Sending) (fs bs st : ℕ) (calls : List Event) (did : Did) → 1 ≤ tx.n_bs → Splits all (so_far ++ came did fs bs st ∷ []) did.tick did.tick →
-    AllByRecursion (λ (a : Answer). a.tick ≤ did.tick) so_far → Opens tx all so_far did.tick ticks s → InAnswer tx s s.phase fs calls did → Comes tx all last (Opens tx all (so_far ++ came did fs bs st ∷ []) did.tick) ticks did.ended did.live
+pub answers : (tx : TxSet) (all so_far : List Answer) (last : ℕ) (ticks : List ℕ) (s : Transmission) (fs bs st : ℕ) (calls : List Event) (did : TxDid) → 1 ≤ tx.n_bs → Splits all (so_far ++ came did fs bs st ∷ []) did.tick did.tick →
+    AllByRecursion (λ (a : Answer). a.tick ≤ did.tick) so_far → Opens tx all so_far did.tick ticks s → InAnswer tx s s.phase fs calls did → Comes tx all last (Opens tx all (so_far ++ came did fs bs st ∷ []) did.tick) ticks did.records did.new.live
 answers tx all so_far last ticks s fs bs st calls did some splits past opens row = answers-by tx all so_far last ticks s s.phase fs bs st calls did refl some splits past opens.stands opens.phase row

@@ -1,5 +1,6 @@
 -- What a frame that leaves adds to a transmission.
 use Rattle.std.proofs.Common.{◌≡◌, ℕ, ◌-◌, ◌<◌, ◌≤◌, Bool, true, false, None, List, ◌++◌, length, take, refl, ap, sym, subst, ◌∙◌, arith}
+use Rattle.tp_sender.specs.Runs.{IsNoData}
 use Rattle.std.specs.Prelude.{nat_le}
 use Rattle.std.proofs.Math.Seq.{take-append_seam}
 use Rattle.std.proofs.lemmas.List.{length-append}
@@ -14,7 +15,6 @@ use Rattle.tp_attempts.specs.Walk.{Walk, due, due_number, joined, look, look_at}
 use Rattle.tp_attempts.proofs.Walks.{look-counts}
 use Rattle.tp_sender.specs.Frame.{start_with}
 use Rattle.gw_law.specs.Transfer.{is_consecutive}
-use Rattle.tp_sender.specs.Sending.{IsNoData}
 use Rattle.tp_attempts.proofs.Segments.{with_piece}
 
 -- the frame of a unit, as reassembly sees it

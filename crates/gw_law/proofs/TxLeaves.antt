@@ -1,5 +1,8 @@
 -- A frame leaves, a session ends, or another frame of the channel leaves.
 use Rattle.std.proofs.Common.{◌≡◌, ℕ, ◌+◌, ◌-◌, ◌%◌, ◌<◌, ◌≤◌, Option, Some, None, List, [], ◌∷◌, ◌++◌, length, true, false, refl, ap, sym, subst, ◌∙◌, arith, append-nil, length-append}
+use Rattle.tp_sender.specs.declared.transmission.Phase.{Phase}
+use Rattle.tp_sender.specs.Runs.{Answer}
+use Rattle.tp_sender.specs.State.{Transmission}
 use Rattle.std.proofs.Common.{Bool}
 use Rattle.tp_unit.proofs.RoundTrip.{reads_back}
 use Rattle.std.specs.Prelude.{filter, map, slice_get, ◌==◌, if◌then◌else◌}
@@ -18,10 +21,7 @@ use Rattle.tp_attempts.specs.Seen.{Seen, bytes_of, is_start}
 use Rattle.tp_attempts.specs.Walk.{Piece, Walk, joined, walk_of}
 use Rattle.tp_attempts.proofs.Cuts.{cuts-begin, cuts-more}
 use Rattle.tp_attempts.proofs.Walks.{joined-more, len-walk_of, walk_of-more}
-use Rattle.tp_sender.specs.declared.live.Phase.{Phase}
 use Rattle.tp_sender.specs.Frame.{part_after, start_with, unit_after}
-use Rattle.tp_sender.specs.Sending.{Answer}
-use Rattle.tp_sender.specs.State.{Sending}
 use Rattle.tp_unit.specs.declared.shape.Shape.{Shape}
 use Rattle.tp_unit.specs.Shape.{IsShape, address_size, fits_shape, part_of_consecutive, part_of_start}
 use Rattle.tp_unit.specs.Unit.{Meaning, ConsecutiveFrame}
@@ -82,7 +82,7 @@ finishes shape v w told last so grows past cut records idle seq next lens unread
     zip-weaker (SendsFor v.told) (SendsFor w.told) so.ended (filter has_sent v.told.records) (λ c d. sends-on v.told w.told d.seq d.sent d.begin.0 d.end.0 c grows) so.sends in
     let all : Closes w.told w.told.frames v.told.records told = closes w.told w.told.frames v.told.records told so.ended last cut sends last_is in
     let Z : List DestRecord → Type 0 = λ r. AllZip (SendsFor w.told) all.all (filter has_sent r) in
-    let L : Option Sending → Type 0 = λ l. Lives shape w l [] in
+    let L : Option Transmission → Type 0 = λ l. Lives shape w l [] in
     let count : length w.told.records ≡ w.next = ap length records ∙ length-append v.told.records (told ∷ []) ∙ next in
     record {
       address = grows.address ∙ so.address;
@@ -99,20 +99,20 @@ finishes shape v w told last so grows past cut records idle seq next lens unread
     }
 
 -- the session ends with that record
-abbrev pub record_of : PathNo → DestNo → Sending → ℕ → ℕ → DestResult → DestRecord
+abbrev pub record_of : PathNo → DestNo → Transmission → ℕ → ℕ → DestResult → DestRecord
 record_of path dest s sent tick result = record { path = path; dest = dest; seq = s.seq; begin = record { 0 = s.begin }; sent = sent; end = record { 0 = tick }; result = result }
 
-abbrev pub ends : PathNo → DestNo → Sending → DestResult → Option Meaning → World → World
+abbrev pub ends : PathNo → DestNo → Transmission → DestResult → Option Meaning → World → World
 ends path dest s result box w = record w { told = record w.told { records = w.told.records ++ record_of path dest s s.sent w.told.now result ∷ []; live = None }; box = box }
 
-last-way : (shape : Shape) (t : Transfer) (told : DestRecord) (clear number : ℕ) (s : Sending) (taken rest : List ℕ) (phase : Phase) (since : ℕ) (going : List (Cut Seen)) → told.sent ≡ s.sent →
+last-way : (shape : Shape) (t : Transfer) (told : DestRecord) (clear number : ℕ) (s : Transmission) (taken rest : List ℕ) (phase : Phase) (since : ℕ) (going : List (Cut Seen)) → told.sent ≡ s.sent →
     ((cut : Cut Seen) → Sends t s.seq s.sent s.begin t.now cut → SendsFor t cut told) → t.address ≡ address_size shape → slice_get t.lens s.seq ≡ Some s.len → t.read s.seq ≡ taken ++ rest → length taken ≡ s.sent →
     Way shape t.answers clear s.begin t.now s.len number s.sent taken phase since going → LastIs t told going
 last-way shape t told clear number s taken rest phase since going sent same address joined_is read count (Unsent none first bytes cuts early) = NoneSent cuts (sent ∙ none)
 last-way shape t told clear number s taken rest phase since going sent same address joined_is read count (UnderWay cut some cuts pieces way every ready) =
     OneSent cut cuts (omega (arith, sent, some)) (same cut (sends-way shape t s.seq s.len s.sent s.begin clear taken rest cut address joined_is read count way every))
 
-pub ended : (shape : Shape) (w : World) (s : Sending) (path : PathNo) (dest : DestNo) (result : DestResult) (box : Option Meaning) → w.told.live ≡ Some s → (result ≡ Sent → ⊥) → SoFar shape w → SoFar shape (ends path dest s result box w)
+pub ended : (shape : Shape) (w : World) (s : Transmission) (path : PathNo) (dest : DestNo) (result : DestResult) (box : Option Meaning) → w.told.live ≡ Some s → (result ≡ Sent → ⊥) → SoFar shape w → SoFar shape (ends path dest s result box w)
 ended shape w s path dest result box is not_sent so =
     let on : GoesOn shape w s so.going = lives-some shape w w.told.live s so.going is so.lives in
     let told : DestRecord = record_of path dest s s.sent w.told.now result in

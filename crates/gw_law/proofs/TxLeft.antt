@@ -1,5 +1,9 @@
 -- The frame that lay in the box left: the first one, a further one, the last one; or another frame of the channel left.
 use Rattle.std.proofs.Common.{◌≡◌, ℕ, ◌+◌, ◌%◌, ◌<◌, ◌≤◌, Option, Some, None, List, [], ◌∷◌, ◌++◌, length, get_or, false, refl, ap, sym, subst, ◌∙◌, arith, append-nil, append_assoc, length-append}
+use Rattle.tp_sender.specs.declared.transmission.Phase.{Phase}
+use Rattle.tp_sender.specs.declared.transmission.Phase.TheVariants.{Box, Fc, Gap}
+use Rattle.tp_sender.specs.Runs.{Answer, IsNoData}
+use Rattle.tp_sender.specs.State.{Transmission}
 use Rattle.std.specs.Prelude.{filter, map}
 use Rattle.std.specs.List.{AllByRecursion, AllZip}
 use Rattle.std.proofs.lemmas.Bool.Decides.{nat_tests}
@@ -13,11 +17,7 @@ use Rattle.tp_attempts.specs.Seen.{Seen, is_start}
 use Rattle.tp_attempts.specs.Walk.{Piece, Walk, joined, walk_of}
 use Rattle.tp_attempts.proofs.Cuts.{cuts-grow, cuts-more, grow}
 use Rattle.tp_attempts.proofs.Walks.{walk_of-more}
-use Rattle.tp_sender.specs.declared.live.Phase.{Phase}
-use Rattle.tp_sender.specs.declared.live.Phase.TheVariants.{Box, Fc, Gap}
 use Rattle.tp_sender.specs.Frame.{part_after, unit_after}
-use Rattle.tp_sender.specs.Sending.{Answer, IsNoData}
-use Rattle.tp_sender.specs.State.{Sending}
 use Rattle.tp_sender.specs.Table.{in_phase}
 use Rattle.tp_unit.specs.declared.shape.Shape.{Shape}
 use Rattle.tp_unit.specs.Shape.{IsShape, address_size}
@@ -31,7 +31,7 @@ use Rattle.gw_law.proofs.TxPaces.{MayLeave, counts_after, may-later, may-next}
 use Rattle.gw_law.proofs.TxWorld.{Boxed, GoesOn, IsBoxed, IsOnWay, Lives, Ready, SoFar, Unanswered, Way, World, Unsent, UnderWay, sends-on, so-cut, tells-on}
 
 -- a frame left, and the session goes on or ended
-abbrev pub leaves : Seen → List DestRecord → Option Sending → World → World
+abbrev pub leaves : Seen → List DestRecord → Option Transmission → World → World
 leaves seen records live w = record w { told = record w.told { frames = w.told.frames ++ seen ∷ []; records = w.told.records ++ records; live = live }; box = None; clear = w.told.now + 1 }
 
 -- no flow control so far counts after this tick
@@ -50,7 +50,7 @@ way-in-box : (shape : Shape) (answers : List Answer) (clear begin now len number
 way-in-box shape answers clear begin now len number sent taken phase since going is way = let P : Phase → Type 0 = λ p. Way shape answers clear begin now len number sent taken p since going in subst P is way
 
 -- what the frame that left comes to: the transmission with it, its bytes, and from when on the next frame may leave
-pub record Comes (shape : Shape) (w : World) (s : Sending) (ended : List (Cut Seen)) (unit : Meaning) : Type 0 where
+pub record Comes (shape : Shape) (w : World) (s : Transmission) (ended : List (Cut Seen)) (unit : Meaning) : Type 0 where
   pub taken : List ℕ
   pub rest : List ℕ
   pub read : w.told.read s.seq ≡ taken ++ (rest ++ s.carried)
@@ -63,7 +63,7 @@ pub record Comes (shape : Shape) (w : World) (s : Sending) (ended : List (Cut Se
   pub first : s.sent ≡ 0 → (s.number ≡ length (walk_of (address_size shape) cut).pieces % 16) × Unanswered w.told.answers (walk_of (address_size shape) cut).pieces
   pub next : 0 < s.sent → ((s.number + 1) % 16 ≡ length (walk_of (address_size shape) cut).pieces % 16) × MayLeave w.told.answers (walk_of (address_size shape) cut).pieces (w.told.now + 1)
 
-comes-by : (shape : Shape) (w : World) (s : Sending) (ended going : List (Cut Seen)) (taken offered : List ℕ) → IsShape shape → s.begin ≤ w.told.now → s.since ≤ w.told.now → s.sent < s.len → attempts_in false w.told.frames ≡ ended ++ going →
+comes-by : (shape : Shape) (w : World) (s : Transmission) (ended going : List (Cut Seen)) (taken offered : List ℕ) → IsShape shape → s.begin ≤ w.told.now → s.since ≤ w.told.now → s.sent < s.len → attempts_in false w.told.frames ≡ ended ++ going →
     AllByRecursion (λ answer. answer.tick ≤ w.told.now) w.told.answers → w.told.read s.seq ≡ taken ++ (offered ++ s.carried) → length taken ≡ s.sent → IsBoxed shape s.len s.sent s.number w.box offered →
     Way shape w.told.answers w.clear s.begin w.told.now s.len s.number s.sent taken Box s.since going → Comes shape w s ended (unit_after shape s.len s.sent s.number offered)
 comes-by shape w s ended going taken offered sound le since more cut past read count box (Unsent none number bytes cuts early) =
@@ -108,7 +108,7 @@ comes-by shape w s ended going taken offered sound le since more cut past read c
 some-same : (box : Option Meaning) (unit it : Meaning) → box ≡ Some unit → box ≡ Some it → it ≡ unit
 some-same box unit it is was = cc
 
-comes : (shape : Shape) (w : World) (s : Sending) (unit : Meaning) → IsShape shape → w.told.live ≡ Some s → s.phase ≡ Box → w.box ≡ Some unit → (so : SoFar shape w) → Comes shape w s so.ended unit
+comes : (shape : Shape) (w : World) (s : Transmission) (unit : Meaning) → IsShape shape → w.told.live ≡ Some s → s.phase ≡ Box → w.box ≡ Some unit → (so : SoFar shape w) → Comes shape w s so.ended unit
 comes shape w s unit sound is phase box so =
     let on : GoesOn shape w s so.going = lives-some shape w w.told.live s so.going is so.lives in
     let boxed : IsBoxed shape s.len s.sent s.number w.box on.offered = in-box shape s.len s.sent s.number s.phase w.box on.offered phase on.box in
@@ -118,7 +118,7 @@ comes shape w s unit sound is phase box so =
     (way-in-box shape w.told.answers w.clear s.begin w.told.now s.len s.number s.sent on.taken s.phase s.since so.going phase on.way))
 
 -- the first frame left, and more are to come
-pub first-left : (shape : Shape) (w : World) (s : Sending) (unit : Meaning) → IsShape shape → w.told.live ≡ Some s → s.phase ≡ Box → w.box ≡ Some unit → s.sent ≡ 0 → part_after shape s.len s.sent < s.len → 0 < part_after shape s.len s.sent → SoFar shape w →
+pub first-left : (shape : Shape) (w : World) (s : Transmission) (unit : Meaning) → IsShape shape → w.told.live ≡ Some s → s.phase ≡ Box → w.box ≡ Some unit → s.sent ≡ 0 → part_after shape s.len s.sent < s.len → 0 < part_after shape s.len s.sent → SoFar shape w →
     SoFar shape (leaves (seen_unit shape w.told.now unit) [] (Some (in_phase Fc w.told.now (record s { sent = part_after shape s.len s.sent }))) w)
 first-left shape w s unit sound is phase box none more some so =
     let on : GoesOn shape w s so.going = lives-some shape w w.told.live s so.going is so.lives in
@@ -141,7 +141,7 @@ first-left shape w s unit sound is phase box none more some so =
     })
 
 -- a further frame left, and more are to come
-pub next-left : (shape : Shape) (w : World) (s : Sending) (unit : Meaning) → IsShape shape → w.told.live ≡ Some s → s.phase ≡ Box → w.box ≡ Some unit → 0 < s.sent → s.sent + part_after shape s.len s.sent < s.len → SoFar shape w →
+pub next-left : (shape : Shape) (w : World) (s : Transmission) (unit : Meaning) → IsShape shape → w.told.live ≡ Some s → s.phase ≡ Box → w.box ≡ Some unit → 0 < s.sent → s.sent + part_after shape s.len s.sent < s.len → SoFar shape w →
     SoFar shape (leaves (seen_unit shape w.told.now unit) [] (Some (in_phase (Gap (record { 0 = w.told.now + 1 })) w.told.now (record s { sent = s.sent + part_after shape s.len s.sent; number = (s.number + 1) % 16 }))) w)
 next-left shape w s unit sound is phase box some more so =
     let on : GoesOn shape w s so.going = lives-some shape w w.told.live s so.going is so.lives in
@@ -164,7 +164,7 @@ next-left shape w s unit sound is phase box some more so =
     })
 
 -- the last frame left
-pub last-left : (shape : Shape) (w : World) (s : Sending) (unit : Meaning) (path : PathNo) (dest : DestNo) → IsShape shape → w.told.live ≡ Some s → s.phase ≡ Box → w.box ≡ Some unit → s.sent + part_after shape s.len s.sent ≡ s.len → SoFar shape w →
+pub last-left : (shape : Shape) (w : World) (s : Transmission) (unit : Meaning) (path : PathNo) (dest : DestNo) → IsShape shape → w.told.live ≡ Some s → s.phase ≡ Box → w.box ≡ Some unit → s.sent + part_after shape s.len s.sent ≡ s.len → SoFar shape w →
     SoFar shape (leaves (seen_unit shape w.told.now unit) (record_of path dest s s.len w.told.now Sent ∷ []) None w)
 last-left shape w s unit path dest sound is phase box whole so =
     let on : GoesOn shape w s so.going = lives-some shape w w.told.live s so.going is so.lives in
@@ -198,7 +198,7 @@ sends-same t u seq sent begin end cut seen none address answers lens read is =
       paced = rw (address, answers) (let P : Walk → Type 0 = λ x. Paced t.answers x.pieces in subst P (sym same) is.paced);
     }
 
-adds-lives : (shape : Shape) (w : World) (seen : Seen) (live : Option Sending) (going : List (Cut Seen)) → Lives shape w live going → Lives shape (adds seen w) live going
+adds-lives : (shape : Shape) (w : World) (seen : Seen) (live : Option Transmission) (going : List (Cut Seen)) → Lives shape w live going → Lives shape (adds seen w) live going
 adds-lives shape w seen None going lives = lives
 adds-lives shape w seen (Some s) going on = record {
   joined_is = on.joined_is;
@@ -239,7 +239,7 @@ few-way shape answers clear begin now len number sent taken phase since first se
 few-way shape answers clear begin now len number sent taken phase since first second later (UnderWay one some cuts pieces way every ready) = cc
 
 -- the transmission that is going on has the frame too
-on-lives : (shape : Shape) (w : World) (seen : Seen) (live : Option Sending) (cut : Cut Seen) → IsNoData seen.meaning → Lives shape w live (cut ∷ []) → Lives shape w live (record { start = cut.start; after = cut.after ++ seen ∷ [] } ∷ [])
+on-lives : (shape : Shape) (w : World) (seen : Seen) (live : Option Transmission) (cut : Cut Seen) → IsNoData seen.meaning → Lives shape w live (cut ∷ []) → Lives shape w live (record { start = cut.start; after = cut.after ++ seen ∷ [] } ∷ [])
 on-lives shape w seen None cut none lives = absurd (none-one cut lives.0)
 on-lives shape w seen (Some s) cut none on = record {
   joined_is = on.joined_is;
@@ -257,7 +257,7 @@ on-lives shape w seen (Some s) cut none on = record {
 }
 
 -- at most one transmission is going on
-few-going : (shape : Shape) (w : World) (live : Option Sending) (first second : Cut Seen) (later : List (Cut Seen)) → Lives shape w live (first ∷ second ∷ later) → ⊥
+few-going : (shape : Shape) (w : World) (live : Option Transmission) (first second : Cut Seen) (later : List (Cut Seen)) → Lives shape w live (first ∷ second ∷ later) → ⊥
 few-going shape w None first second later lives = none-two first second later lives.0
 few-going shape w (Some s) first second later on = few-way shape w.told.answers w.clear s.begin w.told.now s.len s.number s.sent on.taken s.phase s.since first second later on.way
 

@@ -1,5 +1,9 @@
 -- What a sender's moves come to, one by one: time passes, a session is joined, its cells are read, its phase changes, a frame is offered.
 use Rattle.std.proofs.Common.{◌≡◌, ℕ, ◌+◌, ◌<◌, ◌≤◌, Option, Some, None, List, [], ◌∷◌, ◌++◌, length, true, false, refl, ap, sym, subst, ◌∙◌, arith, append-nil, append_assoc, length-append}
+use Rattle.tp_sender.specs.declared.transmission.Phase.{Phase}
+use Rattle.tp_sender.specs.declared.transmission.Phase.TheVariants.{Start, Bytes, Box, Fc, Gap}
+use Rattle.tp_sender.specs.Runs.{Answer}
+use Rattle.tp_sender.specs.State.{Transmission}
 use Rattle.std.specs.Prelude.{take, drop}
 use Rattle.std.specs.List.{AllByRecursion}
 use Rattle.std.proofs.lemmas.Bool.Decides.{nat_tests}
@@ -9,11 +13,7 @@ use Rattle.gw_base.specs.declared.numbers.Tick.{Tick}
 use Rattle.tp_attempts.specs.Cuts.{Cut}
 use Rattle.tp_attempts.specs.Seen.{Seen}
 use Rattle.tp_attempts.specs.Walk.{Piece, Walk, walk_of}
-use Rattle.tp_sender.specs.declared.live.Phase.{Phase}
-use Rattle.tp_sender.specs.declared.live.Phase.TheVariants.{Start, Bytes, Box, Fc, Gap}
 use Rattle.tp_sender.specs.Frame.{part_after, unit_after}
-use Rattle.tp_sender.specs.Sending.{Answer}
-use Rattle.tp_sender.specs.State.{Sending}
 use Rattle.tp_sender.specs.Table.{fetched, in_phase, joined_in}
 use Rattle.tp_unit.specs.declared.shape.Shape.{Shape}
 use Rattle.tp_unit.specs.Shape.{address_size, fits_shape}
@@ -64,7 +64,7 @@ later-way shape answers clear begin now later len number sent taken phase since 
 later-way shape answers clear begin now later len number sent taken phase since going le (UnderWay cut some cuts count way every ready) =
     UnderWay cut some cuts count (on-way-later shape answers clear begin now later len taken (walk_of (address_size shape) cut) le way) every ready
 
-later-lives : (shape : Shape) (w : World) (tick : ℕ) (live : Option Sending) (going : List (Cut Seen)) → w.told.now ≤ tick → Lives shape w live going → Lives shape (at_tick tick w) live going
+later-lives : (shape : Shape) (w : World) (tick : ℕ) (live : Option Transmission) (going : List (Cut Seen)) → w.told.now ≤ tick → Lives shape w live going → Lives shape (at_tick tick w) live going
 later-lives shape w tick None going le lives = lives
 later-lives shape w tick (Some s) going le lives = record {
   joined_is = lives.joined_is;
@@ -88,14 +88,14 @@ later shape w tick le so =
     refl refl so.lens so.unread (later-lives shape w tick w.told.live so.going le so.lives)
 
 -- the session that is being sent
-abbrev pub with_live : Option Sending → World → World
+abbrev pub with_live : Option Transmission → World → World
 with_live live w = record w { told = record w.told { live = live } }
 
-pub lives-none : (shape : Shape) (w : World) (live : Option Sending) (going : List (Cut Seen)) → live ≡ None → Lives shape w live going → (going ≡ []) × (length w.told.records ≡ w.next)
-lives-none shape w live going is lives = let P : Option Sending → Type 0 = λ l. Lives shape w l going in subst P is lives
+pub lives-none : (shape : Shape) (w : World) (live : Option Transmission) (going : List (Cut Seen)) → live ≡ None → Lives shape w live going → (going ≡ []) × (length w.told.records ≡ w.next)
+lives-none shape w live going is lives = let P : Option Transmission → Type 0 = λ l. Lives shape w l going in subst P is lives
 
-pub lives-some : (shape : Shape) (w : World) (live : Option Sending) (s : Sending) (going : List (Cut Seen)) → live ≡ Some s → Lives shape w live going → GoesOn shape w s going
-lives-some shape w live s going is lives = let P : Option Sending → Type 0 = λ l. Lives shape w l going in subst P is lives
+pub lives-some : (shape : Shape) (w : World) (live : Option Transmission) (s : Transmission) (going : List (Cut Seen)) → live ≡ Some s → Lives shape w live going → GoesOn shape w s going
+lives-some shape w live s going is lives = let P : Option Transmission → Type 0 = λ l. Lives shape w l going in subst P is lives
 
 -- a session is joined
 abbrev pub joins : ℕ → World → World
@@ -122,10 +122,10 @@ joined shape w len idle some so =
     })
 
 -- bytes of the session are read
-abbrev pub reads : (ℕ → List ℕ) → List ℕ → Sending → World → World
+abbrev pub reads : (ℕ → List ℕ) → List ℕ → Transmission → World → World
 reads read cells s w = record w { told = record w.told { read = read; live = Some (fetched cells s) } }
 
-pub is-read : (shape : Shape) (w : World) (s : Sending) (cells : List ℕ) (read : ℕ → List ℕ) → w.told.live ≡ Some s → ((number : ℕ) → (more : List ℕ) × (read number ≡ w.told.read number ++ more)) → read s.seq ≡ w.told.read s.seq ++ bytes_of cells →
+pub is-read : (shape : Shape) (w : World) (s : Transmission) (cells : List ℕ) (read : ℕ → List ℕ) → w.told.live ≡ Some s → ((number : ℕ) → (more : List ℕ) × (read number ≡ w.told.read number ++ more)) → read s.seq ≡ w.told.read s.seq ++ bytes_of cells →
     ((number : ℕ) → w.next ≤ number → read number ≡ []) → SoFar shape w → SoFar shape (reads read cells s w)
 is-read shape w s cells read is grows own unread so =
     let on : GoesOn shape w s so.going = lives-some shape w w.told.live s so.going is so.lives in
@@ -146,7 +146,7 @@ is-read shape w s cells read is grows own unread so =
     })
 
 -- the session's phase changes, with what lies in its box and with the flow controls so far
-pub turns : (shape : Shape) (w : World) (s : Sending) (phase : Phase) (since : ℕ) → w.told.live ≡ Some s → since ≤ w.told.now →
+pub turns : (shape : Shape) (w : World) (s : Transmission) (phase : Phase) (since : ℕ) → w.told.live ≡ Some s → since ≤ w.told.now →
     ((offered : List ℕ) → Boxed shape s.len s.sent s.number s.phase w.box offered → Boxed shape s.len s.sent s.number phase w.box offered) →
     ((taken : List ℕ) (going : List (Cut Seen)) → Way shape w.told.answers w.clear s.begin w.told.now s.len s.number s.sent taken s.phase s.since going → Way shape w.told.answers w.clear s.begin w.told.now s.len s.number s.sent taken phase since going) →
     SoFar shape w → SoFar shape (with_live (Some (in_phase phase since s)) w)
@@ -179,14 +179,14 @@ way-gap shape answers clear begin now len number sent taken until was since goin
 way-gap shape answers clear begin now len number sent taken until was since going le (UnderWay cut some cuts count way every ready) =
     UnderWay cut some cuts count way every (may-later answers (walk_of (address_size shape) cut).pieces until.0 since le ready)
 
-pub starts : (shape : Shape) (w : World) (s : Sending) → w.told.live ≡ Some s → s.phase ≡ Start → SoFar shape w → SoFar shape (with_live (Some (in_phase Bytes w.told.now s)) w)
+pub starts : (shape : Shape) (w : World) (s : Transmission) → w.told.live ≡ Some s → s.phase ≡ Start → SoFar shape w → SoFar shape (with_live (Some (in_phase Bytes w.told.now s)) w)
 starts shape w s is phase so =
     turns shape w s Bytes w.told.now is (omega arith)
     (λ offered. let P : Phase → Type 0 = λ p. Boxed shape s.len s.sent s.number p w.box offered → offered ≡ [] in subst P (sym phase) (λ b. b))
     (λ taken going. let P : Phase → Type 0 = λ p. Way shape w.told.answers w.clear s.begin w.told.now s.len s.number s.sent taken p s.since going → Way shape w.told.answers w.clear s.begin w.told.now s.len s.number s.sent taken Bytes w.told.now going in
     subst P (sym phase) (way-start shape w.told.answers w.clear s.begin w.told.now s.len s.number s.sent taken s.since w.told.now going)) so
 
-pub resumes : (shape : Shape) (w : World) (s : Sending) (until : Tick) → w.told.live ≡ Some s → s.phase ≡ Gap until → until.0 ≤ w.told.now → SoFar shape w → SoFar shape (with_live (Some (in_phase Bytes w.told.now s)) w)
+pub resumes : (shape : Shape) (w : World) (s : Transmission) (until : Tick) → w.told.live ≡ Some s → s.phase ≡ Gap until → until.0 ≤ w.told.now → SoFar shape w → SoFar shape (with_live (Some (in_phase Bytes w.told.now s)) w)
 resumes shape w s until is phase le so =
     turns shape w s Bytes w.told.now is (omega arith)
     (λ offered. let P : Phase → Type 0 = λ p. Boxed shape s.len s.sent s.number p w.box offered → offered ≡ [] in subst P (sym phase) (λ b. b))
@@ -194,7 +194,7 @@ resumes shape w s until is phase le so =
     subst P (sym phase) (way-gap shape w.told.answers w.clear s.begin w.told.now s.len s.number s.sent taken until s.since w.told.now going le)) so
 
 -- the next frame is offered into the box
-abbrev pub offers : Shape → Sending → World → World
+abbrev pub offers : Shape → Transmission → World → World
 offers shape s w = record w {
   told = record w.told { live = Some (in_phase Box w.told.now (record s { carried = drop (part_after shape s.len s.sent) s.carried })) };
   box = Some (unit_after shape s.len s.sent s.number (take (part_after shape s.len s.sent) s.carried));
@@ -206,7 +206,7 @@ way-box shape answers clear begin now len number sent taken was since going le (
 way-box shape answers clear begin now len number sent taken was since going le (UnderWay cut some cuts count way every ready) =
     UnderWay cut some cuts count way every (may-later answers (walk_of (address_size shape) cut).pieces was since le ready)
 
-pub offered : (shape : Shape) (w : World) (s : Sending) → w.told.live ≡ Some s → s.phase ≡ Bytes → part_after shape s.len s.sent ≤ length s.carried →
+pub offered : (shape : Shape) (w : World) (s : Transmission) → w.told.live ≡ Some s → s.phase ≡ Bytes → part_after shape s.len s.sent ≤ length s.carried →
     fits_shape shape (unit_after shape s.len s.sent s.number (take (part_after shape s.len s.sent) s.carried)) ≡ true → SoFar shape w → SoFar shape (offers shape s w)
 offered shape w s is phase enough fits so =
     let on : GoesOn shape w s so.going = lives-some shape w w.told.live s so.going is so.lives in
@@ -231,7 +231,7 @@ offered shape w s is phase enough fits so =
     })
 
 -- a flow control comes
-abbrev pub answers : Answer → Option Sending → World → World
+abbrev pub answers : Answer → Option Transmission → World → World
 answers answer live w = record w { told = record w.told { answers = w.told.answers ++ answer ∷ []; live = live } }
 
 -- none is awaited
@@ -255,11 +255,11 @@ way-answered shape all more clear begin now len number sent taken phase since go
 way-answered shape all more clear begin now len number sent taken phase since going out (UnderWay cut some cuts count way every ready) =
     UnderWay cut some cuts count (on-way-answered shape all more clear begin now len taken (walk_of (address_size shape) cut) way) every (ready-more shape all more (walk_of (address_size shape) cut).pieces phase since out ready)
 
-abbrev pub NotAwaiting : Option Sending → Type 0
+abbrev pub NotAwaiting : Option Transmission → Type 0
 NotAwaiting None = Unit {0}
 NotAwaiting (Some s) = IsNotAwaiting s.phase
 
-answered-lives : (shape : Shape) (w : World) (answer : Answer) (live : Option Sending) (going : List (Cut Seen)) → NotAwaiting live → Lives shape w live going → Lives shape (answers answer live w) live going
+answered-lives : (shape : Shape) (w : World) (answer : Answer) (live : Option Transmission) (going : List (Cut Seen)) → NotAwaiting live → Lives shape w live going → Lives shape (answers answer live w) live going
 answered-lives shape w answer None going out lives = lives
 answered-lives shape w answer (Some s) going out on = record {
   joined_is = on.joined_is;
@@ -313,7 +313,7 @@ way-waits shape all answer clear begin now len number sent taken was since going
     UnderWay cut some cuts count (on-way-answered shape all (answer ∷ []) clear begin now len taken (walk_of (address_size shape) cut) way) every (ready-waits all answer (walk_of (address_size shape) cut).pieces is ready)
 
 -- the session with that answer
-obeys : (shape : Shape) (w : World) (s : Sending) (phase : Phase) (answer : Answer) → w.told.live ≡ Some s → s.phase ≡ Fc → answer.tick ≡ w.told.now →
+obeys : (shape : Shape) (w : World) (s : Transmission) (phase : Phase) (answer : Answer) → w.told.live ≡ Some s → s.phase ≡ Fc → answer.tick ≡ w.told.now →
     ((offered : List ℕ) → offered ≡ [] → Boxed shape s.len s.sent s.number phase w.box offered) →
     ((taken : List ℕ) (going : List (Cut Seen)) → Way shape w.told.answers w.clear s.begin w.told.now s.len s.number s.sent taken Fc s.since going →
     Way shape (w.told.answers ++ answer ∷ []) w.clear s.begin w.told.now s.len s.number s.sent taken phase w.told.now going) →
@@ -341,14 +341,14 @@ obeys shape w s phase answer is at tick box way so =
       way = way on.taken so.going old;
     })
 
-pub continues : (shape : Shape) (w : World) (s : Sending) (answer : Answer) → w.told.live ≡ Some s → s.phase ≡ Fc → answer.tick ≡ w.told.now → answer.status ≡ 0 → w.clear ≤ w.told.now → SoFar shape w →
+pub continues : (shape : Shape) (w : World) (s : Transmission) (answer : Answer) → w.told.live ≡ Some s → s.phase ≡ Fc → answer.tick ≡ w.told.now → answer.status ≡ 0 → w.clear ≤ w.told.now → SoFar shape w →
     SoFar shape (answers answer (Some (in_phase Bytes w.told.now s)) w)
 continues shape w s answer is at tick status le so =
     obeys shape w s Bytes answer is at tick (λ offered none. none)
     (λ taken going way. let P : ℕ → Type 0 = λ t. Way shape (w.told.answers ++ answer ∷ []) w.clear s.begin w.told.now s.len s.number s.sent taken Bytes t going in
     subst P tick (way-continued shape w.told.answers answer w.clear s.begin w.told.now s.len s.number s.sent taken s.since going status (omega (arith, tick, le)) way)) so
 
-pub waits : (shape : Shape) (w : World) (s : Sending) (answer : Answer) → w.told.live ≡ Some s → s.phase ≡ Fc → answer.tick ≡ w.told.now → answer.status ≡ 1 → SoFar shape w →
+pub waits : (shape : Shape) (w : World) (s : Transmission) (answer : Answer) → w.told.live ≡ Some s → s.phase ≡ Fc → answer.tick ≡ w.told.now → answer.status ≡ 1 → SoFar shape w →
     SoFar shape (answers answer (Some (in_phase Fc w.told.now s)) w)
 waits shape w s answer is at tick status so =
     obeys shape w s Fc answer is at tick (λ offered none. none)

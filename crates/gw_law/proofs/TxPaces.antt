@@ -1,8 +1,8 @@
 -- Pacing, when one more flow control comes or one more frame leaves.
 use Rattle.std.proofs.Common.{◌≡◌, ℕ, ◌<◌, ◌≤◌, Bool, true, false, Option, Some, None, List, [], ◌∷◌, ◌++◌, refl, arith}
+use Rattle.tp_sender.specs.Runs.{Answer}
 use Rattle.std.specs.Prelude.{not, ◌&&◌, ◌==◌, nat_lt, if◌then◌else◌}
 use Rattle.tp_attempts.specs.Walk.{Piece}
-use Rattle.tp_sender.specs.Sending.{Answer}
 use Rattle.gw_law.specs.Transfer.{Paced, Permits, Spaced, answer_after}
 
 -- the flow control is counted after that tick

@@ -1,5 +1,10 @@
 -- The readings that a sender's calls make: their lengths and cells are what it joined and read.
 use Rattle.std.proofs.Common.{◌≡◌, ℕ, ◌+◌, ◌<◌, false, Option, Some, None, List, [], ◌∷◌, ◌++◌, map, refl, arith}
+use Rattle.tp_sender.specs.declared.transmission.Phase.{Phase}
+use Rattle.tp_sender.specs.declared.transmission.Phase.TheVariants.{Start, Bytes, Box, Fc, Gap}
+use Rattle.tp_sender.specs.Runs.{HasSent, cell_read, len_joined}
+use Rattle.tp_sender.specs.State.{TxTurn, tx_new, Transmission, TxDid}
+use Rattle.hub_core.specs.Turns.{calls_by, state_after}
 use Rattle.hub_core.specs.View.{Event, Change, Reading, reading_new, grow, Joining, Missed, Saw, Read, Parted}
 use Rattle.hub_core.specs.declared.port.Seen.{Seen}
 use Rattle.hub_core.specs.declared.record.DestResult.{DestResult}
@@ -7,12 +12,8 @@ use Rattle.hub_core.specs.declared.record.DestResult.TheVariants.{Sent, SourceEn
 use Rattle.hub_core.specs.declared.record.TxWait.TheVariants.{Turn as ForTurn}
 use Rattle.tp_sender.specs.declared.event.TxEvent.{TxEvent}
 use Rattle.tp_sender.specs.declared.event.TxEvent.TheVariants.{Turn, Fc as CameFc, Left, RunEnd}
-use Rattle.tp_sender.specs.declared.live.Phase.{Phase}
-use Rattle.tp_sender.specs.declared.live.Phase.TheVariants.{Start, Bytes, Box, Fc, Gap}
 use Rattle.tp_sender.specs.declared.set.TxSet.{TxSet}
-use Rattle.tp_sender.specs.Sending.{Happened, Moment, OtherLeft, Stepped, calls_by, cell_read, len_joined, state_from}
-use Rattle.tp_sender.specs.State.{Sending}
-use Rattle.tp_sender.specs.Table.{Did, Ends, FrameLeft, GoesOn, IdleRow, InAnswer, InBytes, InStart, InTurn, InWait, JoinsNext, Lacks, LiveRow, NoneStands, TxMove, TxRow, all_sent, fetched, in_phase, joined_in, revoked, wait_of}
+use Rattle.tp_sender.specs.Table.{Ends, FrameLeft, GoesOn, IdleRow, InAnswer, InBytes, InStart, InTurn, InWait, JoinsNext, Lacks, LiveRow, NoneStands, TxRow, all_sent, fetched, in_phase, joined_in, revoked, wait_of}
 use Rattle.tp_sender.specs.Table.{AsksToWait, Continues, Due, Enough, FindsOne, FirstLeft, GapLasts, GapOver, IsInvalid, Joins, LastLeft, MayCome, NeverReached, NextLeft, NotDue, NotReached, NothingStands, NothingToSend, Overflows, Reached, Short, TooLate, WriterGone}
 use Rattle.tp_unit.specs.Shape.{IsShape}
 use Rattle.tp_unit.specs.Unit.{BoxMeaning, Keeps}
@@ -66,33 +67,33 @@ none : (set : TxSet) (n : ℕ) (calls : List Event) → calls ≡ [] → FillBy 
 none set n calls is = rw is (fill-none (reading set.path.0 set.dest.0) n)
 
 -- the rows
-ends : (set : TxSet) (n : ℕ) (s : Sending) (act : BoxMeaning) (result : DestResult) (calls : List Event) (did : Did) → Ends set s act result calls did → FillBy set n calls
+ends : (set : TxSet) (n : ℕ) (s : Transmission) (act : BoxMeaning) (result : DestResult) (calls : List Event) (did : TxDid) → Ends set s act result calls did → FillBy set n calls
 ends set n s act result calls did row = rw row.calls_are (fill-parted set n s.seq _)
 
-on : (set : TxSet) (n : ℕ) (s : Sending) (calls : List Event) (did : Did) → GoesOn s calls did → FillBy set n calls
+on : (set : TxSet) (n : ℕ) (s : Transmission) (calls : List Event) (did : TxDid) → GoesOn s calls did → FillBy set n calls
 on set n s calls did row = none set n calls row.calls_are
 
-lacks : (set : TxSet) (n : ℕ) (s : Sending) (look : Seen) (calls : List Event) (did : Did) → Lacks set s look calls did → FillBy set n calls
+lacks : (set : TxSet) (n : ℕ) (s : Transmission) (look : Seen) (calls : List Event) (did : TxDid) → Lacks set s look calls did → FillBy set n calls
 lacks set n s look calls did (WriterGone gone row) = ends set n s Keeps SourceEnded calls did row
 lacks set n s look calls did (TooLate there late row) = ends set n s Keeps (CsTimeout look.bytes) calls did row
 lacks set n s look calls did (MayCome there early row) = on set n s calls did row
 
-in-bytes : (set : TxSet) (n : ℕ) (s : Sending) (calls : List Event) (did : Did) → s.seq < n → InBytes set s calls did → FillBy set n calls
+in-bytes : (set : TxSet) (n : ℕ) (s : Transmission) (calls : List Event) (did : TxDid) → s.seq < n → InBytes set s calls did → FillBy set n calls
 in-bytes set n s calls did below (Enough look cells fetches row) =
     looks set n s.seq look calls _ fetches.calls_are (reads set n s.seq cells [] below (fill-none (reading set.path.0 set.dest.0) n))
 in-bytes set n s calls did below (Short look cells more fetches short row) =
     looks set n s.seq look calls _ fetches.calls_are (reads set n s.seq cells more below (lacks set n (fetched cells s) look more did row))
 
-in-start : (set : TxSet) (n : ℕ) (s : Sending) (calls : List Event) (did : Did) → s.seq < n → InStart set s calls did → FillBy set n calls
+in-start : (set : TxSet) (n : ℕ) (s : Transmission) (calls : List Event) (did : TxDid) → s.seq < n → InStart set s calls did → FillBy set n calls
 in-start set n s calls did below (Reached look more are reached row) = looks set n s.seq look calls more are (in-bytes set n (in_phase Bytes did.tick s) more did below row)
 in-start set n s calls did below (NeverReached look more are reached gone row) = looks set n s.seq look calls more are (ends set n s Keeps SourceEnded more did row)
 in-start set n s calls did below (NotReached look more are reached stands row) = looks set n s.seq look calls more are (on set n s more did row)
 
-in-wait : (set : TxSet) (n : ℕ) (s : Sending) (limit : ℕ) (result : DestResult) (calls : List Event) (did : Did) → InWait set s limit result calls did → FillBy set n calls
+in-wait : (set : TxSet) (n : ℕ) (s : Transmission) (limit : ℕ) (result : DestResult) (calls : List Event) (did : TxDid) → InWait set s limit result calls did → FillBy set n calls
 in-wait set n s limit result calls did (Due late row) = ends set n s (revoked s.phase) result calls did row
 in-wait set n s limit result calls did (NotDue early row) = on set n s calls did row
 
-in-turn : (set : TxSet) (n : ℕ) (s : Sending) (phase : Phase) (calls : List Event) (did : Did) → s.seq < n → InTurn set s phase calls did → FillBy set n calls
+in-turn : (set : TxSet) (n : ℕ) (s : Transmission) (phase : Phase) (calls : List Event) (did : TxDid) → s.seq < n → InTurn set s phase calls did → FillBy set n calls
 in-turn set n s Start calls did below row = in-start set n s calls did below row
 in-turn set n s Bytes calls did below row = in-bytes set n s calls did below row
 in-turn set n s Box calls did below row = in-wait set n s set.n_as AsTimeout calls did row
@@ -100,7 +101,7 @@ in-turn set n s Fc calls did below row = in-wait set n s set.n_bs BsTimeout call
 in-turn set n s (Gap until) calls did below (GapOver over row) = in-bytes set n (in_phase Bytes did.tick s) calls did below row
 in-turn set n s (Gap until) calls did below (GapLasts early row) = on set n s calls did row
 
-in-answer : (set : TxSet) (n : ℕ) (s : Sending) (phase : Phase) (fs : ℕ) (calls : List Event) (did : Did) → InAnswer set s phase fs calls did → FillBy set n calls
+in-answer : (set : TxSet) (n : ℕ) (s : Transmission) (phase : Phase) (fs : ℕ) (calls : List Event) (did : TxDid) → InAnswer set s phase fs calls did → FillBy set n calls
 in-answer set n s Start fs calls did row = on set n s calls did row
 in-answer set n s Bytes fs calls did row = on set n s calls did row
 in-answer set n s Box fs calls did row = on set n s calls did row
@@ -110,40 +111,39 @@ in-answer set n s Fc fs calls did (Overflows two row) = ends set n s Keeps FcOve
 in-answer set n s Fc fs calls did (IsInvalid more row) = ends set n s Keeps (InvalidFs fs) calls did row
 in-answer set n s (Gap until) fs calls did row = on set n s calls did row
 
-frame-left : (set : TxSet) (n : ℕ) (s : Sending) (calls : List Event) (did : Did) → FrameLeft set s calls did → FillBy set n calls
+frame-left : (set : TxSet) (n : ℕ) (s : Transmission) (calls : List Event) (did : TxDid) → FrameLeft set s calls did → FillBy set n calls
 frame-left set n s calls did (LastLeft whole row) = ends set n (all_sent s) Keeps Sent calls did row
 frame-left set n s calls did (FirstLeft zero more row) = none set n calls row.calls_are
 frame-left set n s calls did (NextLeft some more row) = none set n calls row.calls_are
 
-live-row : (set : TxSet) (n : ℕ) (s : Sending) (event : TxEvent) (calls : List Event) (did : Did) → s.seq < n → LiveRow set s event calls did → FillBy set n calls
+live-row : (set : TxSet) (n : ℕ) (s : Transmission) (event : TxEvent) (calls : List Event) (did : TxDid) → s.seq < n → LiveRow set s event calls did → FillBy set n calls
 live-row set n s Turn calls did below row = in-turn set n s s.phase calls did below row
 live-row set n s (CameFc fs bs st) calls did below row = in-answer set n s s.phase fs calls did row
 live-row set n s Left calls did below row = frame-left set n s calls did row.1
 live-row set n s RunEnd calls did below row = ends set n s (revoked s.phase) (EndOfRun (wait_of s.phase) (record { 0 = s.since })) calls did row
 
-joins : (set : TxSet) (n buf len : ℕ) (more : List Event) (m : TxMove) → JoinsNext set n buf len more m → FillBy set (n + 1) more → FillBy set n m.calls
+joins : (set : TxSet) (n buf len : ℕ) (more : List Event) (m : TxTurn) → JoinsNext set n buf len more m.did → FillBy set (n + 1) more → FillBy set n m.did.calls
 joins set n buf len more m row rest = rw row.calls_are (fill-join (reading set.path.0 set.dest.0) n (n + 1) (Joining set.path.0 set.dest.0 n buf len ∷ []) more refl (fill-joining set n n buf len) rest)
 
-none-stands : (set : TxSet) (n : ℕ) (m : TxMove) → NoneStands set n m → FillBy set n m.calls
+none-stands : (set : TxSet) (n : ℕ) (m : TxTurn) → NoneStands set n m.did → FillBy set n m.did.calls
 none-stands set n m row = rw row.calls_are (fill-missed set n n)
 
-idle-row : (set : TxSet) (n : ℕ) (event : TxEvent) (m : TxMove) → IdleRow set n event m → FillBy set n m.calls
+idle-row : (set : TxSet) (n : ℕ) (event : TxEvent) (m : TxTurn) → IdleRow set n event m.did → FillBy set n m.did.calls
 idle-row set n Turn m (NothingToSend row) = none-stands set n m row
 idle-row set n Turn m (Joins buf len more row start) = joins set n buf len more m row (in-start set (n + 1) (joined_in m.did.tick n len) more m.did (omega arith) start)
-idle-row set n (CameFc fs bs st) m row = none set n m.calls row.calls_are
+idle-row set n (CameFc fs bs st) m row = none set n m.did.calls row.calls_are
 idle-row set n Left m row = absurd row
 idle-row set n RunEnd m (NothingStands row) = none-stands set n m row
 idle-row set n RunEnd m (FindsOne buf len more row end) = joins set n buf len more m row (ends set (n + 1) (joined_in m.did.tick n len) Keeps (EndOfRun ForTurn (record { 0 = m.did.tick })) more m.did end)
 
-row-by : (set : TxSet) (m : TxMove) (n : ℕ) (live : Option Sending) → ((s : Sending) → live ≡ Some s → s.seq < n) → TxRow set n live m → FillBy set n m.calls
+row-by : (set : TxSet) (m : TxTurn) (n : ℕ) (live : Option Transmission) → ((s : Transmission) → live ≡ Some s → s.seq < n) → TxRow set n live m.event m.did → FillBy set n m.did.calls
 row-by set m n None below row = idle-row set n m.event m row
-row-by set m n (Some s) below row = live-row set n s m.event m.calls m.did (below s refl) row.0
+row-by set m n (Some s) below row = live-row set n s m.event m.did.calls m.did (below s refl) row.0
 
 -- a whole run
-pub readings : (set : TxSet) (moments : List Moment) → IsShape set.shape → Happened set moments → FillBy set 0 (calls_by moments)
+pub readings : (set : TxSet) (moments : List TxTurn) → IsShape set.shape → HasSent set moments → FillBy set 0 (calls_by moments)
 readings set [] sound happened = fill-none (reading set.path.0 set.dest.0) 0
-readings set (Stepped m ∷ earlier) sound happened =
-    let so : SoFar set.shape (world_of set earlier) = so-far set earlier sound happened.3 in
-    fill-join (reading set.path.0 set.dest.0) 0 (state_from earlier).next (calls_by earlier) m.calls (omega (arith, so.lens)) (readings set earlier sound happened.3)
-    (row-by set m (state_from earlier).next (state_from earlier).live (λ s is. omega (arith, (lives-some set.shape (world_of set earlier) (state_from earlier).live s so.going is so.lives).next)) happened.2)
-readings set (OtherLeft tick frame ∷ earlier) sound happened = readings set earlier sound happened.2
+readings set (m ∷ earlier) sound happened =
+    let so : SoFar set.shape (world_of set earlier) = so-far set earlier sound happened.2 in
+    fill-join (reading set.path.0 set.dest.0) 0 (state_after tx_new earlier).next (calls_by earlier) m.did.calls (omega (arith, so.lens)) (readings set earlier sound happened.2)
+    (row-by set m (state_after tx_new earlier).next (state_after tx_new earlier).live (λ s is. omega (arith, (lives-some set.shape (world_of set earlier) (state_after tx_new earlier).live s so.going is so.lives).next)) happened.1.1)

@@ -1,5 +1,9 @@
 -- How far a destination and its channel are: what holds of all lists so far.
 use Rattle.std.proofs.Common.{◌≡◌, ℕ, ◌+◌, ◌%◌, ◌<◌, ◌≤◌, Option, Some, None, List, [], ◌∷◌, ◌++◌, length, true, false, sym, subst, ◌∙◌, arith, length-append}
+use Rattle.tp_sender.specs.declared.transmission.Phase.{Phase}
+use Rattle.tp_sender.specs.declared.transmission.Phase.TheVariants.{Start, Bytes, Box, Fc, Gap}
+use Rattle.tp_sender.specs.Runs.{Answer}
+use Rattle.tp_sender.specs.State.{Transmission}
 use Rattle.std.proofs.lemmas.List.{take-append-le}
 use Rattle.std.specs.Prelude.{filter, map, slice_get}
 use Rattle.std.specs.List.{AllByRecursion, AllZip}
@@ -8,11 +12,7 @@ use Rattle.tp_attempts.specs.Attempts.{attempts_in}
 use Rattle.tp_attempts.specs.Cuts.{Cut}
 use Rattle.tp_attempts.specs.Seen.{Seen, len_of}
 use Rattle.tp_attempts.specs.Walk.{Piece, Walk, joined, walk_of}
-use Rattle.tp_sender.specs.declared.live.Phase.{Phase}
-use Rattle.tp_sender.specs.declared.live.Phase.TheVariants.{Start, Bytes, Box, Fc, Gap}
 use Rattle.tp_sender.specs.Frame.{part_after, unit_after}
-use Rattle.tp_sender.specs.Sending.{Answer}
-use Rattle.tp_sender.specs.State.{Sending}
 use Rattle.tp_unit.specs.declared.shape.Shape.{Shape}
 use Rattle.tp_unit.specs.Shape.{address_size, fits_shape}
 use Rattle.tp_unit.specs.Unit.{Meaning}
@@ -80,7 +80,7 @@ Boxed shape len sent number Fc box offered = offered ≡ []
 Boxed shape len sent number (Gap until) box offered = offered ≡ []
 
 -- the session that is being sent
-pub record GoesOn (shape : Shape) (w : World) (s : Sending) (going : List (Cut Seen)) : Type 0 where
+pub record GoesOn (shape : Shape) (w : World) (s : Transmission) (going : List (Cut Seen)) : Type 0 where
   pub joined_is : slice_get w.told.lens s.seq ≡ Some s.len
   pub next : s.seq + 1 ≡ w.next
   pub before : length w.told.records ≡ s.seq
@@ -94,7 +94,7 @@ pub record GoesOn (shape : Shape) (w : World) (s : Sending) (going : List (Cut S
   pub box : Boxed shape s.len s.sent s.number s.phase w.box offered
   pub way : Way shape w.told.answers w.clear s.begin w.told.now s.len s.number s.sent taken s.phase s.since going
 
-abbrev pub Lives : Shape → World → Option Sending → List (Cut Seen) → Type 0
+abbrev pub Lives : Shape → World → Option Transmission → List (Cut Seen) → Type 0
 Lives shape w None going = (going ≡ []) × (length w.told.records ≡ w.next)
 Lives shape w (Some s) going = GoesOn shape w s going
 

@@ -1,5 +1,8 @@
 -- What a sender's frames are: units of the channel's shape, each counted in its transmission.
 use Rattle.std.proofs.Common.{◌≡◌, ℕ, true, false, Option, Some, None, List, [], ◌∷◌, ◌++◌, refl, ap, sym, ◌∙◌, subst, arith, append-nil, append_assoc}
+use Rattle.tp_sender.specs.Runs.{HasSent, Written, box_after, left_by, written_at}
+use Rattle.tp_sender.specs.State.{TxTurn, tx_new, Transmission}
+use Rattle.hub_core.specs.Turns.{state_after}
 use Rattle.std.specs.Prelude.{◌==◌, map}
 use Rattle.std.specs.List.{AllByRecursion, AllZip, flat_map}
 use Rattle.std.proofs.lemmas.Bool.Decides.{nat_tests}
@@ -15,9 +18,7 @@ use Rattle.tp_sender.specs.declared.event.TxEvent.{TxEvent}
 use Rattle.tp_sender.specs.declared.event.TxEvent.TheVariants.{Turn, Fc as CameFc, Left, RunEnd}
 use Rattle.tp_sender.specs.declared.set.TxSet.{TxSet}
 use Rattle.tp_sender.specs.Frame.{part_after, start_with, unit_after}
-use Rattle.tp_sender.specs.Sending.{Happened, Moment, OtherLeft, Stepped, Written, box_after, left_by, state_from, written_at}
-use Rattle.tp_sender.specs.State.{Sending}
-use Rattle.tp_sender.specs.Table.{IdleRow, LiveRow, TxMove, TxRow}
+use Rattle.tp_sender.specs.Table.{IdleRow, LiveRow, TxRow}
 use Rattle.tp_unit.specs.declared.shape.Shape.{Shape}
 use Rattle.tp_unit.specs.Shape.{IsShape, address_size, fits_shape, part_of_start}
 use Rattle.tp_unit.specs.Unit.{Meaning, ConsecutiveFrame}
@@ -51,7 +52,7 @@ ticks-more frames x ended cut other next is =
     ∙ ap (λ l. l ++ x.at ∷ []) (sym (flat_map-append ticks_of ended (cut ∷ [])) ∙ ap (flat_map ticks_of) (sym is))
 
 -- the frame in the box leaves
-ticks-left : (shape : Shape) (w : World) (s : Sending) (at : ℕ) → IsShape shape → (so : SoFar shape w) → (on : GoesOn shape w s so.going) → IsBoxed shape s.len s.sent s.number w.box on.offered →
+ticks-left : (shape : Shape) (w : World) (s : Transmission) (at : ℕ) → IsShape shape → (so : SoFar shape w) → (on : GoesOn shape w s so.going) → IsBoxed shape s.len s.sent s.number w.box on.offered →
     Way shape w.told.answers w.clear s.begin w.told.now s.len s.number s.sent on.taken s.phase s.since so.going →
     all_ticks (w.told.frames ++ seen_unit shape at (unit_after shape s.len s.sent s.number on.offered) ∷ []) ≡ all_ticks w.told.frames ++ at ∷ []
 ticks-left shape w s at sound so on boxed (Unsent none first bytes cuts early) =
@@ -92,30 +93,29 @@ written-left shape frames tick lies box so =
       counted = map-append (λ (w : Written). w.tick) frames (x ∷ []) ∙ ap (λ l. l ++ tick ∷ []) so.counted ∙ sym box.ticks ∙ ap all_ticks (sym (map-append (seen_of (address_size shape)) frames (x ∷ [])));
     })
 
-lies-by : (set : TxSet) (earlier : List Moment) (live : Option Sending) (m : TxMove) → IsShape set.shape → Happened set earlier → (state_from earlier).live ≡ live → m.event ≡ Left → TxRow set (state_from earlier).next live m → Lies set.shape (left_by set.shape earlier) m.did.tick (box_after earlier)
+lies-by : (set : TxSet) (earlier : List TxTurn) (live : Option Transmission) (m : TxTurn) → IsShape set.shape → HasSent set earlier → (state_after tx_new earlier).live ≡ live → m.event ≡ Left → TxRow set (state_after tx_new earlier).next live m.event m.did → Lies set.shape (left_by set.shape earlier) m.did.tick (box_after earlier)
 lies-by set earlier None m sound happened is at row =
-    let P : TxEvent → Type 0 = λ e. IdleRow set (state_from earlier).next e m in
+    let P : TxEvent → Type 0 = λ e. IdleRow set (state_after tx_new earlier).next e m.did in
     absurd (subst P at row)
 lies-by set earlier (Some s) m sound happened is at row =
-    let P : TxEvent → Type 0 = λ e. LiveRow set s e m.calls m.did in
+    let P : TxEvent → Type 0 = λ e. LiveRow set s e m.did.calls m.did in
     let w : World = world_of set earlier in
     let so : SoFar set.shape w = so-far set earlier sound happened in
-    let on : GoesOn set.shape w s so.going = lives-some set.shape w (state_from earlier).live s so.going is so.lives in
+    let on : GoesOn set.shape w s so.going = lives-some set.shape w (state_after tx_new earlier).live s so.going is so.lives in
     let boxed : IsBoxed set.shape s.len s.sent s.number (box_after earlier) on.offered = in-box set.shape s.len s.sent s.number s.phase (box_after earlier) on.offered (subst P at row.0).0 on.box in
     record { unit = unit_after set.shape s.len s.sent s.number on.offered; is = boxed.lies; fits = boxed.fits; ticks = ticks-left set.shape w s m.did.tick sound so on boxed on.way }
 
-written-step : (set : TxSet) (earlier : List Moment) (m : TxMove) (event : TxEvent) → IsShape set.shape → Happened set earlier → m.event ≡ event → TxRow set (state_from earlier).next (state_from earlier).live m → AreWritten set.shape (left_by set.shape earlier) →
+written-step : (set : TxSet) (earlier : List TxTurn) (m : TxTurn) (event : TxEvent) → IsShape set.shape → HasSent set earlier → m.event ≡ event → TxRow set (state_after tx_new earlier).next (state_after tx_new earlier).live m.event m.did → AreWritten set.shape (left_by set.shape earlier) →
     AreWritten set.shape (left_by set.shape earlier ++ written_at set.shape event m.did.tick (box_after earlier))
 written-step set earlier m Turn sound happened at row so = written-same set.shape (left_by set.shape earlier) [] refl so
 written-step set earlier m (CameFc fs bs st) sound happened at row so = written-same set.shape (left_by set.shape earlier) [] refl so
-written-step set earlier m Left sound happened at row so = written-left set.shape (left_by set.shape earlier) m.did.tick (box_after earlier) (lies-by set earlier (state_from earlier).live m sound happened refl at row) so
+written-step set earlier m Left sound happened at row so = written-left set.shape (left_by set.shape earlier) m.did.tick (box_after earlier) (lies-by set earlier (state_after tx_new earlier).live m sound happened refl at row) so
 written-step set earlier m RunEnd sound happened at row so = written-same set.shape (left_by set.shape earlier) [] refl so
 
 -- where no other frames of the channel left
-pub written : (P : ℕ → Type 0) (set : TxSet) (moments : List Moment) → IsShape set.shape → Happened set moments → AllByRecursion (InTicks P) moments → AreWritten set.shape (left_by set.shape moments)
+pub written : (P : ℕ → Type 0) (set : TxSet) (moments : List TxTurn) → IsShape set.shape → HasSent set moments → AllByRecursion (InTicks P) moments → AreWritten set.shape (left_by set.shape moments)
 written P set [] sound happened all = record { own = tt; counted = refl }
-written P set (Stepped m ∷ earlier) sound happened all = written-step set earlier m m.event sound happened.3 refl happened.2 (written P set earlier sound happened.3 all.1)
-written P set (OtherLeft tick frame ∷ earlier) sound happened all = absurd all.0
+written P set (m ∷ earlier) sound happened all = written-step set earlier m m.event sound happened.2 refl happened.1.1 (written P set earlier sound happened.2 all.1)
 
 -- the ticks of transmissions whose frames all count
 pub ticks-counted : (t : Transfer) (cuts : List (Cut Seen)) (records : List DestRecord) → AllZip (SendsFor t) cuts records → flat_map ticks_of cuts ≡ flat_map (λ (cut : Cut Seen). map (λ piece. piece.at) (walk_of t.address cut).pieces) cuts

@@ -1,5 +1,7 @@
 -- What a destination delivers of a source channel's units, by the records of both (ISO 15765-2, segmentation and reassembly).
 use Rattle.std.specs.Prelude.{◌≡◌, ℕ, ◌≤◌, ◌↔◌, Bool, false, Some, None, List, filter, map, slice_get, take}
+use Rattle.tp_sender.specs.Runs.{Answer, HasSent}
+use Rattle.tp_sender.specs.State.{TxTurn, tx_new}
 use Rattle.tp_receiver.specs.State.{RxTurn, rx_new}
 use Rattle.tp_receiver.specs.Runs.{HasReceived, frames_in}
 use Rattle.hub_core.specs.Turns.{calls_by, came_by, state_after, records_by}
@@ -15,7 +17,6 @@ use Rattle.tp_attempts.specs.Cuts.{Cut}
 use Rattle.tp_attempts.specs.Seen.{Seen, len_of}
 use Rattle.tp_attempts.specs.Walk.{walk_of, reassembled}
 use Rattle.tp_receiver.specs.declared.set.RxSet.{RxSet}
-use Rattle.tp_sender.specs.Sending.{Answer, Moment, Happened as WasSent, calls_by as sent_calls, state_from}
 use Rattle.tp_sender.specs.declared.set.TxSet.{TxSet}
 use Rattle.tp_unit.specs.Shape.{IsShape}
 use Rattle.gw_law.specs.Source.{CountsFrom, sessions_in}
@@ -72,7 +73,7 @@ pub record DeliveryLaw (d : Delivery) : Type 0 where
   pub delivers : AllZip (Delivers d) (attempts_in false d.frames) (filter has_sent d.records)
 
 -- what the runs of a receiver and of a sender tell
-abbrev pub delivery_of : RxSet → List RxTurn → TxSet → List Moment → Delivery
+abbrev pub delivery_of : RxSet → List RxTurn → TxSet → List TxTurn → Delivery
 delivery_of rx turns tx moments = record {
   functional = rx.functional;
   source = rx.a;
@@ -86,16 +87,16 @@ delivery_of rx turns tx moments = record {
 
 -- whole runs of a receiver and of a sender of one path, and the joined view of their hub: the path's sessions are what the
 -- receiver's calls made, the destination's readings what the sender's calls made, and what was read is a front of what was put
-pub record AreWholeRuns (rx : RxSet) (turns : List RxTurn) (tx : TxSet) (moments : List Moment) (v : View) : Type 0 where
+pub record AreWholeRuns (rx : RxSet) (turns : List RxTurn) (tx : TxSet) (moments : List TxTurn) (v : View) : Type 0 where
   pub shape : IsShape tx.shape
   pub path : tx.path ≡ rx.path
   pub received : HasReceived rx turns
   pub idle : (state_after rx_new turns).busy ≡ None
-  pub sent : WasSent tx moments
-  pub ended : (state_from moments).live ≡ None
+  pub sent : HasSent tx moments
+  pub ended : (state_after tx_new moments).live ≡ None
   pub streams : AreStreams v
   pub sessions : v.sessions rx.path.0 ≡ (grows (calls_by turns) empty_view).sessions rx.path.0
-  pub readings : v.readings tx.path.0 tx.dest.0 ≡ (grows (sent_calls moments) empty_view).readings tx.path.0 tx.dest.0
+  pub readings : v.readings tx.path.0 tx.dest.0 ≡ (grows (calls_by moments) empty_view).readings tx.path.0 tx.dest.0
 
 -- the destination's records are of the source's sessions: of each one, in order, and of no others
 abbrev pub AreOfEach : List SessionRecord → List DestRecord → Type 0

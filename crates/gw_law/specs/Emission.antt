@@ -1,8 +1,8 @@
 -- What the buses of a run write in each tick: data frames on the destination's bus, and flow controls on the source's.
 use Rattle.std.specs.Prelude.{◌≡◌, ◌⊎◌, ℕ, ◌≤◌, ◌==◌, true, List, [], ◌∷◌, filter, length}
+use Rattle.tp_sender.specs.Runs.{IsNoData, Written}
 use Rattle.std.specs.List.{AllByRecursion}
 use Rattle.tp_receiver.specs.declared.set.RxSet.{RxSet}
-use Rattle.tp_sender.specs.Sending.{IsNoData, Written}
 use Rattle.tp_unit.specs.Shape.{fits_shape}
 use Rattle.tp_unit.specs.Unit.{Meaning, FlowControl}
 use Rattle.tp_unit.specs.Writing.{frame_of}

@@ -1,11 +1,11 @@
 -- Which flow controls leave on the source's channel, by the records of its units (ISO 15765-2, flow control).
 use Rattle.std.specs.Prelude.{◌≡◌, ◌⊎◌, ℕ, ◌+◌, ◌<◌, ◌≤◌, Bool, true, false, Some, List, ◌∷◌, ◌++◌, slice_get}
+use Rattle.tp_sender.specs.Runs.{Written}
 use Rattle.std.specs.List.{AllByRecursion}
 use Rattle.hub_core.specs.declared.record.SessionRecord.{SessionRecord}
 use Rattle.tp_attempts.specs.Attempts.{attempts_in}
 use Rattle.tp_attempts.specs.Cuts.{Cut}
 use Rattle.tp_attempts.specs.Seen.{Seen}
-use Rattle.tp_sender.specs.Sending.{Written}
 use Rattle.tp_unit.specs.Reading.{unit_of}
 use Rattle.tp_unit.specs.Shape.{address_size}
 use Rattle.tp_unit.specs.Unit.{Meaning, SingleFrame, FirstFrame, ConsecutiveFrame, FlowControl, NoUnit}

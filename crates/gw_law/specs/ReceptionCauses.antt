@@ -1,5 +1,6 @@
 -- Each record of the source channel's receptions comes of its cause, and no earlier cause is passed over (ISO 15765-2, segmentation and reassembly, N_Ar and N_Cr).
 use Rattle.std.specs.Prelude.{◌≡◌, ◌⊎◌, ℕ, ◌+◌, ◌<◌, ◌≤◌, max, Some, List, [], ◌∷◌, ◌++◌, length, slice_get}
+use Rattle.tp_sender.specs.Runs.{Written}
 use Rattle.std.specs.List.{AllByRecursion, AllZip}
 use Rattle.hub_core.specs.declared.record.RxLimit.{RxLimit}
 use Rattle.hub_core.specs.declared.record.RxLimit.TheVariants.{Box as BoxLimit, Cf as CfLimit}
@@ -12,7 +13,6 @@ use Rattle.tp_attempts.specs.Attempts.{attempts_in}
 use Rattle.tp_attempts.specs.Cuts.{Cut}
 use Rattle.tp_attempts.specs.Seen.{Seen}
 use Rattle.tp_attempts.specs.Walk.{Piece, joined, last_place, walk_of}
-use Rattle.tp_sender.specs.Sending.{Written}
 use Rattle.tp_unit.specs.Reading.{unit_of}
 use Rattle.tp_unit.specs.Shape.{address_size}
 use Rattle.tp_unit.specs.Unit.{Meaning, SingleFrame, FirstFrame, ConsecutiveFrame, FlowControl, NoUnit}

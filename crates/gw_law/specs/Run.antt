@@ -1,6 +1,8 @@
 -- What a run over one path with one destination did, tick by tick: the steps of the source channel's receiver and of the
 -- destination's sender, and what the hub said after each bus's work. The newest of everything stands first.
 use Rattle.std.specs.Prelude.{◌≡◌, ◌⊎◌, ℕ, ◌+◌, ◌≤◌, ◌==◌, filter, None, Some, Option, List, [], ◌∷◌, ◌++◌, length, map}
+use Rattle.tp_sender.specs.Runs.{Answer, Written, HasSent, controls_in, box_after, box_then, left_by, written_of}
+use Rattle.tp_sender.specs.State.{TxTurn, tx_new}
 use Rattle.tp_receiver.specs.State.{RxEvent, Came, Timer, FcLeft, RunEnd, RxTurn, rx_new}
 use Rattle.hub_core.specs.Moves.{move_of}
 use Rattle.tp_receiver.specs.Runs.{HasReceived, frames_in}
@@ -13,8 +15,6 @@ use Rattle.hub_core.specs.declared.record.Move.{Move}
 use Rattle.hub_core.specs.declared.record.SessionRecord.{SessionRecord}
 use Rattle.tp_attempts.specs.Seen.{Seen}
 use Rattle.tp_receiver.specs.declared.set.RxSet.{RxSet}
-use Rattle.tp_sender.specs.Sending.{Answer, Moment, Stepped, OtherLeft, Written, Happened as WasSent, answered_by, box_after, box_then, calls_by as sent_calls, left_by, state_from, told_by as sent_by, written_of}
-use Rattle.tp_sender.specs.Table.{TxMove}
 use Rattle.tp_sender.specs.declared.event.TxEvent.{TxEvent}
 use Rattle.tp_sender.specs.declared.event.TxEvent.TheVariants.{Turn, Fc, Left, RunEnd}
 use Rattle.tp_sender.specs.declared.set.TxSet.{TxSet}
@@ -27,21 +27,21 @@ use Rattle.gw_law.specs.Source.{CountsFrom}
 pub record Work : Type 0 where
   pub tick : ℕ
   pub turns : List RxTurn
-  pub moments : List Moment
+  pub moments : List TxTurn
 
 -- all turns, and all moments
 abbrev pub turns_of : List Work → List RxTurn
 turns_of [] = []
 turns_of (work ∷ earlier) = work.turns ++ turns_of earlier
 
-abbrev pub moments_of : List Work → List Moment
+abbrev pub moments_of : List Work → List TxTurn
 moments_of [] = []
 moments_of (work ∷ earlier) = work.moments ++ moments_of earlier
 
 -- the hub's view after all that was done
 abbrev pub view_of : List Work → View
 view_of [] = empty_view
-view_of (work ∷ earlier) = grows (sent_calls work.moments) (grows (calls_by work.turns) (view_of earlier))
+view_of (work ∷ earlier) = grows (calls_by work.moments) (grows (calls_by work.turns) (view_of earlier))
 
 -- the hub's view in the midst of a tick's work, once the source's bus is done
 abbrev pub view_between : List Work → Work → View
@@ -106,31 +106,29 @@ AnswersIn tick Turn at = ⊥
 AnswersIn tick Left at = ⊥
 AnswersIn tick RunEnd at = ⊥
 
-abbrev pub IsAnswerIn : ℕ → Moment → Type 0
-IsAnswerIn tick (Stepped move) = AnswersIn tick move.event move.did.tick
-IsAnswerIn tick (OtherLeft at frame) = ⊥
+abbrev pub IsAnswerIn : ℕ → TxTurn → Type 0
+IsAnswerIn tick move = AnswersIn tick move.event move.did.tick
 
 -- a step of the sender in that tick, for that event
-abbrev pub IsStepIn : ℕ → TxEvent → Moment → Type 0
-IsStepIn tick event (Stepped move) = (move.event ≡ event) × (move.did.tick ≡ tick)
-IsStepIn tick event (OtherLeft at frame) = ⊥
+abbrev pub IsStepIn : ℕ → TxEvent → TxTurn → Type 0
+IsStepIn tick event move = (move.event ≡ event) × (move.did.tick ≡ tick)
 
 -- what lies in the sender's box leaves in that tick, and where nothing does nothing leaves
-abbrev pub FrameLeaves : ℕ → Option Meaning → List Moment → Type 0
+abbrev pub FrameLeaves : ℕ → Option Meaning → List TxTurn → Type 0
 FrameLeaves tick None moments = moments ≡ []
 FrameLeaves tick (Some meaning) [] = ⊥
 FrameLeaves tick (Some meaning) (moment ∷ more) = IsStepIn tick Left moment × (more ≡ [])
 
 -- the sender's part of a tick: the flow controls that came, its turn, and its frame that leaves
-pub record SendsIn (tick : ℕ) (earlier moments : List Moment) : Type 0 where
-  pub answers : List Moment
-  pub turn : TxMove
-  pub left : List Moment
-  pub moments_are : moments ≡ left ++ Stepped turn ∷ answers
+pub record SendsIn (tick : ℕ) (earlier moments : List TxTurn) : Type 0 where
+  pub answers : List TxTurn
+  pub turn : TxTurn
+  pub left : List TxTurn
+  pub moments_are : moments ≡ left ++ turn ∷ answers
   pub answers_only : AllByRecursion (IsAnswerIn tick) answers
   pub turn_is : turn.event ≡ Turn
   pub turn_tick : turn.did.tick ≡ tick
-  pub left_is : FrameLeaves tick (box_after (Stepped turn ∷ (answers ++ earlier))) left
+  pub left_is : FrameLeaves tick (box_after (turn ∷ (answers ++ earlier))) left
 
 -- each look at the room, among some calls from this view on, counts all of the session's buffer but the cells that were put
 abbrev pub LooksCount : View → List Event → Type 0
@@ -148,7 +146,7 @@ IsJoint sizes v = (count : ℕ) × (free : ℕ) × Joint sizes count free v
 -- nothing is received and nothing is sent
 pub record IsIdle (works : List Work) : Type 0 where
   pub receiver : (state_after rx_new (turns_of works)).busy ≡ None
-  pub sender : (state_from (moments_of works)).live ≡ None
+  pub sender : (state_after tx_new (moments_of works)).live ≡ None
 
 -- the work of one tick, after that of earlier ones; no tick is left out but where all is idle
 pub record IsTick (sizes : List ℕ) (earlier : List Work) (work : Work) : Type 0 where
@@ -178,7 +176,7 @@ pub record IsEnd (sizes : List ℕ) (path last : ℕ) (ticks : List Work) (end :
   pub between : IsJoint sizes (view_between ticks end)
   pub sends : AllByRecursion (IsStepIn last RunEnd) end.moments
   pub idle : IsIdle (end ∷ ticks)
-  pub joined : length ((view_of (end ∷ ticks)).sessions path) ≤ (state_from (moments_of (end ∷ ticks))).next
+  pub joined : length ((view_of (end ∷ ticks)).sessions path) ≤ (state_after tx_new (moments_of (end ∷ ticks))).next
 
 -- a whole run of a path with one destination, from the first tick to the end
 pub record IsRun (rx : RxSet) (tx : TxSet) (sizes : List ℕ) (last count free : ℕ) (ticks : List Work) (end : Work) : Type 0 where
@@ -188,7 +186,7 @@ pub record IsRun (rx : RxSet) (tx : TxSet) (sizes : List ℕ) (last count free :
   pub ticks_are : AreTicks sizes ticks
   pub ends : IsEnd sizes rx.path.0 last ticks end
   pub received : HasReceived rx (turns_of (end ∷ ticks))
-  pub sent : WasSent tx (moments_of (end ∷ ticks))
+  pub sent : HasSent tx (moments_of (end ∷ ticks))
   pub joint : Joint sizes count free (view_of (end ∷ ticks))
   pub in_order : CountsFrom 1 (map number_of (view_of (end ∷ ticks)).changes)
 
@@ -232,11 +230,11 @@ route_of rx tx shape source_budget budget sizes last count free ticks end = reco
   sizes = sizes;
   last = last;
   seen = came_by frames_in (turns_of (end ∷ ticks));
-  answers = answered_by (moments_of (end ∷ ticks));
+  answers = came_by controls_in (moments_of (end ∷ ticks));
   controls = controls_by shape (turns_of (end ∷ ticks));
   frames = left_by tx.shape (moments_of (end ∷ ticks));
   sessions = records_by (turns_of (end ∷ ticks));
-  dests = sent_by (moments_of (end ∷ ticks));
+  dests = records_by (moments_of (end ∷ ticks));
   moves = map move_of (view_of (end ∷ ticks)).changes;
   count = count;
   free = free;

@@ -1,5 +1,6 @@
 -- When a destination's frames leave, and what they are: none leaves before its bytes came (ISO 15765-2, segmentation and reassembly).
 use Rattle.std.specs.Prelude.{◌≡◌, ℕ, ◌≤◌, false, true, nat_le, List, filter, length, map}
+use Rattle.tp_sender.specs.Runs.{Written}
 use Rattle.std.specs.List.{AllByRecursion, AllZip, flat_map}
 use Rattle.hub_core.specs.declared.record.DestRecord.{DestRecord}
 use Rattle.hub_core.specs.declared.record.SessionRecord.{SessionRecord}
@@ -7,7 +8,6 @@ use Rattle.tp_attempts.specs.Attempts.{attempts_in}
 use Rattle.tp_attempts.specs.Cuts.{Cut}
 use Rattle.tp_attempts.specs.Seen.{Seen}
 use Rattle.tp_attempts.specs.Walk.{Piece, joined, walk_of}
-use Rattle.tp_sender.specs.Sending.{Written}
 use Rattle.tp_unit.specs.declared.shape.Shape.{Shape}
 use Rattle.tp_unit.specs.Shape.{address_size, fits_shape}
 use Rattle.tp_unit.specs.Unit.{Meaning}

@@ -1,5 +1,8 @@
 -- What a destination's channel wrote, by the records of its sessions (ISO 15765-2, segmentation and flow control).
 use Rattle.std.specs.Prelude.{◌≡◌, ℕ, ◌+◌, ◌<◌, ◌≤◌, ◌↔◌, ◌==◌, not, ◌&&◌, nat_lt, if◌then◌else◌, Bool, true, false, Option, Some, None, List, [], ◌∷◌, ◌++◌, length, map, filter, slice_get, take}
+use Rattle.tp_sender.specs.Runs.{Answer, Written, controls_in, cells_in, left_by, lens_in}
+use Rattle.tp_sender.specs.State.{TxTurn, tx_new, Transmission}
+use Rattle.hub_core.specs.Turns.{came_by, calls_by, now_of, state_after, records_by}
 use Rattle.std.specs.List.{AllByRecursion, AllZip}
 use Rattle.gw_base.specs.Cell.{bytes_of}
 use Rattle.hub_core.specs.declared.record.DestRecord.{DestRecord}
@@ -9,8 +12,6 @@ use Rattle.tp_attempts.specs.Cuts.{Cut}
 use Rattle.tp_attempts.specs.Seen.{Seen, seen_frame, len_of}
 use Rattle.tp_attempts.specs.Walk.{Piece, walk_of, reassembled}
 use Rattle.tp_sender.specs.declared.set.TxSet.{TxSet}
-use Rattle.tp_sender.specs.Sending.{Answer, Moment, Written, answered_by, calls_by, cells_in, left_by, lens_in, now_of, state_from, told_by}
-use Rattle.tp_sender.specs.State.{Sending}
 use Rattle.tp_unit.specs.Shape.{address_size}
 use Rattle.tp_unit.specs.Unit.{Meaning, SingleFrame, FirstFrame, ConsecutiveFrame, FlowControl, NoUnit}
 
@@ -25,7 +26,7 @@ pub record Transfer : Type 0 where
   pub read : ℕ → List ℕ
   -- the records of the sessions that ended, and the session that is being sent
   pub records : List DestRecord
-  pub live : Option Sending
+  pub live : Option Transmission
   -- the present tick
   pub now : ℕ
 
@@ -58,6 +59,14 @@ is_consecutive (FirstFrame len bytes) = false
 is_consecutive (ConsecutiveFrame number bytes) = true
 is_consecutive (FlowControl status block_size separation) = false
 is_consecutive (NoUnit why) = false
+
+-- a frame that carries data: a start or a consecutive frame
+abbrev pub is_data : Meaning → Bool
+is_data (SingleFrame bytes) = true
+is_data (FirstFrame len bytes) = true
+is_data (ConsecutiveFrame number bytes) = true
+is_data (FlowControl status block_size separation) = false
+is_data (NoUnit why) = false
 
 -- the ticks of a transmission's frames: its start, and the consecutive frames up to the next start
 abbrev pub ticks_of : Cut Seen → List ℕ
@@ -95,7 +104,7 @@ abbrev pub has_sent : DestRecord → Bool
 has_sent told = nat_lt 0 told.sent
 
 -- the transmission that is still going on, where one is, is of the session that is being sent
-abbrev pub GoesOnWith : Transfer → ℕ → Option Sending → List (Cut Seen) → Type 0
+abbrev pub GoesOnWith : Transfer → ℕ → Option Transmission → List (Cut Seen) → Type 0
 GoesOnWith t now None going = going ≡ []
 GoesOnWith t now (Some s) [] = s.sent ≡ 0
 GoesOnWith t now (Some s) (cut ∷ more) = (more ≡ []) × (0 < s.sent) × Sends t s.seq s.sent s.begin now cut
@@ -115,14 +124,14 @@ abbrev pub seen_of : ℕ → Written → Seen
 seen_of address written = seen_frame address written.tick written.frame
 
 -- what a run tells
-abbrev pub transfer_of : TxSet → List Moment → Transfer
+abbrev pub transfer_of : TxSet → List TxTurn → Transfer
 transfer_of set moments = record {
   address = address_size set.shape;
   frames = map (seen_of (address_size set.shape)) (left_by set.shape moments);
-  answers = answered_by moments;
+  answers = came_by controls_in moments;
   lens = lens_in (calls_by moments);
   read = λ number. bytes_of (cells_in number (calls_by moments));
-  records = told_by moments;
-  live = (state_from moments).live;
+  records = records_by moments;
+  live = (state_after tx_new moments).live;
   now = now_of moments;
 }

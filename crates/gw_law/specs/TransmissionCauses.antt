@@ -1,5 +1,6 @@
 -- Why each session of a destination ended, as far as its own frames and flow controls tell it (ISO 15765-2, network layer timing).
 use Rattle.std.specs.Prelude.{◌≡◌, ℕ, ◌+◌, ◌<◌, ◌≤◌, false, nat_le, max, Some, None, List, [], ◌∷◌, length, fold, filter, map}
+use Rattle.tp_sender.specs.Runs.{Answer}
 use Rattle.std.specs.List.{AllByRecursion, AllZip}
 use Rattle.hub_core.specs.declared.record.DestRecord.{DestRecord}
 use Rattle.hub_core.specs.declared.record.DestResult.{DestResult}
@@ -11,7 +12,6 @@ use Rattle.tp_attempts.specs.Cuts.{Cut}
 use Rattle.tp_attempts.specs.Seen.{Seen}
 use Rattle.tp_attempts.specs.Walk.{walk_of}
 use Rattle.tp_sender.specs.declared.set.TxSet.{TxSet}
-use Rattle.tp_sender.specs.Sending.{Answer}
 use Rattle.tp_unit.specs.Shape.{address_size}
 use Rattle.gw_law.specs.Run.{Route}
 use Rattle.gw_law.specs.Transfer.{Permits, answer_after, has_sent, seen_of}

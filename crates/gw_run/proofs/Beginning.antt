@@ -1,18 +1,18 @@
 -- From the barrier before a tick into its work, and the gateway as it begins.
 use Rattle.std.proofs.Common.{◌≡◌, ◌⊎◌, inl, inr, ℕ, ◌-◌, ◌≤◌, List, [], refl, sym, subst, ap, ◌∙◌, arith}
+use Rattle.tp_sender.specs.Runs.{Answer}
 use Rattle.tp_receiver.specs.State.{RxState, RxTurn}
 use Rattle.hub_core.specs.View.{View}
 use Rattle.gw_law.specs.Run.{IsIdle, Work, moments_of, turns_of, view_of}
 use Rattle.tp_attempts.specs.Seen.{Seen}
-use Rattle.tp_sender.specs.Sending.{Answer, Moment}
-use Rattle.tp_sender.specs.State.{TxState}
+use Rattle.tp_sender.specs.State.{TxState, TxTurn}
 use Rattle.gw_run.specs.declared.gateway.Gateway.{Gateway}
 use Rattle.gw_run.specs.Standing.{AtBarrier, InSource, IsQuiet, Stands}
 use Rattle.gw_run.proofs.RxTurns.{sender-stays}
 use Rattle.gw_run.proofs.TxMoments.{receiver-stays}
 
 -- all stands in a later tick too
-pub stands-later : (g : Gateway) (t tick : ℕ) (turns : List RxTurn) (moments : List Moment) (view : View) → t ≤ tick → Stands g t turns moments view → Stands g tick turns moments view
+pub stands-later : (g : Gateway) (t tick : ℕ) (turns : List RxTurn) (moments : List TxTurn) (view : View) → t ≤ tick → Stands g t turns moments view → Stands g tick turns moments view
 stands-later g t tick turns moments view by s = record {
   receives = receiver-stays g.machines.rx g.machines.shape t tick turns view view g.receiver _ g.controls g.sessions refl by s.receives;
   sends = sender-stays g.machines.tx t tick moments view view g.sender _ g.frames g.dests refl by s.sends;

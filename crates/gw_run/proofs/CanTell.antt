@@ -1,5 +1,7 @@
 -- Where all stands, both machines can be told.
 use Rattle.std.proofs.Common.{◌≡◌, ℕ, ◌<◌, ◌≤◌, ◌==◌, ◌&&◌, Bool, true, false, List, length, refl, sym, subst, ap, ◌∙◌, arith}
+use Rattle.tp_sender.specs.Runs.{Answer}
+use Rattle.tp_sender.specs.Port.{Knows as KnowsPort}
 use Rattle.tp_receiver.specs.Port.{CanTake, Knows}
 use Rattle.tp_receiver.specs.State.{RxEvent, Came, RxTurn}
 use Rattle.std.proofs.lemmas.Bool.Decides.{nat_tests}
@@ -9,8 +11,7 @@ use Rattle.gw_base.specs.declared.numbers.PathNo.{PathNo}
 use Rattle.hub_core.specs.View.{View}
 use Rattle.tp_attempts.specs.Seen.{Seen}
 use Rattle.tp_receiver.specs.declared.set.RxSet.{RxSet}
-use Rattle.tp_sender.specs.Sending.{Answer, Moment}
-use Rattle.tp_sender.specs.State.{HasFrame, IsPlain, Knows as KnowsPort, state_of}
+use Rattle.tp_sender.specs.State.{HasFrame, IsPlain, state_of, TxTurn}
 use Rattle.tp_sender.specs.declared.event.TxEvent.{TxEvent}
 use Rattle.tp_sender.specs.declared.event.TxEvent.TheVariants.{Left}
 use Rattle.tp_sender.specs.declared.set.TxSet.{TxSet}
@@ -20,7 +21,7 @@ use Rattle.gw_run.specs.Telling.{CanTell, CanTellSender, means_in}
 use Rattle.gw_run.specs.declared.gateway.Gateway.{Gateway}
 use Rattle.gw_run.proofs.Same.{waits-later}
 
-pub can-tell : (g : Gateway) (t tick : ℕ) (turns : List RxTurn) (moments : List Moment) (view : View) (event : RxEvent) → Stands g t turns moments view → t ≤ tick →
+pub can-tell : (g : Gateway) (t tick : ℕ) (turns : List RxTurn) (moments : List TxTurn) (view : View) (event : RxEvent) → Stands g t turns moments view → t ≤ tick →
     CanTake g.receiver.set (means_in g.hub) g.receiver.next_n event → CanTell g.receiver g.hub event tick
 can-tell g t tick turns moments view event s by can =
     let set = s.receives.set in
@@ -50,7 +51,7 @@ can-receive g seen answers tick frame lawful few at =
       record { frame = frame; size_is = refl; most = lawful-most frame.fd (length frame.bytes) lawful.len; reads = ap (λ a. unit_of a frame) address },
     )
 
-pub can-tell-sender : (g : Gateway) (t tick : ℕ) (turns : List RxTurn) (moments : List Moment) (view : View) (event : TxEvent) → Stands g t turns moments view → t ≤ tick → tick ≤ 10000000 →
+pub can-tell-sender : (g : Gateway) (t tick : ℕ) (turns : List RxTurn) (moments : List TxTurn) (view : View) (event : TxEvent) → Stands g t turns moments view → t ≤ tick → tick ≤ 10000000 →
     (event ≡ Left → HasFrame (state_of g.sender).live) → IsPlain event → CanTellSender g.sender g.hub event tick
 can-tell-sender g t tick turns moments view event s by low left plain =
     let set = s.sends.set in

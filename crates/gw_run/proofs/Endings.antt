@@ -1,10 +1,10 @@
 -- The run's end: both machines are told, and the whole run is one.
 use Rattle.std.proofs.Common.{◌≡◌, ◌⊎◌, ℕ, zero, suc, true, ◌+◌, ◌-◌, ◌*◌, ◌<◌, ◌≤◌, Option, Some, None, List, [], ◌∷◌, ◌++◌, length, refl, sym, subst, ap, ◌∙◌, append-nil, length-append, arith}
+use Rattle.tp_sender.specs.Runs.{Answer, Written}
 use Rattle.tp_receiver.specs.State.{Reception, RxDid, RxState, RunEnd, RxTurn}
 use Rattle.tp_receiver.specs.Table.{EndRow}
-use Rattle.hub_core.specs.Turns.{came_by}
+use Rattle.hub_core.specs.Turns.{came_by, calls_by}
 use Rattle.tp_receiver.specs.Runs.{frames_in}
-use Rattle.std.specs.Prelude.{option_to_list}
 use Rattle.hub_core.specs.Floors.{AreFresh, floors_of}
 use Rattle.hub_core.specs.Joint.{AreInOrder, Joint}
 use Rattle.gw_base.specs.declared.numbers.PathNo.{PathNo}
@@ -18,9 +18,9 @@ use Rattle.gw_law.specs.Run.{IsIdle, Route, Work, moments_of, turns_of, view_of}
 use Rattle.tick_clock.specs.declared.clock.Clock.{Clock}
 use Rattle.tp_attempts.specs.Seen.{Seen}
 use Rattle.tp_receiver.specs.declared.set.RxSet.{RxSet}
-use Rattle.tp_sender.specs.Sending.{Answer, Moment, Stepped, Written, calls_by as sent_calls}
-use Rattle.tp_sender.specs.State.{ActsFor as ActsForSender, Sending, TxState, set_of, state_of}
-use Rattle.tp_sender.specs.Table.{NothingStands, FindsOne, TxMove, TxRow}
+use Rattle.tp_sender.specs.Port.{ActsFor as ActsForSender}
+use Rattle.tp_sender.specs.State.{Transmission, TxDid, TxState, TxTurn, set_of, state_of}
+use Rattle.tp_sender.specs.Table.{NothingStands, FindsOne, TxRow}
 use Rattle.tp_sender.specs.declared.event.TxEvent.{TxEvent}
 use Rattle.tp_sender.specs.declared.event.TxEvent.TheVariants.{RunEnd}
 use Rattle.tp_sender.specs.declared.set.TxSet.{TxSet}
@@ -42,7 +42,7 @@ use Rattle.hub_core.proofs.Growing.{grows-append}
 use Rattle.std.proofs.lemmas.Option.{slice_get_within}
 
 -- how many sessions are sent, and what is left for the sender at the run's end: the one that it sends, and those that it hasn't joined
-abbrev pub sent_now : Option Sending → ℕ
+abbrev pub sent_now : Option Transmission → ℕ
 sent_now None = 0
 sent_now (Some s) = 1
 
@@ -50,40 +50,40 @@ abbrev pub remaining : Gateway → ℕ
 remaining g = 2 * (length ((view_in g.hub).sessions g.sender.set.path.0) - g.sender.next) + sent_now (state_of g.sender).live
 
 -- the sender is told once more
-pub ends-more : (g h : Gateway) (last : ℕ) (turns : List RxTurn) (moments : List Moment) (view : View) → EndsTelling g last turns moments view → TellsSender g h RunEnd last (lying g.frame) g.frames → EndsTelling h last turns moments view
+pub ends-more : (g h : Gateway) (last : ℕ) (turns : List RxTurn) (moments : List TxTurn) (view : View) → EndsTelling g last turns moments view → TellsSender g h RunEnd last (lying g.frame) g.frames → EndsTelling h last turns moments view
 ends-more g h last turns moments view ends told =
-    let move = told.move in
-    let stands = moment-stands g h last last turns (ends.more ++ moments) (grows (sent_calls ends.more) view) RunEnd ends.stands (omega arith) tt (frames-same g h RunEnd last (lying g.frame) told) in
-    let V : View → Type 0 = λ v. Stands h last turns (Stepped move ∷ (ends.more ++ moments)) v in
+    let turn = told.turn in
+    let stands = moment-stands g h last last turns (ends.more ++ moments) (grows (calls_by ends.more) view) RunEnd ends.stands (omega arith) tt (frames-same g h RunEnd last (lying g.frame) told) in
+    let V : View → Type 0 = λ v. Stands h last turns (turn ∷ (ends.more ++ moments)) v in
     record {
-      more = Stepped move ∷ ends.more;
+      more = turn ∷ ends.more;
       only = ((told.stepped.event_is, told.stepped.tick_is), ends.only);
-      stands = subst V (sym (grows-append (sent_calls ends.more) move.calls view)) stands;
+      stands = subst V (sym (grows-append (calls_by ends.more) turn.did.calls view)) stands;
     }
 
 -- the sender makes no record at the run's end only where no session stands
-none-told : (set : TxSet) (next : ℕ) (live : Option Sending) (m : TxMove) (entered : ℕ → ℕ) → TxRow set next live (record m { event = RunEnd }) → m.did.ended ≡ None → ((number : ℕ) (more : List Event) → m.calls ≡ Missed set.path.0 set.dest.0 number ∷ more → entered set.path.0 ≤ number) →
-    (m.did.live ≡ None) × (entered set.path.0 ≤ m.next)
-none-told set next (Some s) m entered row none missed = let some = row.0.ended in cc
-none-told set next None m entered (NothingStands row) none missed = (row.live, omega (arith, missed next [] row.calls_are, row.next_is))
-none-told set next None m entered (FindsOne buf len more joins ends) none missed = let some = ends.ended in cc
+none-told : (set : TxSet) (next : ℕ) (live : Option Transmission) (did : TxDid) (entered : ℕ → ℕ) → TxRow set next live RunEnd did → did.records ≡ [] → ((number : ℕ) (more : List Event) → did.calls ≡ Missed set.path.0 set.dest.0 number ∷ more → entered set.path.0 ≤ number) →
+    (did.new.live ≡ None) × (entered set.path.0 ≤ did.new.next)
+none-told set next (Some s) did entered row none missed = let some = row.0.records in cc
+none-told set next None did entered (NothingStands row) none missed = (row.live, omega (arith, missed next [] row.calls_are, row.next_is))
+none-told set next None did entered (FindsOne buf len more joins ends) none missed = let some = ends.records in cc
 
 missed-fresh : (hub : PlainHub) (path dest number : ℕ) (calls more : List Event) → (means_in hub).reads path dest ≡ true → AreFresh (floors_of (view_in hub)) (view_in hub) calls → calls ≡ Missed path dest number ∷ more →
     length ((view_in hub).sessions path) ≤ number
 missed-fresh hub path dest number calls more acts fresh is = let P : List Event → Type 0 = λ c. AreFresh (floors_of (view_in hub)) (view_in hub) c in none-missed hub path dest number acts (subst P is fresh).0
 
-ended-none : (before after : List DestRecord) (ended : Option DestRecord) → after ≡ before ++ option_to_list ended → length after ≤ length before → ended ≡ None
-ended-none before after None is few = refl
-ended-none before after (Some told) is few = absurd (omega (arith, ap length is ∙ length-append before (told ∷ []), few))
+no-more : (before after more : List DestRecord) → after ≡ before ++ more → length after ≤ length before → more ≡ []
+no-more before after [] is few = refl
+no-more before after (told ∷ more) is few = absurd (omega (arith, ap length is ∙ length-append before (told ∷ more), few))
 
 pub is-over : (g h : Gateway) (last : ℕ) → ActsForSender (means_in g.hub) g.sender → TellsSender g h RunEnd last (lying g.frame) g.frames → length h.dests ≤ length g.dests → IsOver h
 is-over g h last acts told few =
-    let move = told.move in
+    let turn = told.turn in
     let st = told.stepped in
     let next = ap (λ (s : TxState). s.next) st.state in
-    let row : TxRow (set_of g.sender) (state_of g.sender).next (state_of g.sender).live (record move { event = RunEnd }) = (let P : TxEvent → Type 0 = λ e. TxRow (set_of g.sender) (state_of g.sender).next (state_of g.sender).live (record move { event = e }) in subst P st.event_is st.row) in
-    let out = none-told (set_of g.sender) (state_of g.sender).next (state_of g.sender).live move (λ path. length ((view_in g.hub).sessions path)) row (ended-none g.dests h.dests move.did.ended told.dests few)
-    (λ number more is. missed-fresh g.hub (set_of g.sender).path.0 (set_of g.sender).dest.0 number move.calls more acts st.fresh is) in
+    let row : TxRow (set_of g.sender) (state_of g.sender).next (state_of g.sender).live RunEnd turn.did = (let P : TxEvent → Type 0 = λ e. TxRow (set_of g.sender) (state_of g.sender).next (state_of g.sender).live e turn.did in subst P st.event_is st.row) in
+    let out = none-told (set_of g.sender) (state_of g.sender).next (state_of g.sender).live turn.did (λ path. length ((view_in g.hub).sessions path)) row (no-more g.dests h.dests turn.did.records told.dests few)
+    (λ number more is. missed-fresh g.hub (set_of g.sender).path.0 (set_of g.sender).dest.0 number turn.did.calls more acts st.fresh is) in
     let joined : length ((view_in h.hub).sessions h.sender.set.path.0) ≡ length ((view_in g.hub).sessions g.sender.set.path.0) =
     ap (λ (s : ℕ → List Session). length (s h.sender.set.path.0)) st.sessions ∙ ap (λ (x : TxSet). length ((view_in g.hub).sessions x.path.0)) st.set in
     record { live = ap (λ (s : TxState). s.live) st.state ∙ out.0; joined = omega (arith, joined, next, out.1) }
@@ -96,19 +96,18 @@ readings-most sizes count free v path dest (suc seq) joint is =
     let session = joint.streams.joined path dest seq item.0 item.1 in
     omega (arith, slice_get_within (v.sessions path) seq session.0 session.1)
 
-some-told : (set : TxSet) (next : ℕ) (live : Option Sending) (m : TxMove) → TxRow set next live (record m { event = RunEnd }) → (m.did.ended ≡ None → ⊥) →
-    (m.did.live ≡ None) × (next ≤ m.next) × (2 * next + 1 ≤ 2 * m.next + sent_now live)
-some-told set next (Some s) m row some = (row.0.live, omega (arith, row.1), omega (arith, row.1))
-some-told set next None m (NothingStands row) some = absurd (some row.ended)
-some-told set next None m (FindsOne buf len more joins ends) some = (ends.live, omega (arith, joins.next_is), omega (arith, joins.next_is))
+some-told : (set : TxSet) (next : ℕ) (live : Option Transmission) (did : TxDid) → TxRow set next live RunEnd did → (did.records ≡ [] → ⊥) → (did.new.live ≡ None) × (next ≤ did.new.next) × (2 * next + 1 ≤ 2 * did.new.next + sent_now live)
+some-told set next (Some s) did row some = (row.0.live, omega (arith, row.1), omega (arith, row.1))
+some-told set next None did (NothingStands row) some = absurd (some row.records)
+some-told set next None did (FindsOne buf len more joins ends) some = (ends.live, omega (arith, joins.next_is), omega (arith, joins.next_is))
 
 pub less-remains : (g h : Gateway) (last : ℕ) (lies : Option Meaning) (frames : List Written) → TellsSender g h RunEnd last lies frames → length g.dests < length h.dests → remaining h < remaining g
 less-remains g h last lies frames told more =
-    let move = told.move in
+    let turn = told.turn in
     let st = told.stepped in
-    let row : TxRow (set_of g.sender) (state_of g.sender).next (state_of g.sender).live (record move { event = RunEnd }) = (let P : TxEvent → Type 0 = λ e. TxRow (set_of g.sender) (state_of g.sender).next (state_of g.sender).live (record move { event = e }) in subst P st.event_is st.row) in
-    let out = some-told (set_of g.sender) (state_of g.sender).next (state_of g.sender).live move row (λ none. omega (arith, ap length told.dests, ap (λ (e : Option DestRecord). length (g.dests ++ option_to_list e)) none, ap length (append-nil g.dests), more)) in
-    let next : h.sender.next ≡ move.next = ap (λ (s : TxState). s.next) st.state in
+    let row : TxRow (set_of g.sender) (state_of g.sender).next (state_of g.sender).live RunEnd turn.did = (let P : TxEvent → Type 0 = λ e. TxRow (set_of g.sender) (state_of g.sender).next (state_of g.sender).live e turn.did in subst P st.event_is st.row) in
+    let out = some-told (set_of g.sender) (state_of g.sender).next (state_of g.sender).live turn.did row (λ none. omega (arith, ap length told.dests, ap (λ (e : List DestRecord). length (g.dests ++ e)) none, ap length (append-nil g.dests), more)) in
+    let next : h.sender.next ≡ turn.did.new.next = ap (λ (s : TxState). s.next) st.state in
     let live : sent_now (state_of h.sender).live ≡ 0 = ap (λ (s : TxState). sent_now s.live) st.state ∙ ap sent_now out.0 in
     let same : length ((view_in h.hub).sessions h.sender.set.path.0) ≡ length ((view_in g.hub).sessions g.sender.set.path.0) =
     ap (λ (s : ℕ → List Session). length (s h.sender.set.path.0)) st.sessions ∙ ap (λ (x : TxSet). length ((view_in g.hub).sessions x.path.0)) st.set in
@@ -127,18 +126,18 @@ same-route m last count free seen answers controls frames sessions dests moves t
 
 -- the receiver was told of the run's end
 pub end-stands : (g k : Gateway) (last : ℕ) (seen : List Seen) (answers : List Answer) (next : ℕ) → next ≤ last + 1 → (at : AtBarrier g seen answers next) → (first : TellsReceiver g k RunEnd last (lying g.control) g.controls) →
-    Stands k last (record { event = RunEnd; did = first.move } ∷ turns_of at.works) (moments_of at.works) (grows first.move.calls (view_of at.works))
+    Stands k last (record { event = RunEnd; did = first.did } ∷ turns_of at.works) (moments_of at.works) (grows first.did.calls (view_of at.works))
 end-stands g k last seen answers next in_time at first =
     turn-stands g k last last (turns_of at.works) (moments_of at.works) (view_of at.works) RunEnd (stands-later g (next - 1) last (turns_of at.works) (moments_of at.works) (view_of at.works) (omega arith) at.stands) (omega arith) (told-same g k RunEnd last (lying g.control) first)
 
 pub finishes : (g k h : Gateway) (clock : Clock) (last : ℕ) (seen : List Seen) (answers : List Answer) (next : ℕ) (told : Told) → next ≤ last + 1 → IsQuiet g ⊎ (next ≡ last + 1) → AtBarrier g seen answers next →
-    TellsReceiver g k RunEnd last (lying g.control) g.controls → ((turns : List RxTurn) (moments : List Moment) (view : View) → Stands k last turns moments view → EndsTelling h last turns moments view) → IsOver h → h.machines ≡ k.machines → Tells h clock told →
+    TellsReceiver g k RunEnd last (lying g.control) g.controls → ((turns : List RxTurn) (moments : List TxTurn) (view : View) → Stands k last turns moments view → EndsTelling h last turns moments view) → IsOver h → h.machines ≡ k.machines → Tells h clock told →
     Finishes g.machines clock last seen answers told
 finishes g k h clock last seen answers next told in_time quiet at first ends over machines tells =
     let works = at.works in
-    let turn : RxTurn = record { event = RunEnd; did = first.move } in
+    let turn : RxTurn = record { event = RunEnd; did = first.did } in
     let stands = end-stands g k last seen answers next in_time at first in
-    let out = ends (turn ∷ turns_of works) (moments_of works) (grows first.move.calls (view_of works)) stands in
+    let out = ends (turn ∷ turns_of works) (moments_of works) (grows first.did.calls (view_of works)) stands in
     let all = out.stands in
     let end : Work = record { tick = last; turns = turn ∷ []; moments = out.more } in
     let m_is : h.machines ≡ g.machines = machines ∙ ap (λ (x : Gateway). x.machines) first.rest in
@@ -170,7 +169,7 @@ finishes g k h clock last seen answers next told in_time quiet at first ends ove
           receives = (refl, first.stepped.tick_is, refl);
           between = stands-joint k last _ _ _ stands;
           sends = out.only;
-          idle = record { receiver = end-idle _ _ _ first.move refl first.stepped.row; sender = sym (ap (λ (s : TxState). s.live) tx.state) ∙ over.live };
+          idle = record { receiver = end-idle _ _ _ first.did refl first.stepped.row; sender = sym (ap (λ (s : TxState). s.live) tx.state) ∙ over.live };
           joined = omega (arith, over.joined, count, number);
         };
         received = rx.happened;

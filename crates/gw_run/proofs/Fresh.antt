@@ -1,13 +1,14 @@
 -- A gateway that is new stands at the barrier before tick 0.
 use Rattle.std.proofs.Common.{◌≡◌, ℕ, ◌≤◌, Option, None, [], ◌∷◌, refl, sym, subst, ap, arith}
+use Rattle.tp_sender.specs.Port.{Knows as KnowsPort}
 use Rattle.tp_receiver.specs.Port.{KnowsState}
-use Rattle.tp_receiver.specs.State.{WaitsBy, RxState, reception_in, idle, state_of}
+use Rattle.tp_receiver.specs.State.{WaitsBy, RxState, reception_in, idle, state_of as receiver_state}
 use Rattle.hub_core.specs.Calls.{Means}
 use Rattle.hub_core.specs.Plain.{hub_means}
 use Rattle.hub_core.specs.View.{View, empty_view}
 use Rattle.tp_receiver.specs.declared.reception.State.{State}
 use Rattle.tp_receiver.specs.declared.reception.State.TheVariants.{Idle, Busy}
-use Rattle.tp_sender.specs.State.{HasFrame, Knows as KnowsPort, Sending, TxState, set_of, since_of, state_new, state_of}
+use Rattle.tp_sender.specs.State.{HasFrame, TxState, set_of, since_of, state_of as sender_state, Transmission, tx_new}
 use Rattle.tp_unit.specs.Unit.{Meaning}
 use Rattle.gw_run.specs.Standing.{AtBarrier, FitsIn, Lies, lying, view_in}
 use Rattle.gw_run.specs.Telling.{means_in}
@@ -22,20 +23,20 @@ idle-waits : (state : State) (tick : ℕ) → reception_in state ≡ None → Wa
 idle-waits Idle tick is = tt
 idle-waits (Busy r) tick is = cc
 
-pub begins : (g : Gateway) → view_in g.hub ≡ empty_view → means_in g.hub ≡ hub_means BUFFER_CELLS 1000000 9000000 → g.receiver.set ≡ g.machines.rx → state_of g.receiver ≡ idle 0 0 →
-    set_of g.sender ≡ g.machines.tx → state_of g.sender ≡ state_new → KnowsPort empty_view g.sender → lying g.control ≡ None → lying g.frame ≡ None →
+pub begins : (g : Gateway) → view_in g.hub ≡ empty_view → means_in g.hub ≡ hub_means BUFFER_CELLS 1000000 9000000 → g.receiver.set ≡ g.machines.rx → receiver_state g.receiver ≡ idle 0 0 →
+    set_of g.sender ≡ g.machines.tx → sender_state g.sender ≡ tx_new → KnowsPort empty_view g.sender → lying g.control ≡ None → lying g.frame ≡ None →
     g.controls ≡ [] → g.frames ≡ [] → g.sessions ≡ [] → g.dests ≡ [] → g.moves ≡ [] → AtBarrier g [] [] 0
 begins g view means rx rx_state tx tx_state knows control frame controls frames sessions dests moves =
     let busy : reception_in g.receiver.state ≡ None = ap (λ (s : RxState). s.busy) rx_state in
     let next : g.receiver.next_n ≡ 0 = ap (λ (s : RxState). s.next) rx_state in
     let seq : g.receiver.next_seq ≡ 0 = ap (λ (s : RxState). s.seq) rx_state in
-    let live : (state_of g.sender).live ≡ None = ap (λ (s : TxState). s.live) tx_state in
+    let live : (sender_state g.sender).live ≡ None = ap (λ (s : TxState). s.live) tx_state in
     let takes : g.hub.takes ≡ 1000000 = ap (λ (m : Means). m.takes) means in
     let spare : g.hub.spare ≡ 9000000 = ap (λ (m : Means). m.spare) means in
     let sizes : g.hub.size ∷ [] ≡ BUFFER_CELLS ∷ [] = ap (λ (m : Means). m.sizes) means in
-    let L : Option Sending → Type 0 = λ l. HasFrame l → Lies (lying g.frame) in
-    let N : Option Meaning → Type 0 = λ l. Lies l → HasFrame (state_of g.sender).live in
-    let S : Option Sending → Type 0 = λ l. since_of l ≤ 0 in
+    let L : Option Transmission → Type 0 = λ l. HasFrame l → Lies (lying g.frame) in
+    let N : Option Meaning → Type 0 = λ l. Lies l → HasFrame (sender_state g.sender).live in
+    let S : Option Transmission → Type 0 = λ l. since_of l ≤ 0 in
     record {
       works = [];
       ticks = tt;

@@ -1,8 +1,8 @@
 -- Where something lay in a box, it left.
 use Rattle.std.proofs.Common.{◌≡◌, ℕ, ◌++◌, false, Option, Some, None}
+use Rattle.tp_sender.specs.Runs.{written_of}
 use Rattle.tp_receiver.specs.State.{FcLeft}
 use Rattle.std.specs.Prelude.{is_none}
-use Rattle.tp_sender.specs.Sending.{written_of}
 use Rattle.tp_sender.specs.declared.event.TxEvent.TheVariants.{Left}
 use Rattle.tp_unit.specs.declared.unit.Unit.{Unit as ProtocolUnit}
 use Rattle.gw_run.specs.Standing.{lying}

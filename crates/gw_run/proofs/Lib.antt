@@ -23,7 +23,6 @@ pub mod RxTurns
 pub mod Same
 pub mod Saying
 pub mod Setups
-pub mod Sound
 pub mod Starts
 pub mod Stopping
 pub mod Telling

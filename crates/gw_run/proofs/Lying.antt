@@ -1,11 +1,13 @@
 -- What a step leaves in a box fits the channel's shape, and a frame of the sender lies in its box where its session says so.
 use Rattle.std.proofs.Common.{◌≡◌, Option, refl}
+use Rattle.tp_sender.specs.Runs.{box_once, box_then}
 use Rattle.tp_receiver.specs.State.{RxEvent, Came, Timer, FcLeft, RunEnd}
 use Rattle.gw_law.specs.Run.{control_once}
-use Rattle.tp_sender.specs.Sending.{box_once, box_then}
-use Rattle.tp_sender.specs.State.{HasFrame, IsInBox, Sending, StillHasFrame}
+use Rattle.gw_law.proofs.DataFrames.{IsDataAct}
+use Rattle.tp_sender.specs.State.{HasFrame, IsInBox, StillHasFrame, Transmission}
 use Rattle.tp_sender.specs.declared.event.TxEvent.{TxEvent}
 use Rattle.tp_sender.specs.declared.event.TxEvent.TheVariants.{Turn, Fc, Left, RunEnd}
+use Rattle.tp_sender.specs.declared.set.TxSet.{TxSet}
 use Rattle.tp_unit.specs.Shape.{fits_shape}
 use Rattle.tp_unit.specs.Unit.{BoxMeaning, Keeps, Offers, Revokes, Meaning}
 use Rattle.tp_unit.specs.declared.shape.Shape.{Shape}
@@ -22,6 +24,12 @@ pub fits-offers : (shape : Shape) (act : BoxMeaning) → ((meaning : Meaning) �
 fits-offers shape Keeps fits = tt
 fits-offers shape (Offers meaning) fits = fits meaning refl
 fits-offers shape Revokes fits = tt
+
+-- what a sender offers fits
+pub fits-offered : (set : TxSet) (act : BoxMeaning) → IsDataAct set act → FitsAct set.shape act
+fits-offered set Keeps is = tt
+fits-offered set (Offers meaning) is = is.fits
+fits-offered set Revokes is = tt
 
 pub fits-put : (shape : Shape) (act : BoxMeaning) (lies : Option Meaning) → FitsAct shape act → FitsIn shape lies → FitsIn shape (box_then act lies)
 fits-put shape Keeps lies act fits = fits
@@ -44,13 +52,13 @@ fits-frame shape RunEnd lies fits = fits
 abbrev pub Both : Type 0 → Type 0 → Type 0
 Both one other = (one → other) × (other → one)
 
-pub has-still : (event : TxEvent) (live : Option Sending) (lies : Option Meaning) → Both (HasFrame live) (Lies lies) → Both (StillHasFrame event live) (Lies (box_once event lies))
+pub has-still : (event : TxEvent) (live : Option Transmission) (lies : Option Meaning) → Both (HasFrame live) (Lies lies) → Both (StillHasFrame event live) (Lies (box_once event lies))
 has-still Turn live lies both = both
 has-still (Fc fs bs st) live lies both = both
 has-still Left live lies both = (λ x. x, λ x. x)
 has-still RunEnd live lies both = both
 
-pub has-then : (act : BoxMeaning) (was : Type 0) (live : Option Sending) (lies : Option Meaning) → IsInBox act was live → Both was (Lies lies) → Both (HasFrame live) (Lies (box_then act lies))
+pub has-then : (act : BoxMeaning) (was : Type 0) (live : Option Transmission) (lies : Option Meaning) → IsInBox act was live → Both was (Lies lies) → Both (HasFrame live) (Lies (box_then act lies))
 has-then Keeps was live lies boxed both = (λ h. both.0 (boxed.1 h), λ l. boxed.0 (both.1 l))
 has-then (Offers meaning) was live lies boxed both = (λ h. tt, λ l. boxed)
 has-then Revokes was live lies boxed both = (λ h. boxed h, λ l. absurd l)

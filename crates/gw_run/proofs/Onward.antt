@@ -1,12 +1,12 @@
 -- How a run over two logs goes on: frame by frame on each bus, and tick by tick.
 use Rattle.std.proofs.Common.{◌≡◌, ◌⊎◌, inl, inr, ℕ, ◌+◌, ◌<◌, ◌≤◌, Bool, true, false, cond, List, [], ◌∷◌, ◌++◌, length, refl, sym, ap, ◌∙◌, subst, arith, append_assoc, length-append}
+use Rattle.tp_sender.specs.Runs.{Answer}
 use Rattle.std.specs.Prelude.{All}
 use Rattle.std.proofs.lemmas.List.{append-nil}
 use Rattle.can_frame.specs.Frame.{CanFrame}
 use Rattle.can_frame.specs.declared.id.CanId.{CanId}
 use Rattle.tick_clock.specs.declared.clock.Clock.{Clock}
 use Rattle.tp_attempts.specs.Seen.{Seen, seen_frame}
-use Rattle.tp_sender.specs.Sending.{Answer}
 use Rattle.tp_unit.specs.Reading.{unit_of}
 use Rattle.gw_run.specs.declared.gateway.Gateway.{Gateway}
 use Rattle.gw_run.specs.declared.log.Stamped.{Stamped}

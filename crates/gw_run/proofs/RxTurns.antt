@@ -1,5 +1,7 @@
 -- One more turn of the receiver, and all stands.
 use Rattle.std.proofs.Common.{◌≡◌, ℕ, ◌+◌, ◌*◌, ◌≤◌, Option, List, [], ◌∷◌, ◌++◌, length, map, refl, sym, subst, ap, ◌∙◌, append-nil, append_assoc, length-append, arith}
+use Rattle.tp_sender.specs.State.{TxTurn}
+use Rattle.tp_sender.specs.Runs.{Written, box_then}
 use Rattle.tp_receiver.specs.Port.{Knows, cells_for, takes_for}
 use Rattle.tp_receiver.specs.State.{RxEvent, RxDid, RxState, Came, Timer, FcLeft, RunEnd, RxTurn, rx_new}
 use Rattle.hub_core.specs.Moves.{move_of, moves_in, moves_of}
@@ -14,7 +16,6 @@ use Rattle.hub_core.specs.declared.record.DestRecord.{DestRecord}
 use Rattle.hub_core.specs.declared.record.SessionRecord.{SessionRecord}
 use Rattle.tp_receiver.specs.declared.receiver.Receiver.{Receiver}
 use Rattle.tp_receiver.specs.declared.set.RxSet.{RxSet}
-use Rattle.tp_sender.specs.Sending.{Moment, Written, box_then}
 use Rattle.tp_sender.specs.declared.sender.Sender.{Sender}
 use Rattle.tp_sender.specs.declared.set.TxSet.{TxSet}
 use Rattle.tp_unit.specs.Unit.{Meaning}
@@ -64,12 +65,12 @@ came-more : (turns : List RxTurn) (tick : ℕ) (event : RxEvent) → length (cam
 came-more turns tick event = length-append (came_by frames_in turns) (frames_in tick event) ∙ ap (λ n. length (came_by frames_in turns) + n) (came-takes tick event)
 
 -- the receiver's part
-receiver-turn : (rx : RxSet) (shape : Shape) (t tick : ℕ) (turns : List RxTurn) (view later : View) (receiver next : Receiver) (lies now : Option Meaning) (controls after : List Written) (sessions told : List SessionRecord) (hub new : PlainHub) (event : RxEvent) (move : RxDid) →
-    RxStands rx shape t turns view receiver lies controls sessions → t ≤ tick → RxStepped receiver hub next new event tick move → view_in new ≡ later → now ≡ box_then move.act (control_once event lies) →
-    after ≡ controls ++ control_at shape event tick lies → told ≡ sessions ++ move.records → RxStands rx shape tick (record { event = event; did = move } ∷ turns) later next now after told
-receiver-turn rx shape t tick turns view later receiver next lies now controls after sessions told hub new event move stands by st later_is now_is after_is told_is =
-    let more = came-more turns move.tick event in
-    let row : RxStep rx (state_after rx_new turns) event move = (let P : RxSet → Type 0 = λ s. RxStep s (state_after rx_new turns) event move in subst P stands.set (let Q : RxState → Type 0 = λ s. RxStep receiver.set s event move in subst Q stands.state st.row)) in
+receiver-turn : (rx : RxSet) (shape : Shape) (t tick : ℕ) (turns : List RxTurn) (view later : View) (receiver next : Receiver) (lies now : Option Meaning) (controls after : List Written) (sessions told : List SessionRecord) (hub new : PlainHub) (event : RxEvent) (did : RxDid) →
+    RxStands rx shape t turns view receiver lies controls sessions → t ≤ tick → RxStepped receiver hub next new event tick did → view_in new ≡ later → now ≡ box_then did.act (control_once event lies) →
+    after ≡ controls ++ control_at shape event tick lies → told ≡ sessions ++ did.records → RxStands rx shape tick (record { event = event; did = did } ∷ turns) later next now after told
+receiver-turn rx shape t tick turns view later receiver next lies now controls after sessions told hub new event did stands by st later_is now_is after_is told_is =
+    let more = came-more turns did.tick event in
+    let row : RxStep rx (state_after rx_new turns) event did = (let P : RxSet → Type 0 = λ s. RxStep s (state_after rx_new turns) event did in subst P stands.set (let Q : RxState → Type 0 = λ s. RxStep receiver.set s event did in subst Q stands.state st.row)) in
     record {
       happened = (omega (arith, st.tick_is, stands.now), row, stands.happened);
       set = st.set ∙ stands.set;
@@ -78,14 +79,14 @@ receiver-turn rx shape t tick turns view later receiver next lies now controls a
       number = omega (arith, more, st.number, stands.number);
       now = omega (arith, st.tick_is);
       waits = st.waits;
-      lies_is = now_is ∙ ap (λ l. box_then move.act (control_once event l)) stands.lies_is;
-      fits = subst (FitsIn shape) (sym now_is) (fits-put shape move.act _ (fits-offers shape move.act (λ meaning is. offered-fits-shape rx shape (state_after rx_new turns) event move meaning row is)) (fits-control shape event lies stands.fits));
+      lies_is = now_is ∙ ap (λ l. box_then did.act (control_once event l)) stands.lies_is;
+      fits = subst (FitsIn shape) (sym now_is) (fits-put shape did.act _ (fits-offers shape did.act (λ meaning is. offered-fits-shape rx shape (state_after rx_new turns) event did meaning row is)) (fits-control shape event lies stands.fits));
       controls_are = after_is ∙ rw (stands.controls_are, ← st.tick_is, ← stands.lies_is) refl;
-      sessions_are = told_is ∙ ap (λ l. l ++ move.records) stands.sessions_are;
+      sessions_are = told_is ∙ ap (λ l. l ++ did.records) stands.sessions_are;
     }
 
 -- the sender's part stays
-pub sender-stays : (tx : TxSet) (t tick : ℕ) (moments : List Moment) (view later : View) (sender : Sender) (lies : Option Meaning) (frames : List Written) (dests : List DestRecord) →
+pub sender-stays : (tx : TxSet) (t tick : ℕ) (moments : List TxTurn) (view later : View) (sender : Sender) (lies : Option Meaning) (frames : List Written) (dests : List DestRecord) →
     later.readings ≡ view.readings → t ≤ tick → TxStands tx t moments view sender lies frames dests → TxStands tx tick moments later sender lies frames dests
 sender-stays tx t tick moments view later sender lies frames dests same by s = record {
   happened = s.happened;
@@ -103,27 +104,27 @@ sender-stays tx t tick moments view later sender lies frames dests same by s = r
 }
 
 -- all of it
-pub turn-stands : (g h : Gateway) (t tick : ℕ) (turns : List RxTurn) (moments : List Moment) (view : View) (event : RxEvent) → Stands g t turns moments view → t ≤ tick →
+pub turn-stands : (g h : Gateway) (t tick : ℕ) (turns : List RxTurn) (moments : List TxTurn) (view : View) (event : RxEvent) → Stands g t turns moments view → t ≤ tick →
     (told : TellsReceiver g h event tick (control_once event (lying g.control)) (g.controls ++ control_at g.machines.shape event tick (lying g.control))) →
-    Stands h tick (record { event = event; did = told.move } ∷ turns) moments (grows told.move.calls view)
+    Stands h tick (record { event = event; did = told.did } ∷ turns) moments (grows told.did.calls view)
 turn-stands g h t tick turns moments view event s by told =
-    let move = told.move in
+    let did = told.did in
     let st = told.stepped in
     let pool = s.pool in
-    let grown : view_in h.hub ≡ grows move.calls view = st.grown ∙ ap (λ v. grows move.calls v) pool.view_is in
-    let readings : (grows move.calls view).readings ≡ view.readings = sym (ap (λ (v : View). v.readings) grown) ∙ st.readings ∙ ap (λ (v : View). v.readings) pool.view_is in
-    let more = came-more turns move.tick event in
+    let grown : view_in h.hub ≡ grows did.calls view = st.grown ∙ ap (λ v. grows did.calls v) pool.view_is in
+    let readings : (grows did.calls view).readings ≡ view.readings = sym (ap (λ (v : View). v.readings) grown) ∙ st.readings ∙ ap (λ (v : View). v.readings) pool.view_is in
+    let more = came-more turns did.tick event in
     let cells = came-cells event in
-    let R : Gateway → Type 0 = λ x. RxStands x.machines.rx x.machines.shape tick (record { event = event; did = move } ∷ turns) (grows move.calls view) h.receiver (lying h.control) h.controls h.sessions in
-    let T : Gateway → Type 0 = λ x. TxStands x.machines.tx tick moments (grows move.calls view) x.sender (lying x.frame) x.frames x.dests in
+    let R : Gateway → Type 0 = λ x. RxStands x.machines.rx x.machines.shape tick (record { event = event; did = did } ∷ turns) (grows did.calls view) h.receiver (lying h.control) h.controls h.sessions in
+    let T : Gateway → Type 0 = λ x. TxStands x.machines.tx tick moments (grows did.calls view) x.sender (lying x.frame) x.frames x.dests in
     record {
-      receives = subst R (sym told.rest) (receiver-turn g.machines.rx g.machines.shape t tick turns view (grows move.calls view) g.receiver h.receiver (lying g.control) (lying h.control) g.controls h.controls g.sessions h.sessions g.hub h.hub event move s.receives by st grown told.lies_is told.controls_are told.sessions);
-      sends = subst T (sym told.rest) (sender-stays g.machines.tx t tick moments view (grows move.calls view) g.sender (lying g.frame) g.frames g.dests readings by s.sends);
+      receives = subst R (sym told.rest) (receiver-turn g.machines.rx g.machines.shape t tick turns view (grows did.calls view) g.receiver h.receiver (lying g.control) (lying h.control) g.controls h.controls g.sessions h.sessions g.hub h.hub event did s.receives by st grown told.lies_is told.controls_are told.sessions);
+      sends = subst T (sym told.rest) (sender-stays g.machines.tx t tick moments view (grows did.calls view) g.sender (lying g.frame) g.frames g.dests readings by s.sends);
       pool = record {
         view_is = grown;
         size = st.size ∙ pool.size;
         takes = omega (arith, more, st.takes, pool.takes);
         spare = omega (arith, more, cells, st.spare, pool.spare);
-        moves_are = told.moves ∙ ap (λ l. l ++ moves_in move.calls) pool.moves_are ∙ sym (moves-grows move.calls view);
+        moves_are = told.moves ∙ ap (λ l. l ++ moves_in did.calls) pool.moves_are ∙ sym (moves-grows did.calls view);
       };
     }

@@ -1,5 +1,7 @@
 -- What the receiver knows of the hub depends on its sessions alone, and what the sender knows of it on its readings alone.
 use Rattle.std.proofs.Common.{◌≡◌, ℕ, ◌≤◌, length, Option, Some, None, ap, ◌∙◌, arith}
+use Rattle.tp_sender.specs.Port.{Knows as KnowsPort, KnowsLive}
+use Rattle.tp_sender.specs.declared.transmission.Transmission.{Transmission as HeldTransmission}
 use Rattle.tp_receiver.specs.Port.{Knows, KnowsState}
 use Rattle.tp_receiver.specs.State.{WaitsBy}
 use Rattle.std.specs.Prelude.{slice_get}
@@ -9,8 +11,6 @@ use Rattle.hub_core.specs.Tokens.{Writes}
 use Rattle.tp_receiver.specs.declared.reception.State.{State}
 use Rattle.tp_receiver.specs.declared.reception.State.TheVariants.{Idle, Busy}
 use Rattle.tp_receiver.specs.declared.receiver.Receiver.{Receiver}
-use Rattle.tp_sender.specs.State.{Knows as KnowsPort, KnowsLive}
-use Rattle.tp_sender.specs.declared.live.Live.{Live}
 use Rattle.tp_sender.specs.declared.sender.Sender.{Sender}
 use Rattle.tp_sender.specs.declared.set.TxSet.{TxSet}
 
@@ -24,7 +24,7 @@ state-same old new path (Busy r) same k = record { path_is = k.path_is; writes =
 pub knows-same : (old new : View) (r : Receiver) → new.sessions ≡ old.sessions → Knows old r → Knows new r
 knows-same old new r same k = record { number = ap (λ s. length (s r.set.path.0)) same ∙ k.number; session = state-same old new r.set.path.0 r.state same k.session }
 
-live-same : (old new : View) (set : TxSet) (next : ℕ) (live : Option Live) → new.readings ≡ old.readings → KnowsLive old set next live → KnowsLive new set next live
+live-same : (old new : View) (set : TxSet) (next : ℕ) (live : Option HeldTransmission) → new.readings ≡ old.readings → KnowsLive old set next live → KnowsLive new set next live
 live-same old new set next None same k = tt
 live-same old new set next (Some live) same k = record {
   path = k.path;

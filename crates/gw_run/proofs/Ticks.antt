@@ -1,5 +1,7 @@
 -- From step to step within a tick's work.
 use Rattle.std.proofs.Common.{◌≡◌, ℕ, Option, Some, None, List, [], ◌∷◌, ◌++◌, length, refl, sym, subst, ap, ◌∙◌, append-nil, append_assoc, arith}
+use Rattle.tp_sender.specs.Runs.{Answer, Written, written_of}
+use Rattle.tp_sender.specs.State.{TxTurn}
 use Rattle.tp_receiver.specs.State.{RxEvent, Came, Timer, FcLeft, RxTurn}
 use Rattle.hub_core.specs.Turns.{calls_by, came_by}
 use Rattle.tp_receiver.specs.Runs.{frames_in}
@@ -10,7 +12,6 @@ use Rattle.hub_core.proofs.Whole.{is-joint}
 use Rattle.gw_law.proofs.RxLooks.{fresh-counts}
 use Rattle.gw_law.specs.Run.{AreLooks, ControlLeaves, IsJoint, LooksCount, control_after, moments_of, turns_of, view_of}
 use Rattle.tp_attempts.specs.Seen.{Seen, seen_frame}
-use Rattle.tp_sender.specs.Sending.{Answer, Moment, Written, written_of}
 use Rattle.tp_unit.specs.Reading.{unit_of}
 use Rattle.tp_unit.specs.Unit.{Meaning}
 use Rattle.gw_run.specs.Standing.{InDestination, InSource, Stands, lying, view_in}
@@ -18,11 +19,11 @@ use Rattle.gw_run.specs.Telling.{LeavesControl, TellsReceiver}
 use Rattle.gw_run.specs.declared.gateway.Gateway.{Gateway}
 use Rattle.gw_run.specs.declared.machines.TheConstants.{BUFFER_CELLS}
 use Rattle.gw_run.proofs.RxTurns.{turn-stands}
-use Rattle.gw_law.proofs.OwnCalls.{received-calls}
 use Rattle.hub_core.proofs.Growing.{grows-append}
+use Rattle.hub_core.proofs.Turns.{calls-append}
 
 -- the hub is joint at every moment
-pub stands-joint : (g : Gateway) (t : ℕ) (turns : List RxTurn) (moments : List Moment) (view : View) → Stands g t turns moments view → IsJoint (BUFFER_CELLS ∷ []) view
+pub stands-joint : (g : Gateway) (t : ℕ) (turns : List RxTurn) (moments : List TxTurn) (view : View) → Stands g t turns moments view → IsJoint (BUFFER_CELLS ∷ []) view
 stands-joint g t turns moments view s =
     let P : View → Type 0 = λ v. IsJoint (BUFFER_CELLS ∷ []) v in
     let Q : ℕ → Type 0 = λ size. IsJoint (size ∷ []) (view_in g.hub) in
@@ -30,23 +31,23 @@ stands-joint g t turns moments view s =
 
 -- the same step, with the flow controls that had left written otherwise
 abbrev pub told-with : (g h : Gateway) (event : RxEvent) (tick : ℕ) (lies : Option Meaning) (controls other : List Written) → controls ≡ other → TellsReceiver g h event tick lies controls → TellsReceiver g h event tick lies other
-told-with g h event tick lies controls other is told = record { move = told.move; stepped = told.stepped; lies_is = told.lies_is; controls_are = told.controls_are ∙ is; sessions = told.sessions; moves = told.moves; rest = told.rest }
+told-with g h event tick lies controls other is told = record { did = told.did; stepped = told.stepped; lies_is = told.lies_is; controls_are = told.controls_are ∙ is; sessions = told.sessions; moves = told.moves; rest = told.rest }
 
 abbrev pub told-same : (g h : Gateway) (event : RxEvent) (tick : ℕ) (lies : Option Meaning) → TellsReceiver g h event tick lies g.controls → TellsReceiver g h event tick lies (g.controls ++ [])
 told-same g h event tick lies told = told-with g h event tick lies g.controls (g.controls ++ []) (sym (append-nil g.controls)) told
 
 -- the step's looks at the room count all but what was put
-counts-at : (g h : Gateway) (t tick : ℕ) (turns : List RxTurn) (moments : List Moment) (view : View) (event : RxEvent) (lies : Option Meaning) (controls : List Written) → Stands g t turns moments view →
-    (told : TellsReceiver g h event tick lies controls) → LooksCount view told.move.calls
+counts-at : (g h : Gateway) (t tick : ℕ) (turns : List RxTurn) (moments : List TxTurn) (view : View) (event : RxEvent) (lies : Option Meaning) (controls : List Written) → Stands g t turns moments view →
+    (told : TellsReceiver g h event tick lies controls) → LooksCount view told.did.calls
 counts-at g h t tick turns moments view event lies controls s told =
-    let P : View → Type 0 = λ v. LooksCount v told.move.calls in subst P s.pool.view_is (fresh-counts (floors_of (view_in g.hub)) (view_in g.hub) told.move.calls told.stepped.fresh)
+    let P : View → Type 0 = λ v. LooksCount v told.did.calls in subst P s.pool.view_is (fresh-counts (floors_of (view_in g.hub)) (view_in g.hub) told.did.calls told.stepped.fresh)
 
 -- a frame of the source channel came
 pub received : (g h : Gateway) (seen : List Seen) (answers : List Answer) (tick : ℕ) (frame : CanFrame) → InSource g seen answers tick →
     TellsReceiver g h (Came (length frame.bytes) (unit_of 0 frame)) tick (lying g.control) g.controls → InSource h (seen ++ seen_frame 0 tick frame ∷ []) answers tick
 received g h seen answers tick frame at told =
     let event = Came (length frame.bytes) (unit_of 0 frame) in
-    let turn : RxTurn = record { event = event; did = told.move } in
+    let turn : RxTurn = record { event = event; did = told.did } in
     let view = grows (calls_by at.turns) (view_of at.earlier) in
     let told_so = told-same g h event tick (lying g.control) told in
     let stands = turn-stands g h tick tick (at.turns ++ turns_of at.earlier) (moments_of at.earlier) view event at.stands (omega arith) told_so in
@@ -59,7 +60,7 @@ received g h seen answers tick frame at told =
       next = at.next;
       came = (told.stepped.tick_is, at.came);
       looks = (counts-at g h tick tick _ _ view event (lying g.control) g.controls at.stands told, at.looks);
-      stands = subst V (sym (grows-append (calls_by at.turns) told.move.calls (view_of at.earlier))) stands;
+      stands = subst V (sym (grows-append (calls_by at.turns) told.did.calls (view_of at.earlier))) stands;
       clear = at.clear;
       seen_is = ap (λ (k : ℕ). came_by frames_in (at.turns ++ turns_of at.earlier) ++ (record { at = k; size = length frame.bytes; meaning = unit_of 0 frame } ∷ [])) told.stepped.tick_is
           ∙ ap (λ (l : List Seen). l ++ seen_frame 0 tick frame ∷ []) at.seen_is;
@@ -67,20 +68,20 @@ received g h seen answers tick frame at told =
     }
 
 -- what lay in the receiver's box left
-record ControlLeft (h : Gateway) (tick : ℕ) (turns : List RxTurn) (moments : List Moment) (view : View) : Type 0 where
+record ControlLeft (h : Gateway) (tick : ℕ) (turns : List RxTurn) (moments : List TxTurn) (view : View) : Type 0 where
   left : List RxTurn
   left_is : ControlLeaves tick (control_after turns) left
   none_seen : came_by frames_in (left ++ turns) ≡ came_by frames_in turns
   looks : AreLooks view left
   stands : Stands h tick (left ++ turns) moments (grows (calls_by left) view)
 
-control-left : (g h : Gateway) (tick : ℕ) (turns : List RxTurn) (moments : List Moment) (view : View) (lies : Option Meaning) → lying g.control ≡ lies → Stands g tick turns moments view → LeavesControl lies g h tick → ControlLeft h tick turns moments view
+control-left : (g h : Gateway) (tick : ℕ) (turns : List RxTurn) (moments : List TxTurn) (view : View) (lies : Option Meaning) → lying g.control ≡ lies → Stands g tick turns moments view → LeavesControl lies g h tick → ControlLeft h tick turns moments view
 control-left g h tick turns moments view None is s same =
     let P : Option Meaning → Type 0 = λ l. ControlLeaves tick l [] in
     let H : Gateway → Type 0 = λ x. Stands x tick turns moments view in
     record { left = []; left_is = subst P (sym is ∙ s.receives.lies_is) refl; none_seen = refl; looks = tt; stands = subst H (sym same) s }
 control-left g h tick turns moments view (Some meaning) is s told =
-    let turn : RxTurn = record { event = FcLeft; did = told.move } in
+    let turn : RxTurn = record { event = FcLeft; did = told.did } in
     let P : Option Meaning → Type 0 = λ l. ControlLeaves tick l (turn ∷ []) in
     let same = ap (λ l. g.controls ++ written_of g.machines.shape tick l) (sym is) in
     record {
@@ -92,7 +93,7 @@ control-left g h tick turns moments view (Some meaning) is s told =
     }
 
 grows-join : (left rest : List RxTurn) (view : View) → grows (calls_by (left ++ rest)) view ≡ grows (calls_by left) (grows (calls_by rest) view)
-grows-join left rest view = ap (λ c. grows c view) (received-calls left rest) ∙ grows-append (calls_by rest) (calls_by left) view
+grows-join left rest view = ap (λ c. grows c view) (calls-append left rest) ∙ grows-append (calls_by rest) (calls_by left) view
 
 looks-join : (left rest : List RxTurn) (view : View) → AreLooks (grows (calls_by rest) view) left → AreLooks view rest → AreLooks view (left ++ rest)
 looks-join [] rest view one other = other
@@ -101,7 +102,7 @@ looks-join (turn ∷ left) rest view one other =
 
 -- the receiver's timer
 pub timer-stands : (g k : Gateway) (seen : List Seen) (answers : List Answer) (tick : ℕ) → (at : InSource g seen answers tick) → (told : TellsReceiver g k Timer tick (lying g.control) g.controls) →
-    Stands k tick (record { event = Timer; did = told.move } ∷ (at.turns ++ turns_of at.earlier)) (moments_of at.earlier) (grows told.move.calls (grows (calls_by at.turns) (view_of at.earlier)))
+    Stands k tick (record { event = Timer; did = told.did } ∷ (at.turns ++ turns_of at.earlier)) (moments_of at.earlier) (grows told.did.calls (grows (calls_by at.turns) (view_of at.earlier)))
 timer-stands g k seen answers tick at told =
     turn-stands g k tick tick (at.turns ++ turns_of at.earlier) (moments_of at.earlier) (grows (calls_by at.turns) (view_of at.earlier)) Timer at.stands (omega arith) (told-same g k Timer tick (lying g.control) told)
 
@@ -109,15 +110,15 @@ timer-stands g k seen answers tick at told =
 pub source-ends : (g k h : Gateway) (seen : List Seen) (answers : List Answer) (tick : ℕ) → InSource g seen answers tick → TellsReceiver g k Timer tick (lying g.control) g.controls →
     LeavesControl (lying k.control) k h tick → InDestination h seen answers tick
 source-ends g k h seen answers tick at told leaves =
-    let timer : RxTurn = record { event = Timer; did = told.move } in
+    let timer : RxTurn = record { event = Timer; did = told.did } in
     let view = grows (calls_by at.turns) (view_of at.earlier) in
     let stands = timer-stands g k seen answers tick at told in
-    let out = control-left k h tick (timer ∷ (at.turns ++ turns_of at.earlier)) (moments_of at.earlier) (grows told.move.calls view) (lying k.control) refl stands leaves in
-    let mid : grows (calls_by (timer ∷ at.turns)) (view_of at.earlier) ≡ grows told.move.calls view = grows-append (calls_by at.turns) told.move.calls (view_of at.earlier) in
-    let all : grows (calls_by (out.left ++ timer ∷ at.turns)) (view_of at.earlier) ≡ grows (calls_by out.left) (grows told.move.calls view) =
+    let out = control-left k h tick (timer ∷ (at.turns ++ turns_of at.earlier)) (moments_of at.earlier) (grows told.did.calls view) (lying k.control) refl stands leaves in
+    let mid : grows (calls_by (timer ∷ at.turns)) (view_of at.earlier) ≡ grows told.did.calls view = grows-append (calls_by at.turns) told.did.calls (view_of at.earlier) in
+    let all : grows (calls_by (out.left ++ timer ∷ at.turns)) (view_of at.earlier) ≡ grows (calls_by out.left) (grows told.did.calls view) =
     grows-join out.left (timer ∷ at.turns) (view_of at.earlier) ∙ ap (λ v. grows (calls_by out.left) v) mid in
     let turns_are : (out.left ++ timer ∷ at.turns) ++ turns_of at.earlier ≡ out.left ++ timer ∷ (at.turns ++ turns_of at.earlier) = append_assoc out.left (timer ∷ at.turns) (turns_of at.earlier) in
-    let L : List RxTurn → Type 0 = λ l. Stands h tick l (moments_of at.earlier) (grows (calls_by out.left) (grows told.move.calls view)) in
+    let L : List RxTurn → Type 0 = λ l. Stands h tick l (moments_of at.earlier) (grows (calls_by out.left) (grows told.did.calls view)) in
     let V : View → Type 0 = λ v. Stands h tick ((out.left ++ timer ∷ at.turns) ++ turns_of at.earlier) (moments_of at.earlier) v in
     let now : Stands h tick ((out.left ++ timer ∷ at.turns) ++ turns_of at.earlier) (moments_of at.earlier) (grows (calls_by (out.left ++ timer ∷ at.turns)) (view_of at.earlier)) =
     subst V (sym all) (subst L (sym turns_are) out.stands) in

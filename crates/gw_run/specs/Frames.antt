@@ -1,11 +1,11 @@
 -- The frames of a log with their ticks, and which of them belong to the two channels of a path (this project's own).
 use Rattle.std.specs.Prelude.{ℕ, ◌==◌, max, Bool, false, List, [], ◌∷◌, filter, flat_map, map}
+use Rattle.tp_sender.specs.Runs.{Answer}
 use Rattle.can_frame.specs.Frame.{CanFrame}
 use Rattle.can_frame.specs.declared.id.CanId.{CanId}
 use Rattle.can_frame.specs.declared.id.CanId.TheVariants.{Std, Ext}
 use Rattle.tick_clock.specs.Ticks.{greatest, tick_at}
 use Rattle.tp_attempts.specs.Seen.{Seen, seen_frame}
-use Rattle.tp_sender.specs.Sending.{Answer}
 use Rattle.tp_unit.specs.Reading.{unit_of}
 use Rattle.tp_unit.specs.Unit.{Meaning, SingleFrame, FirstFrame, ConsecutiveFrame, FlowControl, NoUnit}
 use Rattle.gw_run.specs.declared.log.Stamped.{Stamped}

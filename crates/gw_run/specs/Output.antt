@@ -1,8 +1,8 @@
 -- The lines of the frames that a bus sends.
 use Rattle.std.specs.Prelude.{ℕ, List, flat_map}
+use Rattle.tp_sender.specs.Runs.{Written}
 use Rattle.candump_line.specs.Line.{line_text}
 use Rattle.tick_clock.specs.Ticks.{stamp_after}
-use Rattle.tp_sender.specs.Sending.{Written}
 
 -- the line of a frame, stamped with the end of the tick in which it left
 abbrev pub line_of : (start period : ℕ) → (interface : List ℕ) → Written → List ℕ

@@ -1,8 +1,8 @@
 -- What a run over the frames of two logs has sent and tells.
 use Rattle.std.specs.Prelude.{◌≡◌, ℕ, List, [], ◌∷◌}
+use Rattle.tp_sender.specs.Runs.{Written}
 use Rattle.gw_law.specs.Run.{IsRun, Route, Work, route_of}
 use Rattle.tick_clock.specs.declared.clock.Clock.{Clock}
-use Rattle.tp_sender.specs.Sending.{Written}
 use Rattle.session_report.specs.declared.report.Report.{Report}
 use Rattle.gw_run.specs.declared.log.Stamped.{Stamped}
 use Rattle.gw_run.specs.declared.machines.Machines.{Machines}

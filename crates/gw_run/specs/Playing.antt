@@ -1,9 +1,9 @@
 -- How far a run over two logs has come: what came of them so far, and what is still to come.
 use Rattle.std.specs.Prelude.{◌≡◌, ◌⊎◌, ℕ, ◌+◌, ◌<◌, ◌≤◌, Bool, false, List, ◌++◌, length}
+use Rattle.tp_sender.specs.Runs.{Answer}
 use Rattle.std.specs.List.{AllByRecursion}
 use Rattle.can_frame.specs.declared.id.CanId.{CanId}
 use Rattle.tp_attempts.specs.Seen.{Seen}
-use Rattle.tp_sender.specs.Sending.{Answer}
 use Rattle.gw_run.specs.Answers.{IsPlainAnswer}
 use Rattle.gw_run.specs.Feed.{ComeWithin}
 use Rattle.gw_run.specs.Frames.{InTick, answers_in, seen_in, with_id}

@@ -1,7 +1,9 @@
 -- The gateway at its work: what its fields are after what the receiver and the sender did, and where in a tick its work stands.
 use Rattle.std.specs.Prelude.{◌≡◌, ◌⊎◌, ℕ, ◌+◌, ◌-◌, ◌*◌, ◌≤◌, true, None, Some, Option, option_map, List, [], ◌∷◌, ◌++◌, length, map}
+use Rattle.tp_sender.specs.Runs.{Answer, Written, HasSent, controls_in, box_after, clear_from, left_by}
+use Rattle.tp_sender.specs.Port.{Knows as KnowsPort}
 use Rattle.tp_receiver.specs.Port.{Knows}
-use Rattle.tp_receiver.specs.State.{WaitsBy, state_of, RxTurn, rx_new}
+use Rattle.tp_receiver.specs.State.{WaitsBy, state_of as receiver_state, RxTurn, rx_new}
 use Rattle.hub_core.specs.Moves.{move_of}
 use Rattle.tp_receiver.specs.Runs.{HasReceived, frames_in}
 use Rattle.hub_core.specs.Turns.{calls_by, now_of, came_by, state_after, records_by}
@@ -17,8 +19,7 @@ use Rattle.tick_clock.specs.declared.clock.Clock.{Clock}
 use Rattle.tp_attempts.specs.Seen.{Seen}
 use Rattle.tp_receiver.specs.declared.receiver.Receiver.{Receiver}
 use Rattle.tp_receiver.specs.declared.set.RxSet.{RxSet}
-use Rattle.tp_sender.specs.Sending.{Answer, Moment, Written, Happened as WasSent, answered_by, box_after, calls_by as sent_calls, clear_from, left_by, now_of as sent_at, state_from, told_by as sent_by}
-use Rattle.tp_sender.specs.State.{HasFrame, Knows as KnowsPort, set_of, since_of, state_of as sender_state}
+use Rattle.tp_sender.specs.State.{HasFrame, set_of, since_of, state_of as sender_state, TxTurn, tx_new}
 use Rattle.tp_sender.specs.declared.sender.Sender.{Sender}
 use Rattle.tp_sender.specs.declared.set.TxSet.{TxSet}
 use Rattle.tp_unit.specs.Shape.{fits_shape}
@@ -52,7 +53,7 @@ view_in hub = hub_view hub.size hub.place hub.past.items hub.changes.items hub.r
 pub record RxStands (rx : RxSet) (shape : Shape) (tick : ℕ) (turns : List RxTurn) (view : View) (receiver : Receiver) (lies : Option Meaning) (controls : List Written) (sessions : List SessionRecord) : Type 0 where
   pub happened : HasReceived rx turns
   pub set : receiver.set ≡ rx
-  pub state : state_after rx_new receiver ≡ state_after rx_new turns
+  pub state : receiver_state receiver ≡ state_after rx_new turns
   pub knows : Knows view receiver
   pub number : receiver.next_n ≤ length (came_by frames_in turns)
   pub now : now_of turns ≤ tick
@@ -63,19 +64,19 @@ pub record RxStands (rx : RxSet) (shape : Shape) (tick : ℕ) (turns : List RxTu
   pub sessions_are : sessions ≡ records_by turns
 
 -- the sender after these moments, the last of them no later than the tick, with what lies in its box, what left and what is told
-pub record TxStands (tx : TxSet) (tick : ℕ) (moments : List Moment) (view : View) (sender : Sender) (lies : Option Meaning) (frames : List Written) (dests : List DestRecord) : Type 0 where
-  pub happened : WasSent tx moments
+pub record TxStands (tx : TxSet) (tick : ℕ) (moments : List TxTurn) (view : View) (sender : Sender) (lies : Option Meaning) (frames : List Written) (dests : List DestRecord) : Type 0 where
+  pub happened : HasSent tx moments
   pub set : set_of sender ≡ tx
-  pub state : sender_state sender ≡ state_from moments
+  pub state : sender_state sender ≡ state_after tx_new moments
   pub knows : KnowsPort view sender
-  pub now : sent_at moments ≤ tick
+  pub now : now_of moments ≤ tick
   pub since : since_of (sender_state sender).live ≤ tick
   pub lies_is : lies ≡ box_after moments
   pub fits : FitsIn tx.shape lies
   pub has : HasFrame (sender_state sender).live → Lies lies
   pub had : Lies lies → HasFrame (sender_state sender).live
   pub frames_are : frames ≡ left_by tx.shape moments
-  pub dests_are : dests ≡ sent_by moments
+  pub dests_are : dests ≡ records_by moments
 
 -- the pool after so many frames of the source channel: one take and nine cells are used for each at most, and its moves are told
 pub record PoolStands (came : ℕ) (view : View) (hub : PlainHub) (moves : List Move) : Type 0 where
@@ -86,14 +87,14 @@ pub record PoolStands (came : ℕ) (view : View) (hub : PlainHub) (moves : List 
   pub moves_are : moves ≡ map move_of view.changes
 
 -- the gateway after these turns and moments, the last of them no later than the tick
-pub record Stands (g : Gateway) (tick : ℕ) (turns : List RxTurn) (moments : List Moment) (view : View) : Type 0 where
+pub record Stands (g : Gateway) (tick : ℕ) (turns : List RxTurn) (moments : List TxTurn) (view : View) : Type 0 where
   pub receives : RxStands g.machines.rx g.machines.shape tick turns view g.receiver (lying g.control) g.controls g.sessions
   pub sends : TxStands g.machines.tx tick moments view g.sender (lying g.frame) g.frames g.dests
   pub pool : PoolStands (length (came_by frames_in turns)) view g.hub g.moves
 
 -- nothing is received and nothing is sent
 pub record IsQuiet (g : Gateway) : Type 0 where
-  pub receiver : (state_after rx_new g.receiver).busy ≡ None
+  pub receiver : (receiver_state g.receiver).busy ≡ None
   pub sender : (sender_state g.sender).live ≡ None
 
 -- between two ticks: these frames and flow controls came so far, and the next tick is this one or, where nothing goes on, any later one
@@ -104,7 +105,7 @@ pub record AtBarrier (g : Gateway) (seen : List Seen) (answers : List Answer) (n
   pub stands : Stands g (next - 1) (turns_of works) (moments_of works) (view_of works)
   pub clear : clear_from (moments_of works) ≤ next
   pub seen_is : came_by frames_in (turns_of works) ≡ seen
-  pub answers_is : answered_by (moments_of works) ≡ answers
+  pub answers_is : came_by controls_in (moments_of works) ≡ answers
 
 -- at the source's part of a tick's work: these turns are those of its frames that came so far
 pub record InSource (g : Gateway) (seen : List Seen) (answers : List Answer) (tick : ℕ) : Type 0 where
@@ -118,13 +119,13 @@ pub record InSource (g : Gateway) (seen : List Seen) (answers : List Answer) (ti
   pub stands : Stands g tick (turns ++ turns_of earlier) (moments_of earlier) (grows (calls_by turns) (view_of earlier))
   pub clear : clear_from (moments_of earlier) ≤ tick
   pub seen_is : came_by frames_in (turns ++ turns_of earlier) ≡ seen
-  pub answers_is : answered_by (moments_of earlier) ≡ answers
+  pub answers_is : came_by controls_in (moments_of earlier) ≡ answers
 
 -- at the destination's part of a tick's work: these moments are those of the flow controls that came so far
 pub record InDestination (g : Gateway) (seen : List Seen) (answers : List Answer) (tick : ℕ) : Type 0 where
   pub earlier : List Work
   pub turns : List RxTurn
-  pub moments : List Moment
+  pub moments : List TxTurn
   pub ticks : AreTicks (BUFFER_CELLS ∷ []) earlier
   pub later : tick_after earlier ≤ tick
   pub next : IsIdle earlier ⊎ (tick ≡ tick_after earlier)
@@ -132,10 +133,10 @@ pub record InDestination (g : Gateway) (seen : List Seen) (answers : List Answer
   pub looks : AreLooks (view_of earlier) turns
   pub between : IsJoint (BUFFER_CELLS ∷ []) (grows (calls_by turns) (view_of earlier))
   pub only : AllByRecursion (IsAnswerIn tick) moments
-  pub stands : Stands g tick (turns ++ turns_of earlier) (moments ++ moments_of earlier) (grows (sent_calls moments) (grows (calls_by turns) (view_of earlier)))
+  pub stands : Stands g tick (turns ++ turns_of earlier) (moments ++ moments_of earlier) (grows (calls_by moments) (grows (calls_by turns) (view_of earlier)))
   pub clear : clear_from (moments ++ moments_of earlier) ≤ tick
   pub seen_is : came_by frames_in (turns ++ turns_of earlier) ≡ seen
-  pub answers_is : answered_by (moments ++ moments_of earlier) ≡ answers
+  pub answers_is : came_by controls_in (moments ++ moments_of earlier) ≡ answers
 
 -- what is told of a run in which these frames and flow controls came
 abbrev pub route_with : Machines → (last : ℕ) → List Seen → List Answer → Told → Route

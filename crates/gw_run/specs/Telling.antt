@@ -1,7 +1,10 @@
 -- One step of the gateway: what a step of the receiver or of the sender over the hub needs, what it comes to, and what is noted of it.
-use Rattle.std.specs.Prelude.{◌≡◌, ℕ, ◌+◌, ◌≤◌, None, Some, Option, option_to_list, List, [], ◌∷◌, ◌++◌, length}
+use Rattle.std.specs.Prelude.{◌≡◌, ℕ, ◌+◌, ◌≤◌, None, Some, Option, List, [], ◌∷◌, ◌++◌, length}
+use Rattle.tp_sender.specs.Runs.{Written, box_then, written_of}
+use Rattle.hub_core.specs.Turns.{calls_by}
+use Rattle.tp_sender.specs.Port.{Knows as KnowsPort, ActsFor as ActsForSender}
 use Rattle.tp_receiver.specs.Port.{ActsFor, CanTake, Knows, cells_for, takes_for}
-use Rattle.tp_receiver.specs.State.{WaitsBy, RxEvent, RxDid, FcLeft, state_of, RxTurn}
+use Rattle.tp_receiver.specs.State.{WaitsBy, RxEvent, RxDid, FcLeft, state_of as receiver_state, RxTurn}
 use Rattle.hub_core.specs.Moves.{moves_in}
 use Rattle.tp_receiver.specs.Table.{RxStep}
 use Rattle.std.specs.List.{AllByRecursion}
@@ -14,9 +17,8 @@ use Rattle.hub_core.specs.View.{View, grows}
 use Rattle.hub_core.specs.declared.plain.PlainHub.{PlainHub}
 use Rattle.tick_clock.specs.declared.clock.Clock.{Clock}
 use Rattle.tp_receiver.specs.declared.receiver.Receiver.{Receiver}
-use Rattle.tp_sender.specs.Sending.{Moment, Written, box_then, calls_by, written_of}
-use Rattle.tp_sender.specs.State.{HasFrame, IsInBox, IsPlain, Knows as KnowsPort, StillHasFrame, ActsFor as ActsForSender, set_of, since_of, state_of}
-use Rattle.tp_sender.specs.Table.{TxMove, TxStep, state_after}
+use Rattle.tp_sender.specs.State.{HasFrame, IsInBox, IsPlain, StillHasFrame, set_of, since_of, state_of as sender_state, TxTurn}
+use Rattle.tp_sender.specs.Table.{TxStep}
 use Rattle.tp_sender.specs.declared.event.TxEvent.{TxEvent}
 use Rattle.tp_sender.specs.declared.event.TxEvent.TheVariants.{Left, RunEnd}
 use Rattle.tp_sender.specs.declared.sender.Sender.{Sender}
@@ -37,13 +39,13 @@ pub record CanTell (receiver : Receiver) (hub : PlainHub) (event : RxEvent) (tic
   pub can : CanTake receiver.set (means_in hub) receiver.next_n event
 
 -- a step of the receiver over the hub
-pub record RxStepped (receiver : Receiver) (hub : PlainHub) (next : Receiver) (later : PlainHub) (event : RxEvent) (tick : ℕ) (move : RxDid) : Type 0 where
-  pub tick_is : move.tick ≡ tick
-  pub row : RxStep receiver.set (state_of receiver) event move
-  pub fresh : AreFresh (floors_of (view_in hub)) (view_in hub) move.calls
-  pub grown : view_in later ≡ grows move.calls (view_in hub)
+pub record RxStepped (receiver : Receiver) (hub : PlainHub) (next : Receiver) (later : PlainHub) (event : RxEvent) (tick : ℕ) (did : RxDid) : Type 0 where
+  pub tick_is : did.tick ≡ tick
+  pub row : RxStep receiver.set (receiver_state receiver) event did
+  pub fresh : AreFresh (floors_of (view_in hub)) (view_in hub) did.calls
+  pub grown : view_in later ≡ grows did.calls (view_in hub)
   pub set : next.set ≡ receiver.set
-  pub state : state_of next ≡ move.new
+  pub state : receiver_state next ≡ did.new
   pub knows : Knows (view_in later) next
   pub waits : WaitsBy next.state tick
   pub number : next.next_n ≤ receiver.next_n + takes_for event
@@ -54,12 +56,12 @@ pub record RxStepped (receiver : Receiver) (hub : PlainHub) (next : Receiver) (l
 
 -- the receiver was told of this in that tick, where this lay in its box and these flow controls had left, and its step is noted
 pub record TellsReceiver (g h : Gateway) (event : RxEvent) (tick : ℕ) (lies : Option Meaning) (controls : List Written) : Type 0 where
-  pub move : RxDid
-  pub stepped : RxStepped g.receiver g.hub h.receiver h.hub event tick move
-  pub lies_is : lying h.control ≡ box_then move.act lies
+  pub did : RxDid
+  pub stepped : RxStepped g.receiver g.hub h.receiver h.hub event tick did
+  pub lies_is : lying h.control ≡ box_then did.act lies
   pub controls_are : h.controls ≡ controls
-  pub sessions : h.sessions ≡ g.sessions ++ move.records
-  pub moves : h.moves ≡ g.moves ++ moves_in move.calls
+  pub sessions : h.sessions ≡ g.sessions ++ did.records
+  pub moves : h.moves ≡ g.moves ++ moves_in did.calls
   pub rest : h ≡ record g { receiver = h.receiver; hub = h.hub; control = h.control; controls = h.controls; sessions = h.sessions; moves = h.moves }
 
 -- the flow control that lies in the box leaves, and the receiver is told; where nothing lies there nothing is done
@@ -71,23 +73,23 @@ LeavesControl (Some meaning) g h tick = TellsReceiver g h FcLeft tick None (g.co
 pub record CanTellSender (sender : Sender) (hub : PlainHub) (event : TxEvent) (tick : ℕ) : Type 0 where
   pub knows : KnowsPort (view_in hub) sender
   pub acts : ActsForSender (means_in hub) sender
-  pub since : since_of (state_of sender).live ≤ tick
+  pub since : since_of (sender_state sender).live ≤ tick
   pub tick_is : tick ≤ 10000000
-  pub left : event ≡ Left → HasFrame (state_of sender).live
+  pub left : event ≡ Left → HasFrame (sender_state sender).live
   pub plain : IsPlain event
 
 -- a step of the sender over the hub
-pub record TxStepped (sender : Sender) (hub : PlainHub) (next : Sender) (later : PlainHub) (event : TxEvent) (tick : ℕ) (move : TxMove) : Type 0 where
-  pub event_is : move.event ≡ event
-  pub tick_is : move.did.tick ≡ tick
-  pub row : TxStep (set_of sender) (state_of sender) move
-  pub fresh : AreFresh (floors_of (view_in hub)) (view_in hub) move.calls
-  pub grown : view_in later ≡ grows move.calls (view_in hub)
+pub record TxStepped (sender : Sender) (hub : PlainHub) (next : Sender) (later : PlainHub) (event : TxEvent) (tick : ℕ) (turn : TxTurn) : Type 0 where
+  pub event_is : turn.event ≡ event
+  pub tick_is : turn.did.tick ≡ tick
+  pub row : TxStep (set_of sender) (sender_state sender) turn.event turn.did
+  pub fresh : AreFresh (floors_of (view_in hub)) (view_in hub) turn.did.calls
+  pub grown : view_in later ≡ grows turn.did.calls (view_in hub)
   pub set : set_of next ≡ set_of sender
-  pub state : state_of next ≡ state_after move
+  pub state : sender_state next ≡ turn.did.new
   pub knows : KnowsPort (view_in later) next
-  pub since : since_of (state_of next).live ≤ tick
-  pub boxed : IsInBox move.did.act (StillHasFrame event (state_of sender).live) (state_of next).live
+  pub since : since_of (sender_state next).live ≤ tick
+  pub boxed : IsInBox turn.did.act (StillHasFrame event (sender_state sender).live) (sender_state next).live
   pub sessions : (view_in later).sessions ≡ (view_in hub).sessions
   pub size : later.size ≡ hub.size
   pub takes : hub.takes ≤ later.takes
@@ -95,12 +97,12 @@ pub record TxStepped (sender : Sender) (hub : PlainHub) (next : Sender) (later :
 
 -- the sender was told of this in that tick, where this lay in its box and these frames had left, and its step is noted
 pub record TellsSender (g h : Gateway) (event : TxEvent) (tick : ℕ) (lies : Option Meaning) (frames : List Written) : Type 0 where
-  pub move : TxMove
-  pub stepped : TxStepped g.sender g.hub h.sender h.hub event tick move
-  pub lies_is : lying h.frame ≡ box_then move.did.act lies
+  pub turn : TxTurn
+  pub stepped : TxStepped g.sender g.hub h.sender h.hub event tick turn
+  pub lies_is : lying h.frame ≡ box_then turn.did.act lies
   pub frames_are : h.frames ≡ frames
-  pub dests : h.dests ≡ g.dests ++ option_to_list move.did.ended
-  pub moves : h.moves ≡ g.moves ++ option_to_list move.did.moved
+  pub dests : h.dests ≡ g.dests ++ turn.did.records
+  pub moves : h.moves ≡ g.moves ++ moves_in turn.did.calls
   pub rest : h ≡ record g { sender = h.sender; hub = h.hub; frame = h.frame; frames = h.frames; dests = h.dests; moves = h.moves }
 
 -- the frame that lies in the box leaves, and the sender is told; where nothing lies there nothing is done
@@ -109,14 +111,14 @@ LeavesFrame None g h tick = h ≡ g
 LeavesFrame (Some meaning) g h tick = TellsSender g h Left tick None (g.frames ++ written_of g.machines.tx.shape tick (Some meaning))
 
 -- the sender was told of the run's end, perhaps many times, and all stands
-pub record EndsTelling (h : Gateway) (last : ℕ) (turns : List RxTurn) (moments : List Moment) (view : View) : Type 0 where
-  pub more : List Moment
+pub record EndsTelling (h : Gateway) (last : ℕ) (turns : List RxTurn) (moments : List TxTurn) (view : View) : Type 0 where
+  pub more : List TxTurn
   pub only : AllByRecursion (IsStepIn last RunEnd) more
   pub stands : Stands h last turns (more ++ moments) (grows (calls_by more) view)
 
 -- nothing is sent any more, and each session that was entered was joined
 pub record IsOver (h : Gateway) : Type 0 where
-  pub live : (state_of h.sender).live ≡ None
+  pub live : (sender_state h.sender).live ≡ None
   pub joined : length ((view_in h.hub).sessions h.sender.set.path.0) ≤ h.sender.next
 
 -- what the run tells: what was noted, and the pool as it is

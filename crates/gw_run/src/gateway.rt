@@ -1,10 +1,11 @@
 //! The receiver of the source channel and the sender of the destination at work over one hub, step by step.
 ghost use Rattle.std.specs.Prelude.{◌≡◌, ◌⊎◌, ◌+◌, ◌<◌, ◌≤◌, [], ◌∷◌, ◌++◌, List, ℕ, false, length, IfOk, OnOk};
+ghost use Rattle.tp_sender.specs.Runs.{Answer};
+ghost use Rattle.tp_sender.specs.State.{TxTurn};
 ghost use Rattle.tp_receiver.specs.State.{FcLeft, event_of, RxTurn};
 ghost use Rattle.std.specs.Bool.{MatchBool};
 ghost use Rattle.hub_core.specs.View.{View};
 ghost use Rattle.tp_attempts.specs.Seen.{Seen, seen_frame};
-ghost use Rattle.tp_sender.specs.Sending.{Answer, Moment};
 ghost use Rattle.tp_sender.specs.declared.event.TxEvent.TheVariants.{Left, RunEnd};
 ghost use Rattle.tp_unit.specs.Reading.{unit_of};
 ghost use Rattle.gw_run.specs.Answers.{IsPlainControl};
@@ -226,9 +227,9 @@ impl Gateway {
     /// The sender is told of the run's end until it makes no record.
     fn end_sender(&mut self, last: Tick) -> Result<(), Memory>
         requires tick { last.0 ≤ 10_000_000 }
-        requires at { (turns : List RxTurn) × (moments : List Moment) × (view : View) × Stands self.old last.0 turns moments view }
+        requires at { (turns : List RxTurn) × (moments : List TxTurn) × (view : View) × Stands self.old last.0 turns moments view }
         ensures machines { OnOk result (self.new.machines ≡ self.old.machines) }
-        ensures ends { OnOk result ((turns : List RxTurn) (moments : List Moment) (view : View) → Stands self.old last.0 turns moments view → EndsTelling self.new last.0 turns moments view) }
+        ensures ends { OnOk result ((turns : List RxTurn) (moments : List TxTurn) (view : View) → Stands self.old last.0 turns moments view → EndsTelling self.new last.0 turns moments view) }
         ensures over { OnOk result (IsOver self.new) }
     {
         while self.end_once(last)? {}

@@ -12,7 +12,7 @@ pub(crate) struct Sent {
 }
 
 impl Model for Sent {
-    ghost use Rattle.tp_sender.specs.Sending.{Written};
+    ghost use Rattle.tp_sender.specs.Runs.{Written};
 
     ghost Value = { Written };
 

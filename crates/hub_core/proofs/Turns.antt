@@ -1,6 +1,13 @@
 -- Turns after earlier ones: what they tell together comes after what the earlier ones told.
-use Rattle.std.proofs.Common.{◌≡◌, ℕ, List, [], ◌∷◌, ◌++◌, ap, sym, ◌∙◌, append-nil, append_assoc}
-use Rattle.hub_core.specs.Turns.{Turn, Happened, calls_by, came_by, records_by}
+use Rattle.std.proofs.Common.{◌≡◌, ℕ, List, [], ◌∷◌, ◌++◌, refl, ap, sym, ◌∙◌, append-nil, append_assoc}
+use Rattle.std.proofs.lemmas.Grind.{flat_map-append}
+use Rattle.hub_core.specs.Floors.{Floors, Rise, AreFresh}
+use Rattle.hub_core.specs.Moves.{moves_in, moves_of}
+use Rattle.hub_core.specs.View.{View, Event, grows}
+use Rattle.hub_core.specs.declared.record.Move.{Move}
+use Rattle.hub_core.proofs.Fresh.{are-fresh-append}
+use Rattle.hub_core.proofs.Growing.{grows-append}
+use Rattle.hub_core.specs.Turns.{Turn, Happened, Over, calls_by, came_by, records_by}
 
 -- what happened earlier happened
 pub happened-front : {E C A R S : Type 0} (Step : List (Turn E C A R S) → Turn E C A R S → Type 0) (turns earlier : List (Turn E C A R S)) → Happened Step (turns ++ earlier) → Happened Step earlier
@@ -18,3 +25,18 @@ records-append (turn ∷ turns) earlier = ap (λ r. r ++ turn.did.records) (reco
 pub came-append : {E C A R S F : Type 0} (came : ℕ → E → List F) (turns earlier : List (Turn E C A R S)) → came_by came (turns ++ earlier) ≡ came_by came earlier ++ came_by came turns
 came-append came [] earlier = sym (append-nil (came_by came earlier))
 came-append came (turn ∷ turns) earlier = ap (λ f. f ++ came turn.did.tick turn.event) (came-append came turns earlier) ∙ append_assoc (came_by came earlier) (came_by came turns) (came turn.did.tick turn.event)
+
+-- the moves of calls, one after another
+pub moves_in-append : (calls more : List Event) → moves_in (calls ++ more) ≡ moves_in calls ++ moves_in more
+moves_in-append calls more = flat_map-append moves_of calls more
+
+-- first calls of a step, and then a part of it
+pub over-after : {low high : Floors} {u v w : View} (before : List Event) (first moves : List Move) (Row Other : List Event → Type 0) → v ≡ grows before u → Rise low high → AreFresh low u before → first ≡ moves_in before →
+    Over high v w moves Row → ((calls : List Event) → Row calls → Other (before ++ calls)) → Over low u w (first ++ moves) Other
+over-after {low = low} {high = high} {u = u} {v = v} {w = w} before first moves Row Other grown rise fresh firsts over on = record {
+  calls = before ++ over.calls;
+  grown = over.grown ∙ ap (grows over.calls) grown ∙ sym (grows-append before over.calls u);
+  fresh = are-fresh-append low high u v before over.calls grown rise fresh over.fresh;
+  moves_are = rw (moves_in-append before over.calls, ← firsts, ← over.moves_are) refl;
+  row = on over.calls over.row;
+}

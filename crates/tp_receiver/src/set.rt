@@ -13,21 +13,21 @@ pub struct RxSet {
     pub a: u8,
     /// Whether its frames are for many receivers at once, so that single frames alone are received.
     pub functional: bool,
-    /// The block size of its flow controls, in frames; 0 is no limit.
+    /// The block size of its flow controls, in frames; 0 is no limit. Not read yet: each flow control lets all come.
     pub bs: u8,
     /// The separation time of its flow controls, in the standard's code.
     pub st: u8,
-    /// The most waits that follow one another.
+    /// The most waits that follow one another (ISO 15765-2, N_WFTmax). Not read yet: no flow control asks to wait.
     pub wft_max: u8,
-    /// The most ticks that a flow control lies in its box (ISO 15765-2, N_Ar).
+    /// The most ticks that a flow control lies in its box (ISO 15765-2, N_Ar). Read by the laws alone yet.
     pub n_ar: u32,
-    /// The ticks between two waits (ISO 15765-2, N_Br).
+    /// The ticks between two waits (ISO 15765-2, N_Br). Not read yet.
     pub n_br: u32,
     /// The most ticks between two frames of a message (ISO 15765-2, N_Cr).
     pub n_cr: u32,
-    /// The cells from which on a message is forwarded.
+    /// The cells from which on a message is forwarded. Not read yet: a start asks for the cells of its own bytes.
     pub threshold: u32,
-    /// Whether a message is forwarded only once it is whole.
+    /// Whether a message is forwarded only once it is whole. Not read yet.
     pub store: bool,
 }
 

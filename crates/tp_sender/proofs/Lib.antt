@@ -1,3 +1,4 @@
+mod Leaving
 mod Calls
 mod Reading
 mod Turns

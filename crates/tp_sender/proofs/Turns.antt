@@ -1,6 +1,14 @@
 -- A turn, put together from a look, the cells that are read, and what comes of them.
 use Rattle.std.proofs.Common.{◌≡◌, ℕ, ◌+◌, ◌<◌, ◌≤◌, Bool, true, false, not, Option, None, Some, List, [], ◌∷◌, ◌++◌, length, refl, ap, sym, subst, ◌∙◌, arith, inl, inr}
-use Rattle.std.specs.Prelude.{map, IfSome}
+use Rattle.tp_sender.specs.declared.transmission.Transmission.{Transmission as HeldTransmission}
+use Rattle.tp_sender.specs.declared.transmission.Phase.{Phase}
+use Rattle.tp_sender.specs.declared.transmission.Phase.TheVariants.{Bytes}
+use Rattle.tp_sender.specs.State.{Transmission, transmission_of, TxDid}
+use Rattle.tp_sender.specs.Port.{KnowsLive, KnowsToken, KeepsPort, OverRow, ReadsEnough, did_of}
+use Rattle.std.specs.Prelude.{map, option_to_list, IfSome}
+use Rattle.hub_core.proofs.Turns.{over-after}
+use Rattle.hub_core.specs.Moves.{moves_in}
+use Rattle.tp_sender.specs.declared.transmission.Outcome.{Outcome}
 use Rattle.gw_base.specs.declared.numbers.Tick.{Tick}
 use Rattle.hub_core.specs.Calls.{Means, SameMeans, ByReader}
 use Rattle.hub_core.specs.Floors.{Floors, Rise, IsFresh, AreFresh}
@@ -11,20 +19,15 @@ use Rattle.hub_core.specs.declared.token.Joined.{Joined}
 use Rattle.hub_core.proofs.Fresh.{are-fresh-append, rise-same}
 use Rattle.hub_core.specs.declared.record.DestResult.TheVariants.{SourceEnded}
 use Rattle.tp_unit.specs.Unit.{Keeps}
-use Rattle.tp_sender.specs.declared.live.Live.{Live}
-use Rattle.tp_sender.specs.declared.live.Phase.{Phase}
-use Rattle.tp_sender.specs.declared.live.Phase.TheVariants.{Bytes}
 use Rattle.tp_sender.specs.declared.set.TxSet.{TxSet}
-use Rattle.tp_sender.specs.State.{Sending, sending_of, KnowsLive, KnowsToken}
-use Rattle.tp_sender.specs.Table.{Did, Ends, Fetches, GoesOn, InBytes, InStart, InTurn, Lacks, OffersNext, fetched, in_phase, is_reached, look_at, next_part}
+use Rattle.tp_sender.specs.Table.{Ends, Fetches, GoesOn, InBytes, InStart, InTurn, Lacks, OffersNext, fetched, in_phase, is_reached, look_at, next_part}
 use Rattle.tp_sender.specs.Table.{Enough, Short, Reached, NeverReached, NotReached}
-use Rattle.tp_sender.specs.Over.{KeepsPort, Over, ReadsEnough}
 use Rattle.tp_sender.proofs.Calls.{by-after, means-after, reads-fresh}
 use Rattle.tp_sender.proofs.Reading.{sending-with}
 use Rattle.hub_core.proofs.Growing.{grows-append}
 
 -- the session after a look
-pub record Looks (live next : Live) (look : Seen) : Type 0 where
+pub record Looks (live next : HeldTransmission) (look : Seen) : Type 0 where
   pub token : SameJoined next.at (saw look live.at)
   pub carry : next.carry ≡ live.carry
   pub begin : next.begin ≡ live.begin
@@ -33,25 +36,25 @@ pub record Looks (live next : Live) (look : Seen) : Type 0 where
   pub phase : next.phase ≡ live.phase
   pub since : next.since ≡ live.since
 
-looked : (live next : Live) (look : Seen) → Looks live next look → sending_of next ≡ sending_of live
+looked : (live next : HeldTransmission) (look : Seen) → Looks live next look → transmission_of next ≡ transmission_of live
 looked live next look is =
-    sending-with (sending_of live) live.at.at live.carry (sending_of next) is.token.seq is.token.len is.token.at is.carry (ap (λ (t : Tick). t.0) is.begin) is.sent is.number is.phase (ap (λ (t : Tick). t.0) is.since)
+    sending-with (transmission_of live) live.at.at live.carry (transmission_of next) is.token.seq is.token.len is.token.at is.carry (ap (λ (t : Tick). t.0) is.begin) is.sent is.number is.phase (ap (λ (t : Tick). t.0) is.since)
 
 -- a look of the session, by the destination's own numbers
-look-of : (set : TxSet) (live : Live) (look : Seen) (u v : View) → live.at.path ≡ set.path → live.at.dest ≡ set.dest → v ≡ grow (Saw live.at.path.0 live.at.dest.0 live.at.seq look.cells look.bytes look.writer) u →
-    v ≡ grow (look_at set (sending_of live) look) u
+look-of : (set : TxSet) (live : HeldTransmission) (look : Seen) (u v : View) → live.at.path ≡ set.path → live.at.dest ≡ set.dest → v ≡ grow (Saw live.at.path.0 live.at.dest.0 live.at.seq look.cells look.bytes look.writer) u →
+    v ≡ grow (look_at set (transmission_of live) look) u
 look-of set live look u v path dest grown = rw (← path, ← dest) grown
 
 -- and it is as fresh
-fresh-of : (low : Floors) (set : TxSet) (live : Live) (look : Seen) (u : View) → live.at.path ≡ set.path → IsFresh u low (Saw live.at.path.0 live.at.dest.0 live.at.seq look.cells look.bytes look.writer) → IsFresh u low (look_at set (sending_of live) look)
+fresh-of : (low : Floors) (set : TxSet) (live : HeldTransmission) (look : Seen) (u : View) → live.at.path ≡ set.path → IsFresh u low (Saw live.at.path.0 live.at.dest.0 live.at.seq look.cells look.bytes look.writer) → IsFresh u low (look_at set (transmission_of live) look)
 fresh-of low set live look u path fresh = rw (← path) fresh
 
 -- the session with another token
-abbrev pub with_token : Joined → Live → Sending
-with_token at live = record (sending_of live) { seq = at.seq; len = at.len; at = at.at }
+abbrev pub with_token : Joined → HeldTransmission → Transmission
+with_token at live = record (transmission_of live) { seq = at.seq; len = at.len; at = at.at }
 
-pub looked-at : (live : Live) (at : Joined) (look : Seen) → SameJoined at (saw look live.at) → with_token at live ≡ sending_of live
-looked-at live at look is = sending-with (sending_of live) live.at.at live.carry (with_token at live) is.seq is.len is.at refl refl refl refl refl refl
+pub looked-at : (live : HeldTransmission) (at : Joined) (look : Seen) → SameJoined at (saw look live.at) → with_token at live ≡ transmission_of live
+looked-at live at look is = sending-with (transmission_of live) live.at.at live.carry (with_token at live) is.seq is.len is.at refl refl refl refl refl refl
 
 not-there : (b : Bool) → not b ≡ true → b ≡ false
 not-there true is = sym is
@@ -61,55 +64,69 @@ there : (b : Bool) → not b ≡ false → b ≡ true
 there true is = refl
 there false is = sym is
 
-pub begins-reached : {low high : Floors} (set : TxSet) (live : Live) (next : Sending) (look : Seen) (u v w : View) (did : Did) → live.at.path ≡ set.path → live.at.dest ≡ set.dest →
-    v ≡ grow (Saw live.at.path.0 live.at.dest.0 live.at.seq look.cells look.bytes look.writer) u → Rise low high → IsFresh u low (Saw live.at.path.0 live.at.dest.0 live.at.seq look.cells look.bytes look.writer) → next ≡ sending_of live → true ≡ is_reached set next look →
-    Over (InBytes set (in_phase Bytes did.tick next)) high v w did → Over (InStart set (sending_of live)) low u w did
-begins-reached {low = low} {high = high} set live next look u v w did path dest grown rise fresh same reached over =
-    let P : Sending → Type 0 = λ s. InBytes set (in_phase Bytes did.tick s) over.0 did in
-    let Q : Sending → Type 0 = λ s. is_reached set s look ≡ true in (
-      look_at set (sending_of live) look ∷ over.0,
-      over.1 ∙ ap (grows over.0) (look-of set live look u v path dest grown),
-      Reached look over.0 refl (subst Q same (sym reached)) (subst P same over.2),
-      are-fresh-append low high u v (look_at set (sending_of live) look ∷ []) over.0 (look-of set live look u v path dest grown) rise (fresh-of low set live look u path fresh, tt) over.3,
-    )
+-- a number that is the same
+counts-as : {f : Floors} (Row : List Event → TxDid → Type 0) (u w : View) (tick before count : ℕ) (outcome : Outcome) → before ≡ count → OverRow Row f u w tick before outcome → OverRow Row f u w tick count outcome
+counts-as {f = f} Row u w tick before count outcome same over = subst (λ n. OverRow Row f u w tick n outcome) same over
 
-pub begins-gone : {low high : Floors} (set : TxSet) (live : Live) (next : Sending) (look : Seen) (u v w : View) (did : Did) → live.at.path ≡ set.path → live.at.dest ≡ set.dest →
-    v ≡ grow (Saw live.at.path.0 live.at.dest.0 live.at.seq look.cells look.bytes look.writer) u → Rise low high → IsFresh u low (Saw live.at.path.0 live.at.dest.0 live.at.seq look.cells look.bytes look.writer) → next ≡ sending_of live → false ≡ is_reached set next look → not look.writer ≡ true →
-    Over (Ends set next Keeps SourceEnded) high v w did → Over (InStart set (sending_of live)) low u w did
-begins-gone {low = low} {high = high} set live next look u v w did path dest grown rise fresh same reached gone over =
-    let P : Sending → Type 0 = λ s. Ends set s Keeps SourceEnded over.0 did in
-    let Q : Sending → Type 0 = λ s. is_reached set s look ≡ false in (
-      look_at set (sending_of live) look ∷ over.0,
-      over.1 ∙ ap (grows over.0) (look-of set live look u v path dest grown),
-      NeverReached look over.0 refl (subst Q same (sym reached)) (not-there look.writer gone) (subst P same over.2),
-      are-fresh-append low high u v (look_at set (sending_of live) look ∷ []) over.0 (look-of set live look u v path dest grown) rise (fresh-of low set live look u path fresh, tt) over.3,
-    )
+pub begins-reached : {low high : Floors} (set : TxSet) (live : HeldTransmission) (next : Transmission) (look : Seen) (u v w : View) (tick : ℕ) (outcome : Outcome) → live.at.path ≡ set.path → live.at.dest ≡ set.dest →
+    v ≡ grow (Saw live.at.path.0 live.at.dest.0 live.at.seq look.cells look.bytes look.writer) u → Rise low high → IsFresh u low (Saw live.at.path.0 live.at.dest.0 live.at.seq look.cells look.bytes look.writer) → next ≡ transmission_of live → true ≡ is_reached set next look →
+    OverRow (InBytes set (in_phase Bytes tick next)) high v w tick (next.seq + 1) outcome → OverRow (InStart set (transmission_of live)) low u w tick (live.at.seq + 1) outcome
+begins-reached {low = low} set live next look u v w tick outcome path dest grown rise fresh same reached over =
+    let count : ℕ = live.at.seq + 1 in
+    let P : Transmission → List Event → List Event → Type 0 = λ s calls all. InBytes set (in_phase Bytes tick s) calls (did_of tick count all outcome) in
+    let Q : Transmission → Type 0 = λ s. is_reached set s look ≡ true in
+    over-after (look_at set (transmission_of live) look ∷ []) [] (option_to_list outcome.acts.moved) (λ calls. (all : List Event) → P next calls all)
+    (λ calls. (all : List Event) → InStart set (transmission_of live) calls (did_of tick count all outcome)) (look-of set live look u v path dest grown) rise (fresh-of low set live look u path fresh, tt) refl
+    (counts-as (InBytes set (in_phase Bytes tick next)) v w tick (next.seq + 1) count outcome (ap (λ (s : Transmission). s.seq + 1) same) over)
+    (λ calls row all. Reached look calls refl (subst Q same (sym reached)) (subst (λ (s : Transmission). P s calls all) same (row all)))
 
-pub begins-later : {low : Floors} (set : TxSet) (live : Live) (next : Sending) (look : Seen) (u v : View) (did : Did) → live.at.path ≡ set.path → live.at.dest ≡ set.dest →
-    v ≡ grow (Saw live.at.path.0 live.at.dest.0 live.at.seq look.cells look.bytes look.writer) u → IsFresh u low (Saw live.at.path.0 live.at.dest.0 live.at.seq look.cells look.bytes look.writer) → next ≡ sending_of live → false ≡ is_reached set next look → not look.writer ≡ false →
-    GoesOn next [] did → Over (InStart set (sending_of live)) low u v did
-begins-later {low = low} set live next look u v did path dest grown fresh same reached stands on =
-    let P : Sending → Type 0 = λ s. GoesOn s [] did in
-    let Q : Sending → Type 0 = λ s. is_reached set s look ≡ false in
-    (look_at set (sending_of live) look ∷ [], look-of set live look u v path dest grown, NotReached look [] refl (subst Q same (sym reached)) (there look.writer stands) (subst P same on), (fresh-of low set live look u path fresh, tt))
+pub begins-gone : {low high : Floors} (set : TxSet) (live : HeldTransmission) (next : Transmission) (look : Seen) (u v w : View) (tick : ℕ) (outcome : Outcome) → live.at.path ≡ set.path → live.at.dest ≡ set.dest →
+    v ≡ grow (Saw live.at.path.0 live.at.dest.0 live.at.seq look.cells look.bytes look.writer) u → Rise low high → IsFresh u low (Saw live.at.path.0 live.at.dest.0 live.at.seq look.cells look.bytes look.writer) → next ≡ transmission_of live → false ≡ is_reached set next look → not look.writer ≡ true →
+    OverRow (Ends set next Keeps SourceEnded) high v w tick (next.seq + 1) outcome → OverRow (InStart set (transmission_of live)) low u w tick (live.at.seq + 1) outcome
+begins-gone {low = low} set live next look u v w tick outcome path dest grown rise fresh same reached gone over =
+    let count : ℕ = live.at.seq + 1 in
+    let P : Transmission → List Event → List Event → Type 0 = λ s calls all. Ends set s Keeps SourceEnded calls (did_of tick count all outcome) in
+    let Q : Transmission → Type 0 = λ s. is_reached set s look ≡ false in
+    over-after (look_at set (transmission_of live) look ∷ []) [] (option_to_list outcome.acts.moved) (λ calls. (all : List Event) → P next calls all)
+    (λ calls. (all : List Event) → InStart set (transmission_of live) calls (did_of tick count all outcome)) (look-of set live look u v path dest grown) rise (fresh-of low set live look u path fresh, tt) refl
+    (counts-as (Ends set next Keeps SourceEnded) v w tick (next.seq + 1) count outcome (ap (λ (s : Transmission). s.seq + 1) same) over)
+    (λ calls row all. NeverReached look calls refl (subst Q same (sym reached)) (not-there look.writer gone) (subst (λ (s : Transmission). P s calls all) same (row all)))
+
+pub begins-later : {low : Floors} (set : TxSet) (live : HeldTransmission) (next : Transmission) (look : Seen) (u v : View) (tick count : ℕ) (outcome : Outcome) → live.at.path ≡ set.path → live.at.dest ≡ set.dest →
+    v ≡ grow (Saw live.at.path.0 live.at.dest.0 live.at.seq look.cells look.bytes look.writer) u → IsFresh u low (Saw live.at.path.0 live.at.dest.0 live.at.seq look.cells look.bytes look.writer) → next ≡ transmission_of live → false ≡ is_reached set next look → not look.writer ≡ false →
+    outcome.acts.moved ≡ None → ((all : List Event) → GoesOn next [] (did_of tick count all outcome)) → OverRow (InStart set (transmission_of live)) low u v tick count outcome
+begins-later {low = low} set live next look u v tick count outcome path dest grown fresh same reached stands moved on =
+    let Q : Transmission → Type 0 = λ s. is_reached set s look ≡ false in
+    record {
+      calls = look_at set (transmission_of live) look ∷ [];
+      grown = look-of set live look u v path dest grown;
+      fresh = (fresh-of low set live look u path fresh, tt);
+      moves_are = ap option_to_list moved;
+      row = λ all. NotReached look [] refl (subst Q same (sym reached)) (there look.writer stands) (subst (λ (s : Transmission). GoesOn s [] (did_of tick count all outcome)) same (on all));
+    }
+
+-- cells that are read move nothing
+moves_in-reads : (path dest seq : ℕ) (cells : List ℕ) (more : List Event) → moves_in (map (Read path dest seq) cells ++ more) ≡ moves_in more
+moves_in-reads path dest seq [] more = refl
+moves_in-reads path dest seq (cell ∷ cells) more = moves_in-reads path dest seq cells more
 
 -- the look and the cells of a turn in phase Bytes
-reads-of : {low : Floors} (set : TxSet) (live next full : Live) (look : Seen) (u v w : View) (l m : Means) → live.at.path ≡ set.path → live.at.dest ≡ set.dest →
-    v ≡ grow (Saw live.at.path.0 live.at.dest.0 live.at.seq look.cells look.bytes look.writer) u → IsFresh u low (Saw live.at.path.0 live.at.dest.0 live.at.seq look.cells look.bytes look.writer) → Looks live next look → (wanted : ℕ) → wanted ≡ next_part set (sending_of live) → (read : ReadsEnough wanted next full v w l m) →
-    (sending_of full ≡ fetched read.some.cells (sending_of live)) ×
-    ((more : List Event) → (grows (look_at set (sending_of live) look ∷ (map (Read set.path.0 set.dest.0 live.at.seq) read.some.cells ++ more)) u ≡ grows more w) ×
-    Fetches set (sending_of live) look read.some.cells (look_at set (sending_of live) look ∷ (map (Read set.path.0 set.dest.0 live.at.seq) read.some.cells ++ more)) more ×
-    ((high : Floors) → Rise low high → AreFresh high w more → AreFresh low u (look_at set (sending_of live) look ∷ (map (Read set.path.0 set.dest.0 live.at.seq) read.some.cells ++ more))))
+reads-of : {low : Floors} (set : TxSet) (live next full : HeldTransmission) (look : Seen) (u v w : View) (l m : Means) → live.at.path ≡ set.path → live.at.dest ≡ set.dest →
+    v ≡ grow (Saw live.at.path.0 live.at.dest.0 live.at.seq look.cells look.bytes look.writer) u → IsFresh u low (Saw live.at.path.0 live.at.dest.0 live.at.seq look.cells look.bytes look.writer) → Looks live next look → (wanted : ℕ) → wanted ≡ next_part set (transmission_of live) → (read : ReadsEnough wanted next full v w l m) →
+    (transmission_of full ≡ fetched read.some.cells (transmission_of live)) ×
+    ((more : List Event) → (grows (look_at set (transmission_of live) look ∷ (map (Read set.path.0 set.dest.0 live.at.seq) read.some.cells ++ more)) u ≡ grows more w) ×
+    Fetches set (transmission_of live) look read.some.cells (look_at set (transmission_of live) look ∷ (map (Read set.path.0 set.dest.0 live.at.seq) read.some.cells ++ more)) more ×
+    ((high : Floors) → Rise low high → AreFresh high w more → AreFresh low u (look_at set (transmission_of live) look ∷ (map (Read set.path.0 set.dest.0 live.at.seq) read.some.cells ++ more))))
 reads-of {low = low} set live next full look u v w l m path dest grown fresh looks wanted part read =
-    let same : sending_of next ≡ sending_of live = looked live next look looks in
+    let same : transmission_of next ≡ transmission_of live = looked live next look looks in
     let cells : List ℕ = read.some.cells in
-    let state : sending_of full ≡ fetched cells (sending_of live) = read.some.on.state ∙ ap (fetched cells) same in
+    let state : transmission_of full ≡ fetched cells (transmission_of live) = read.some.on.state ∙ ap (fetched cells) same in
     let e : List Event = map (Read set.path.0 set.dest.0 live.at.seq) cells in
     let own : w ≡ grows e v = rw (← path, ← dest, ← looks.token.path, ← looks.token.dest, ← looks.token.seq) read.some.on.view in
-    let left : live.at.at + length cells ≤ look.cells = omega (arith, ap (λ (s : Sending). s.at) state, read.some.on.within, read.some.on.seen, looks.token.seen) in (
+    let left : live.at.at + length cells ≤ look.cells = omega (arith, ap (λ (s : Transmission). s.at) state, read.some.on.within, read.some.on.seen, looks.token.seen) in (
       state,
       λ more. (
-        grows-append e more (grow (look_at set (sending_of live) look) u) ∙ ap (λ x. grows more (grows e x)) (sym (look-of set live look u v path dest grown)) ∙ ap (grows more) (sym own),
+        grows-append e more (grow (look_at set (transmission_of live) look) u) ∙ ap (λ x. grows more (grows e x)) (sym (look-of set live look u v path dest grown)) ∙ ap (grows more) (sym own),
         record {
           calls_are = refl;
           cells_only = read.some.on.cells_only;
@@ -118,41 +135,47 @@ reads-of {low = low} set live next full look u v w l m path dest grown fresh loo
         },
         λ high rise later. (
           fresh-of low set live look u path fresh,
-          are-fresh-append low high (grow (look_at set (sending_of live) look) u) w e more
+          are-fresh-append low high (grow (look_at set (transmission_of live) look) u) w e more
               (own ∙ ap (grows e) (look-of set live look u v path dest grown)) rise (reads-fresh low _ set.path.0 set.dest.0 live.at.seq cells) later,
         ),
       ),
     )
 
-pub fills-enough : {low : Floors} (set : TxSet) (live next full : Live) (look : Seen) (u v w : View) (l m : Means) (did : Did) → live.at.path ≡ set.path → live.at.dest ≡ set.dest →
-    v ≡ grow (Saw live.at.path.0 live.at.dest.0 live.at.seq look.cells look.bytes look.writer) u → IsFresh u low (Saw live.at.path.0 live.at.dest.0 live.at.seq look.cells look.bytes look.writer) → Looks live next look → (wanted : ℕ) → wanted ≡ next_part set (sending_of live) → ReadsEnough wanted next full v w l m →
-    OffersNext set (sending_of full) did → Over (InBytes set (sending_of live)) low u w did
-fills-enough {low = low} set live next full look u v w l m did path dest grown fresh looks wanted part read offers =
+pub fills-enough : {low : Floors} (set : TxSet) (live next full : HeldTransmission) (look : Seen) (u v w : View) (l m : Means) (tick : ℕ) (outcome : Outcome) → live.at.path ≡ set.path → live.at.dest ≡ set.dest →
+    v ≡ grow (Saw live.at.path.0 live.at.dest.0 live.at.seq look.cells look.bytes look.writer) u → IsFresh u low (Saw live.at.path.0 live.at.dest.0 live.at.seq look.cells look.bytes look.writer) → Looks live next look → (wanted : ℕ) → wanted ≡ next_part set (transmission_of live) → ReadsEnough wanted next full v w l m →
+    outcome.acts.moved ≡ None → ((all : List Event) → OffersNext set (transmission_of full) (did_of tick (full.at.seq + 1) all outcome)) → OverRow (InBytes set (transmission_of live)) low u w tick (live.at.seq + 1) outcome
+fills-enough {low = low} set live next full look u v w l m tick outcome path dest grown fresh looks wanted part read moved offers =
     let all = reads-of set live next full look u v w l m path dest grown fresh looks wanted part read in
-    let P : Sending → Type 0 = λ s. OffersNext set s did in
-    (look_at set (sending_of live) look ∷ (map (Read set.path.0 set.dest.0 live.at.seq) read.some.cells ++ []), sym (all.1 []).0, Enough look read.some.cells (all.1 []).1 (subst P all.0 offers), (all.1 []).2 low (rise-same low) tt)
+    record {
+      calls = look_at set (transmission_of live) look ∷ (map (Read set.path.0 set.dest.0 live.at.seq) read.some.cells ++ []);
+      grown = sym (all.1 []).0;
+      fresh = (all.1 []).2 low (rise-same low) tt;
+      moves_are = ap option_to_list moved ∙ sym (moves_in-reads set.path.0 set.dest.0 live.at.seq read.some.cells []);
+      row = λ whole. Enough look read.some.cells (all.1 []).1 (subst (λ (s : Transmission). OffersNext set s (did_of tick (s.seq + 1) whole outcome)) all.0 (offers whole));
+    }
 
-pub fills-short : {low high : Floors} (set : TxSet) (live next full : Live) (look : Seen) (u v w x : View) (l m : Means) (did : Did) → live.at.path ≡ set.path → live.at.dest ≡ set.dest →
-    v ≡ grow (Saw live.at.path.0 live.at.dest.0 live.at.seq look.cells look.bytes look.writer) u → Rise low high → IsFresh u low (Saw live.at.path.0 live.at.dest.0 live.at.seq look.cells look.bytes look.writer) → Looks live next look → (wanted : ℕ) → wanted ≡ next_part set (sending_of live) → ReadsEnough wanted next full v w l m →
-    length full.carry < wanted → Over (Lacks set (sending_of full) look) high w x did → Over (InBytes set (sending_of live)) low u x did
-fills-short {high = high} set live next full look u v w x l m did path dest grown rise fresh looks wanted part read few over =
+pub fills-short : {low high : Floors} (set : TxSet) (live next full : HeldTransmission) (look : Seen) (u v w x : View) (l m : Means) (tick : ℕ) (outcome : Outcome) → live.at.path ≡ set.path → live.at.dest ≡ set.dest →
+    v ≡ grow (Saw live.at.path.0 live.at.dest.0 live.at.seq look.cells look.bytes look.writer) u → Rise low high → IsFresh u low (Saw live.at.path.0 live.at.dest.0 live.at.seq look.cells look.bytes look.writer) → Looks live next look → (wanted : ℕ) → wanted ≡ next_part set (transmission_of live) → ReadsEnough wanted next full v w l m →
+    length full.carry < wanted → OverRow (Lacks set (transmission_of full) look) high w x tick (full.at.seq + 1) outcome → OverRow (InBytes set (transmission_of live)) low u x tick (live.at.seq + 1) outcome
+fills-short {high = high} set live next full look u v w x l m tick outcome path dest grown rise fresh looks wanted part read few over =
     let all = reads-of set live next full look u v w l m path dest grown fresh looks wanted part read in
-    let P : Sending → Type 0 = λ s. Lacks set s look over.0 did in
-    let Q : List ℕ → Type 0 = λ c. length c < next_part set (sending_of live) in
-    let end : full.at.at ≡ full.at.seen = elim read.stops [ inl enough ↦ absurd (omega (arith, enough, few)) | inr none ↦ none ] in (
-      look_at set (sending_of live) look ∷ (map (Read set.path.0 set.dest.0 live.at.seq) read.some.cells ++ over.0),
-      over.1 ∙ sym (all.1 over.0).0,
-      Short look read.some.cells over.0 (all.1 over.0).1
-          (record { all = omega (arith, ap (λ (s : Sending). s.at) all.0, end, read.some.on.seen, looks.token.seen); few = subst Q (ap (λ (s : Sending). s.carried) all.0) (omega (arith, few, part)) })
-          (subst P all.0 over.2),
-      (all.1 over.0).2 high rise over.3,
-    )
+    let Q : List ℕ → Type 0 = λ c. length c < next_part set (transmission_of live) in
+    let end : full.at.at ≡ full.at.seen = elim read.stops [ inl enough ↦ absurd (omega (arith, enough, few)) | inr none ↦ none ] in
+    record {
+      calls = look_at set (transmission_of live) look ∷ (map (Read set.path.0 set.dest.0 live.at.seq) read.some.cells ++ over.calls);
+      grown = over.grown ∙ sym (all.1 over.calls).0;
+      fresh = (all.1 over.calls).2 high rise over.fresh;
+      moves_are = over.moves_are ∙ sym (moves_in-reads set.path.0 set.dest.0 live.at.seq read.some.cells over.calls);
+      row = λ whole. Short look read.some.cells over.calls (all.1 over.calls).1
+          (record { all = omega (arith, ap (λ (s : Transmission). s.at) all.0, end, read.some.on.seen, looks.token.seen); few = subst Q (ap (λ (s : Transmission). s.carried) all.0) (omega (arith, few, part)) })
+          (subst (λ (s : Transmission). Lacks set s look over.calls (did_of tick (s.seq + 1) whole outcome)) all.0 (over.row whole));
+    }
 
 -- a phase that is known
-pub turns-in : {f : Floors} (set : TxSet) (s : Sending) (phase is : Phase) (u w : View) (did : Did) → phase ≡ is → Over (InTurn set s is) f u w did → Over (InTurn set s phase) f u w did
-turns-in {f = f} set s phase is u w did same over = let P : Phase → Type 0 = λ p. Over (InTurn set s p) f u w did in subst P (sym same) over
+pub turns-in : {f : Floors} (set : TxSet) (s : Transmission) (phase is : Phase) (u w : View) (tick count : ℕ) (outcome : Outcome) → phase ≡ is → OverRow (InTurn set s is) f u w tick count outcome → OverRow (InTurn set s phase) f u w tick count outcome
+turns-in {f = f} set s phase is u w tick count outcome same over = let P : Phase → Type 0 = λ p. OverRow (InTurn set s p) f u w tick count outcome in subst P (sym same) over
 
-knows-at : (v : View) (set : TxSet) (next : ℕ) (live : Option Live) (at : Joined) → IfSome live (λ l. l.at ≡ at) → at.path ≡ set.path → at.dest ≡ set.dest → at.seq + 1 ≡ next → Reads v at → KnowsLive v set next live
+knows-at : (v : View) (set : TxSet) (next : ℕ) (live : Option HeldTransmission) (at : Joined) → IfSome live (λ l. l.at ≡ at) → at.path ≡ set.path → at.dest ≡ set.dest → at.seq + 1 ≡ next → Reads v at → KnowsLive v set next live
 knows-at v set next None at same path dest seq reads = tt
 knows-at v set next (Some live) at same path dest seq reads = record {
   path = ap (λ (t : Joined). t.path) same ∙ path;
@@ -162,7 +185,7 @@ knows-at v set next (Some live) at same path dest seq reads = record {
 }
 
 -- the port after a look and the cells, where the session's token is the offered one's
-pub port-offered : (set : TxSet) (live next full : Live) (after : Option Live) (look : Seen) (u v w : View) (k l m : Means) (wanted : ℕ) → KnowsToken u set (live.at.seq + 1) live → Looks live next look →
+pub port-offered : (set : TxSet) (live next full : HeldTransmission) (after : Option HeldTransmission) (look : Seen) (u v w : View) (k l m : Means) (wanted : ℕ) → KnowsToken u set (live.at.seq + 1) live → Looks live next look →
     ByReader live.at.path.0 live.at.dest.0 0 u v → SameMeans k l → ReadsEnough wanted next full v w l m → IfSome after (λ offered. offered.at ≡ full.at) → KeepsPort set (live.at.seq + 1) after u w k m
 port-offered set live next full after look u v w k l m wanted knows looks by means read offered =
     let later : ByReader set.path.0 set.dest.0 0 v w = rw (← knows.path, ← knows.dest, ← looks.token.path, ← looks.token.dest) read.some.on.by in
@@ -172,5 +195,5 @@ port-offered set live next full after look u v w k l m wanted knows looks by mea
       means = means-after k l m means read.some.means;
       knows = knows-at w set (live.at.seq + 1) after full.at offered
           (read.some.on.path ∙ looks.token.path ∙ knows.path) (read.some.on.dest ∙ looks.token.dest ∙ knows.dest)
-          (ap (λ n. n + 1) (ap (λ (s : Sending). s.seq) read.some.on.state ∙ looks.token.seq)) read.some.on.reads;
+          (ap (λ n. n + 1) (ap (λ (s : Transmission). s.seq) read.some.on.state ∙ looks.token.seq)) read.some.on.reads;
     }

@@ -1,5 +1,5 @@
 pub mod Frame
+pub mod Port
+pub mod Runs
 pub mod State
 pub mod Table
-pub mod Over
-pub mod Sending

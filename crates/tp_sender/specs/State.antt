@@ -1,20 +1,20 @@
--- The state of a sender, and what its port knows of it.
-use Rattle.std.specs.Prelude.{◌≡◌, ◌≢◌, ℕ, ◌+◌, true, List, length, Option, Some, None}
+-- What a sender is at.
+use Rattle.std.specs.Prelude.{◌≡◌, ℕ, List, Option, Some, None}
 use Rattle.std.specs.Prelude.{option_map}
-use Rattle.hub_core.specs.Calls.{Means}
-use Rattle.hub_core.specs.Tokens.{Reads}
-use Rattle.hub_core.specs.View.{View}
+use Rattle.hub_core.specs.Turns.{Did, Turn as TurnOf}
+use Rattle.hub_core.specs.View.{Event}
+use Rattle.hub_core.specs.declared.record.DestRecord.{DestRecord}
 use Rattle.tp_unit.specs.Unit.{BoxMeaning, Keeps, Offers, Revokes}
 use Rattle.tp_sender.specs.declared.event.TxEvent.{TxEvent}
 use Rattle.tp_sender.specs.declared.event.TxEvent.TheVariants.{Turn, Fc as CameFc, Left, RunEnd}
-use Rattle.tp_sender.specs.declared.live.Live.{Live}
-use Rattle.tp_sender.specs.declared.live.Phase.{Phase}
-use Rattle.tp_sender.specs.declared.live.Phase.TheVariants.{Start, Bytes, Box, Fc, Gap}
+use Rattle.tp_sender.specs.declared.transmission.Transmission.{Transmission as HeldTransmission}
+use Rattle.tp_sender.specs.declared.transmission.Phase.{Phase}
+use Rattle.tp_sender.specs.declared.transmission.Phase.TheVariants.{Start, Bytes, Box, Fc, Gap}
 use Rattle.tp_sender.specs.declared.sender.Sender.{Sender}
 use Rattle.tp_sender.specs.declared.set.TxSet.{TxSet}
 
 -- a session that is being sent
-pub record Sending : Type 0 where
+pub record Transmission : Type 0 where
   -- its number on its path, and its unit's length in bytes
   pub seq : ℕ
   pub len : ℕ
@@ -32,10 +32,10 @@ pub record Sending : Type 0 where
 -- a sender: the number of the session that it joins next, and the one that it sends
 pub record TxState : Type 0 where
   pub next : ℕ
-  pub live : Option Sending
+  pub live : Option Transmission
 
-abbrev pub sending_of : Live → Sending
-sending_of live = record {
+abbrev pub transmission_of : HeldTransmission → Transmission
+transmission_of live = record {
   seq = live.at.seq;
   len = live.at.len;
   at = live.at.at;
@@ -48,18 +48,25 @@ sending_of live = record {
 }
 
 abbrev pub state_of : Sender → TxState
-state_of sender = record { next = sender.next; live = option_map sending_of sender.live }
+state_of sender = record { next = sender.next; live = option_map transmission_of sender.live }
 
 -- how it is configured
 abbrev pub set_of : Sender → TxSet
 set_of sender = sender.set
 
 -- no session was joined yet
-abbrev pub state_new : TxState
-state_new = record { next = 0; live = None }
+abbrev pub tx_new : TxState
+tx_new = record { next = 0; live = None }
+
+-- what a step of a sender comes to, and its turn
+abbrev pub TxDid : Type 0
+TxDid = Did Event BoxMeaning DestRecord TxState
+
+abbrev pub TxTurn : Type 0
+TxTurn = TurnOf TxEvent Event BoxMeaning DestRecord TxState
 
 -- the tick since which its phase lasts, and 0 where it sends nothing
-abbrev pub since_of : Option Sending → ℕ
+abbrev pub since_of : Option Transmission → ℕ
 since_of None = 0
 since_of (Some s) = s.since
 
@@ -71,19 +78,19 @@ in_box Box = Unit {0}
 in_box Fc = ⊥
 in_box (Gap until) = ⊥
 
-abbrev pub HasFrame : Option Sending → Type 0
+abbrev pub HasFrame : Option Transmission → Type 0
 HasFrame None = ⊥
 HasFrame (Some s) = in_box s.phase
 
 -- whether a frame lies in the box still, once the event came and nothing was done
-abbrev pub StillHasFrame : TxEvent → Option Sending → Type 0
+abbrev pub StillHasFrame : TxEvent → Option Transmission → Type 0
 StillHasFrame Turn live = HasFrame live
 StillHasFrame (CameFc fs bs st) live = HasFrame live
 StillHasFrame Left live = ⊥
 StillHasFrame RunEnd live = HasFrame live
 
 -- after an act a frame of the session lies in the box, or none does
-abbrev pub IsInBox : BoxMeaning → (was : Type 0) → Option Sending → Type 0
+abbrev pub IsInBox : BoxMeaning → (was : Type 0) → Option Transmission → Type 0
 IsInBox Keeps was live = (was → HasFrame live) × (HasFrame live → was)
 IsInBox (Offers meaning) was live = HasFrame live
 IsInBox Revokes was live = HasFrame live → ⊥
@@ -94,29 +101,3 @@ IsPlain Turn = Unit {0}
 IsPlain (CameFc fs bs st) = fs ≡ 0 → (bs ≡ 0) × (st ≡ 0)
 IsPlain Left = Unit {0}
 IsPlain RunEnd = Unit {0}
-
--- a session's token is of this path and destination, and of the session before the next one, and the port's view has it
-pub record KnowsToken (v : View) (set : TxSet) (next : ℕ) (live : Live) : Type 0 where
-  pub path : live.at.path ≡ set.path
-  pub dest : live.at.dest ≡ set.dest
-  pub seq : live.at.seq + 1 ≡ next
-  pub reads : Reads v live.at
-
-abbrev pub KnowsLive : View → TxSet → ℕ → Option Live → Type 0
-KnowsLive v set next None = Unit {0}
-KnowsLive v set next (Some live) = KnowsToken v set next live
-
--- the port expects the sender's next session of its destination, and knows the token of the one that it sends
-pub record Knows (v : View) (sender : Sender) : Type 0 where
-  pub next : length (v.readings sender.set.path.0 sender.set.dest.0) ≡ sender.next
-  pub live : KnowsLive v sender.set sender.next sender.live
-
--- the port acts for the sender's destination
-abbrev pub ActsFor : Means → Sender → Type 0
-ActsFor means sender = means.reads sender.set.path.0 sender.set.dest.0 ≡ true
-
--- all other parties' sessions and readings are as before
-pub record OthersStay (path dest : ℕ) (old new : View) : Type 0 where
-  pub sessions : new.sessions ≡ old.sessions
-  pub others_of : (other : ℕ) → other ≢ path → new.readings other ≡ old.readings other
-  pub others : (other : ℕ) → other ≢ dest → new.readings path other ≡ old.readings path other

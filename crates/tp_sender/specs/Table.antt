@@ -1,67 +1,38 @@
 -- What a step of a sender comes to: a row for each phase, event and case.
 use Rattle.std.specs.Prelude.{◌≡◌, ℕ, ◌+◌, ◌%◌, ◌<◌, ◌≤◌, Bool, true, false, not, ◌&&◌, ◌||◌, ◌==◌, nat_le, List, [], ◌∷◌, ◌++◌, length, map, take, drop, All, Option, Some, None}
 use Rattle.gw_base.specs.Cell.{IsCell, bytes_of, count_of}
-use Rattle.hub_core.specs.View.{Change, Freed, Event, Joining, Missed, Saw, Read, Parted}
+use Rattle.hub_core.specs.Calls.{freed_by}
+use Rattle.hub_core.specs.View.{Event, Joining, Missed, Saw, Read, Parted}
+use Rattle.hub_core.specs.declared.port.Left.{Left as LeftOver}
 use Rattle.hub_core.specs.declared.port.Seen.{Seen}
-use Rattle.hub_core.specs.declared.record.DestRecord.{DestRecord}
 use Rattle.hub_core.specs.declared.record.DestResult.{DestResult}
 use Rattle.hub_core.specs.declared.record.DestResult.TheVariants.{Sent, SourceEnded, BsTimeout, FcOverflow, InvalidFs, CsTimeout, AsTimeout, RunEnd as EndOfRun}
-use Rattle.hub_core.specs.declared.record.Move.{Move}
 use Rattle.hub_core.specs.declared.record.TxWait.{TxWait}
 use Rattle.hub_core.specs.declared.record.TxWait.TheVariants.{Start as ForStart, Turn as ForTurn, Fc as ForFc, Gap as ForGap, Bytes as ForBytes, Bus as ForBus}
 use Rattle.tp_unit.specs.Shape.{fits_shape}
 use Rattle.tp_unit.specs.Unit.{BoxMeaning, Keeps, Offers, Revokes}
 use Rattle.tp_sender.specs.declared.event.TxEvent.{TxEvent}
 use Rattle.tp_sender.specs.declared.event.TxEvent.TheVariants.{Turn, Fc as CameFc, Left, RunEnd}
-use Rattle.tp_sender.specs.declared.live.Phase.{Phase}
-use Rattle.tp_sender.specs.declared.live.Phase.TheVariants.{Start, Bytes, Box, Fc, Gap}
+use Rattle.tp_sender.specs.declared.transmission.Phase.{Phase}
+use Rattle.tp_sender.specs.declared.transmission.Phase.TheVariants.{Start, Bytes, Box, Fc, Gap}
 use Rattle.tp_sender.specs.declared.set.TxSet.{TxSet}
 use Rattle.tp_sender.specs.Frame.{part_after, unit_after}
-use Rattle.tp_sender.specs.State.{Sending, TxState}
-
--- what a step came to: its tick, what is done with the box, what is told, and the session that goes on
-pub record Did : Type 0 where
-  pub tick : ℕ
-  pub act : BoxMeaning
-  pub ended : Option DestRecord
-  pub moved : Option Move
-  pub live : Option Sending
-
--- a step: what happened, what the port did and saw, in order, what it came to, and the number of the next session after it
-pub record TxMove : Type 0 where
-  pub event : TxEvent
-  pub calls : List Event
-  pub did : Did
-  pub next : ℕ
-
--- the state after a step
-abbrev pub state_after : TxMove → TxState
-state_after m = record { next = m.next; live = m.did.live }
+use Rattle.tp_sender.specs.State.{Transmission, TxDid, TxState}
 
 -- nothing is done but that the session goes on so
-pub record GoesOn (s : Sending) (calls : List Event) (did : Did) : Type 0 where
+pub record GoesOn (s : Transmission) (calls : List Event) (did : TxDid) : Type 0 where
   pub calls_are : calls ≡ []
   pub act : did.act ≡ Keeps
-  pub ended : did.ended ≡ None
-  pub moved : did.moved ≡ None
-  pub live : did.live ≡ Some s
-
--- what is freed, where the last party left
-abbrev pub freed_of : Option Move → List Change
-freed_of None = []
-freed_of (Some move) = Freed move.change move.buf.0 ∷ []
-
-abbrev pub IsFree : Option Move → Type 0
-IsFree None = Unit {0}
-IsFree (Some move) = move.took ≡ false
+  pub records : did.records ≡ []
+  pub live : did.new.live ≡ Some s
 
 -- the destination leaves, and the session ends with this result in this tick
-pub record Ends (set : TxSet) (s : Sending) (act : BoxMeaning) (result : DestResult) (calls : List Event) (did : Did) : Type 0 where
-  pub calls_are : calls ≡ Parted set.path.0 set.dest.0 s.seq (freed_of did.moved) ∷ []
+pub record Ends (set : TxSet) (s : Transmission) (act : BoxMeaning) (result : DestResult) (calls : List Event) (did : TxDid) : Type 0 where
+  pub left : LeftOver
+  pub calls_are : calls ≡ Parted set.path.0 set.dest.0 s.seq (freed_by left) ∷ []
   pub act_is : did.act ≡ act
-  pub ended : did.ended ≡ Some (record { path = set.path; dest = set.dest; seq = s.seq; begin = record { 0 = s.begin }; sent = s.sent; end = record { 0 = did.tick }; result = result })
-  pub moved : IsFree did.moved
-  pub live : did.live ≡ None
+  pub records : did.records ≡ record { path = set.path; dest = set.dest; seq = s.seq; begin = record { 0 = s.begin }; sent = s.sent; end = record { 0 = did.tick }; result = result } ∷ []
+  pub live : did.new.live ≡ None
 
 -- a frame that lies in the box is revoked
 abbrev pub revoked : Phase → BoxMeaning
@@ -72,15 +43,15 @@ revoked Fc = Keeps
 revoked (Gap until) = Keeps
 
 -- the phase begins in this tick
-abbrev pub in_phase : Phase → ℕ → Sending → Sending
+abbrev pub in_phase : Phase → ℕ → Transmission → Transmission
 in_phase phase tick s = record s { phase = phase; since = tick }
 
 -- the destination looks at what is published of the session
-abbrev pub look_at : TxSet → Sending → Seen → Event
+abbrev pub look_at : TxSet → Transmission → Seen → Event
 look_at set s look = Saw set.path.0 set.dest.0 s.seq look.cells look.bytes look.writer
 
 -- the bytes that the session's next frame carries
-abbrev pub next_part : TxSet → Sending → ℕ
+abbrev pub next_part : TxSet → Transmission → ℕ
 next_part set s = part_after set.shape s.len s.sent
 
 -- each of these cells is read while fewer bytes than wanted are carried
@@ -89,63 +60,62 @@ AreWanted wanted carried [] = Unit {0}
 AreWanted wanted carried (cell ∷ cells) = (carried < wanted) × AreWanted wanted (carried + count_of cell) cells
 
 -- the session looks, and cells are read while fewer bytes are carried than the next frame takes, and cells are left
-pub record Fetches (set : TxSet) (s : Sending) (look : Seen) (cells : List ℕ) (calls more : List Event) : Type 0 where
+pub record Fetches (set : TxSet) (s : Transmission) (look : Seen) (cells : List ℕ) (calls more : List Event) : Type 0 where
   pub calls_are : calls ≡ look_at set s look ∷ (map (Read set.path.0 set.dest.0 s.seq) cells ++ more)
   pub cells_only : All IsCell cells
   pub wanted : AreWanted (next_part set s) (length s.carried) cells
   pub left : s.at + length cells ≤ look.cells
 
 -- the session with these cells
-abbrev pub fetched : List ℕ → Sending → Sending
+abbrev pub fetched : List ℕ → Transmission → Transmission
 fetched cells s = record s { at = s.at + length cells; carried = s.carried ++ bytes_of cells }
 
 -- all cells are read, and the bytes carried are fewer than the next frame takes
-pub record FallsShort (set : TxSet) (s : Sending) (look : Seen) (cells : List ℕ) : Type 0 where
+pub record FallsShort (set : TxSet) (s : Transmission) (look : Seen) (cells : List ℕ) : Type 0 where
   pub all : s.at + length cells ≡ look.cells
   pub few : length (s.carried ++ bytes_of cells) < next_part set s
 
 -- the next frame is offered into the box
-pub record OffersNext (set : TxSet) (s : Sending) (did : Did) : Type 0 where
+pub record OffersNext (set : TxSet) (s : Transmission) (did : TxDid) : Type 0 where
   pub enough : next_part set s ≤ length s.carried
   pub act : did.act ≡ Offers (unit_after set.shape s.len s.sent s.number (take (next_part set s) s.carried))
   pub fits : fits_shape set.shape (unit_after set.shape s.len s.sent s.number (take (next_part set s) s.carried)) ≡ true
-  pub ended : did.ended ≡ None
-  pub moved : did.moved ≡ None
-  pub live : did.live ≡ Some (in_phase Box did.tick (record s { carried = drop (next_part set s) s.carried }))
+  pub records : did.records ≡ []
+  pub live : did.new.live ≡ Some (in_phase Box did.tick (record s { carried = drop (next_part set s) s.carried }))
 
 -- what comes of that: the session ends with its writer or with the limit, or goes on
-pub data Lacks (set : TxSet) (s : Sending) (look : Seen) (calls : List Event) (did : Did) : Type 0 where
+pub data Lacks (set : TxSet) (s : Transmission) (look : Seen) (calls : List Event) (did : TxDid) : Type 0 where
   WriterGone : look.writer ≡ false → Ends set s Keeps SourceEnded calls did → Lacks set s look calls did
   TooLate : look.writer ≡ true → s.since + set.n_cs ≤ did.tick → Ends set s Keeps (CsTimeout look.bytes) calls did → Lacks set s look calls did
   MayCome : look.writer ≡ true → did.tick < s.since + set.n_cs → GoesOn s calls did → Lacks set s look calls did
 
 -- a turn in phase Bytes
-pub data InBytes (set : TxSet) (s : Sending) (calls : List Event) (did : Did) : Type 0 where
+pub data InBytes (set : TxSet) (s : Transmission) (calls : List Event) (did : TxDid) : Type 0 where
   Enough : (look : Seen) (cells : List ℕ) → Fetches set s look cells calls [] → OffersNext set (fetched cells s) did → InBytes set s calls did
   Short : (look : Seen) (cells : List ℕ) (more : List Event) → Fetches set s look cells calls more → FallsShort set s look cells → Lacks set (fetched cells s) look more did → InBytes set s calls did
 
 -- enough is published to begin with: all bytes or, unless whole units are stored, as many cells as the threshold
-abbrev pub is_reached : TxSet → Sending → Seen → Bool
+abbrev pub is_reached : TxSet → Transmission → Seen → Bool
 is_reached set s look = look.bytes == s.len || not set.store && nat_le set.threshold look.cells
 
 -- a turn in phase Start
-pub data InStart (set : TxSet) (s : Sending) (calls : List Event) (did : Did) : Type 0 where
+pub data InStart (set : TxSet) (s : Transmission) (calls : List Event) (did : TxDid) : Type 0 where
   Reached : (look : Seen) (more : List Event) → calls ≡ look_at set s look ∷ more → is_reached set s look ≡ true → InBytes set (in_phase Bytes did.tick s) more did → InStart set s calls did
   NeverReached : (look : Seen) (more : List Event) → calls ≡ look_at set s look ∷ more → is_reached set s look ≡ false → look.writer ≡ false → Ends set s Keeps SourceEnded more did → InStart set s calls did
   NotReached : (look : Seen) (more : List Event) → calls ≡ look_at set s look ∷ more → is_reached set s look ≡ false → look.writer ≡ true → GoesOn s more did → InStart set s calls did
 
 -- a turn in a phase that waits for something else, up to a limit
-pub data InWait (set : TxSet) (s : Sending) (limit : ℕ) (result : DestResult) (calls : List Event) (did : Did) : Type 0 where
+pub data InWait (set : TxSet) (s : Transmission) (limit : ℕ) (result : DestResult) (calls : List Event) (did : TxDid) : Type 0 where
   Due : s.since + limit ≤ did.tick → Ends set s (revoked s.phase) result calls did → InWait set s limit result calls did
   NotDue : did.tick < s.since + limit → GoesOn s calls did → InWait set s limit result calls did
 
 -- a turn in phase Gap
-pub data InGap (set : TxSet) (s : Sending) (until : ℕ) (calls : List Event) (did : Did) : Type 0 where
+pub data InGap (set : TxSet) (s : Transmission) (until : ℕ) (calls : List Event) (did : TxDid) : Type 0 where
   GapOver : until ≤ did.tick → InBytes set (in_phase Bytes did.tick s) calls did → InGap set s until calls did
   GapLasts : did.tick < until → GoesOn s calls did → InGap set s until calls did
 
 -- a turn, phase by phase
-abbrev pub InTurn : TxSet → Sending → Phase → List Event → Did → Type 0
+abbrev pub InTurn : TxSet → Transmission → Phase → List Event → TxDid → Type 0
 InTurn set s Start calls did = InStart set s calls did
 InTurn set s Bytes calls did = InBytes set s calls did
 InTurn set s Box calls did = InWait set s set.n_as AsTimeout calls did
@@ -153,55 +123,54 @@ InTurn set s Fc calls did = InWait set s set.n_bs BsTimeout calls did
 InTurn set s (Gap until) calls did = InGap set s until.0 calls did
 
 -- a session as it is joined
-abbrev pub joined_in : (tick seq len : ℕ) → Sending
+abbrev pub joined_in : (tick seq len : ℕ) → Transmission
 joined_in tick seq len = record { seq = seq; len = len; at = 0; carried = []; begin = tick; sent = 0; number = 1; phase = Start; since = tick }
 
 -- no session stands, and none is sent
-pub record NoneStands (set : TxSet) (next : ℕ) (m : TxMove) : Type 0 where
-  pub calls_are : m.calls ≡ Missed set.path.0 set.dest.0 next ∷ []
-  pub act : m.did.act ≡ Keeps
-  pub ended : m.did.ended ≡ None
-  pub moved : m.did.moved ≡ None
-  pub live : m.did.live ≡ None
-  pub next_is : m.next ≡ next
+pub record NoneStands (set : TxSet) (next : ℕ) (did : TxDid) : Type 0 where
+  pub calls_are : did.calls ≡ Missed set.path.0 set.dest.0 next ∷ []
+  pub act : did.act ≡ Keeps
+  pub records : did.records ≡ []
+  pub live : did.new.live ≡ None
+  pub next_is : did.new.next ≡ next
 
 -- the next session is joined
-pub record JoinsNext (set : TxSet) (next buf len : ℕ) (more : List Event) (m : TxMove) : Type 0 where
-  pub calls_are : m.calls ≡ Joining set.path.0 set.dest.0 next buf len ∷ more
+pub record JoinsNext (set : TxSet) (next buf len : ℕ) (more : List Event) (did : TxDid) : Type 0 where
+  pub calls_are : did.calls ≡ Joining set.path.0 set.dest.0 next buf len ∷ more
   pub some : 0 < len
-  pub next_is : m.next ≡ next + 1
+  pub next_is : did.new.next ≡ next + 1
 
 -- a turn where nothing is sent
-pub data IdleTurn (set : TxSet) (next : ℕ) (m : TxMove) : Type 0 where
-  NothingToSend : NoneStands set next m → IdleTurn set next m
-  Joins : (buf len : ℕ) (more : List Event) → JoinsNext set next buf len more m → InStart set (joined_in m.did.tick next len) more m.did → IdleTurn set next m
+pub data IdleTurn (set : TxSet) (next : ℕ) (did : TxDid) : Type 0 where
+  NothingToSend : NoneStands set next did → IdleTurn set next did
+  Joins : (buf len : ℕ) (more : List Event) → JoinsNext set next buf len more did → InStart set (joined_in did.tick next len) more did → IdleTurn set next did
 
 -- the run's end where nothing is sent: a session that stands is joined, and ends unsent
-pub data IdleEnd (set : TxSet) (next : ℕ) (m : TxMove) : Type 0 where
-  NothingStands : NoneStands set next m → IdleEnd set next m
-  FindsOne : (buf len : ℕ) (more : List Event) → JoinsNext set next buf len more m →
-      Ends set (joined_in m.did.tick next len) Keeps (EndOfRun ForTurn (record { 0 = m.did.tick })) more m.did → IdleEnd set next m
+pub data IdleEnd (set : TxSet) (next : ℕ) (did : TxDid) : Type 0 where
+  NothingStands : NoneStands set next did → IdleEnd set next did
+  FindsOne : (buf len : ℕ) (more : List Event) → JoinsNext set next buf len more did →
+      Ends set (joined_in did.tick next len) Keeps (EndOfRun ForTurn (record { 0 = did.tick })) more did → IdleEnd set next did
 
 -- the whole unit left
-abbrev pub all_sent : Sending → Sending
+abbrev pub all_sent : Transmission → Transmission
 all_sent s = record s { sent = s.len }
 
 -- the frame in the box left: the last one ends the session, a first frame awaits a flow control, a consecutive frame one tick
-pub data FrameLeft (set : TxSet) (s : Sending) (calls : List Event) (did : Did) : Type 0 where
+pub data FrameLeft (set : TxSet) (s : Transmission) (calls : List Event) (did : TxDid) : Type 0 where
   LastLeft : s.sent + next_part set s ≡ s.len → Ends set (all_sent s) Keeps Sent calls did → FrameLeft set s calls did
   FirstLeft : s.sent ≡ 0 → next_part set s < s.len → GoesOn (in_phase Fc did.tick (record s { sent = next_part set s })) calls did → FrameLeft set s calls did
   NextLeft : 0 < s.sent → s.sent + next_part set s < s.len →
       GoesOn (in_phase (Gap (record { 0 = did.tick + 1 })) did.tick (record s { sent = s.sent + next_part set s; number = (s.number + 1) % 16 })) calls did → FrameLeft set s calls did
 
 -- a flow control where one is awaited
-pub data Answered (set : TxSet) (s : Sending) (fs : ℕ) (calls : List Event) (did : Did) : Type 0 where
+pub data Answered (set : TxSet) (s : Transmission) (fs : ℕ) (calls : List Event) (did : TxDid) : Type 0 where
   Continues : fs ≡ 0 → GoesOn (in_phase Bytes did.tick s) calls did → Answered set s fs calls did
   AsksToWait : fs ≡ 1 → GoesOn (in_phase Fc did.tick s) calls did → Answered set s fs calls did
   Overflows : fs ≡ 2 → Ends set s Keeps FcOverflow calls did → Answered set s fs calls did
   IsInvalid : 2 < fs → Ends set s Keeps (InvalidFs fs) calls did → Answered set s fs calls did
 
 -- a flow control: in every phase but Fc it is ignored
-abbrev pub InAnswer : TxSet → Sending → Phase → ℕ → List Event → Did → Type 0
+abbrev pub InAnswer : TxSet → Transmission → Phase → ℕ → List Event → TxDid → Type 0
 InAnswer set s Start fs calls did = GoesOn s calls did
 InAnswer set s Bytes fs calls did = GoesOn s calls did
 InAnswer set s Box fs calls did = GoesOn s calls did
@@ -217,33 +186,32 @@ wait_of Fc = ForFc
 wait_of (Gap until) = ForGap
 
 -- what happens to a session, event by event
-abbrev pub LiveRow : TxSet → Sending → TxEvent → List Event → Did → Type 0
+abbrev pub LiveRow : TxSet → Transmission → TxEvent → List Event → TxDid → Type 0
 LiveRow set s Turn calls did = InTurn set s s.phase calls did
 LiveRow set s (CameFc fs bs st) calls did = InAnswer set s s.phase fs calls did
 LiveRow set s Left calls did = (s.phase ≡ Box) × FrameLeft set s calls did
 LiveRow set s RunEnd calls did = Ends set s (revoked s.phase) (EndOfRun (wait_of s.phase) (record { 0 = s.since })) calls did
 
 -- nothing is done, and nothing is sent
-pub record StaysIdle (next : ℕ) (m : TxMove) : Type 0 where
-  pub calls_are : m.calls ≡ []
-  pub act : m.did.act ≡ Keeps
-  pub ended : m.did.ended ≡ None
-  pub moved : m.did.moved ≡ None
-  pub live : m.did.live ≡ None
-  pub next_is : m.next ≡ next
+pub record StaysIdle (next : ℕ) (did : TxDid) : Type 0 where
+  pub calls_are : did.calls ≡ []
+  pub act : did.act ≡ Keeps
+  pub records : did.records ≡ []
+  pub live : did.new.live ≡ None
+  pub next_is : did.new.next ≡ next
 
 -- what happens where nothing is sent, event by event
-abbrev pub IdleRow : TxSet → ℕ → TxEvent → TxMove → Type 0
-IdleRow set next Turn m = IdleTurn set next m
-IdleRow set next (CameFc fs bs st) m = StaysIdle next m
-IdleRow set next Left m = ⊥
-IdleRow set next RunEnd m = IdleEnd set next m
+abbrev pub IdleRow : TxSet → ℕ → TxEvent → TxDid → Type 0
+IdleRow set next Turn did = IdleTurn set next did
+IdleRow set next (CameFc fs bs st) did = StaysIdle next did
+IdleRow set next Left did = ⊥
+IdleRow set next RunEnd did = IdleEnd set next did
 
 -- the rows of the table, state by state
-abbrev pub TxRow : TxSet → ℕ → Option Sending → TxMove → Type 0
-TxRow set next None m = IdleRow set next m.event m
-TxRow set next (Some s) m = LiveRow set s m.event m.calls m.did × (m.next ≡ next)
+abbrev pub TxRow : TxSet → ℕ → Option Transmission → TxEvent → TxDid → Type 0
+TxRow set next None event did = IdleRow set next event did
+TxRow set next (Some s) event did = LiveRow set s event did.calls did × (did.new.next ≡ next)
 
 -- a step from this state
-abbrev pub TxStep : TxSet → TxState → TxMove → Type 0
-TxStep set old m = TxRow set old.next old.live m
+abbrev pub TxStep : TxSet → TxState → TxEvent → TxDid → Type 0
+TxStep set old event did = TxRow set old.next old.live event did

@@ -1,21 +1,21 @@
 ghost use Rattle.std.specs.Prelude.{◌≡◌, ◌+◌, None, Some};
-ghost use Rattle.hub_core.specs.Calls.{ByReader, SameMeans};
+ghost use Rattle.tp_sender.specs.Port.{left_by, KnowsToken, IsFree, KeepsPort, OverRow};
+ghost use Rattle.hub_core.specs.Calls.{ByReader, SameMeans, freed_by};
 ghost use Rattle.hub_core.specs.Floors.{Rise};
 ghost use Rattle.hub_core.specs.Tokens.{Reads};
 ghost use Rattle.hub_core.specs.View.{grow, Parted};
 ghost use Rattle.tp_unit.specs.Unit.{box_meaning_of};
-ghost use Rattle.tp_sender.specs.State.{KnowsToken, sending_of};
-ghost use Rattle.tp_sender.specs.Table.{Ends, IsFree, freed_of, revoked, wait_of};
-ghost use Rattle.tp_sender.specs.Over.{KeepsPort, Over, did_of};
+ghost use Rattle.tp_sender.specs.State.{transmission_of};
+ghost use Rattle.tp_sender.specs.Table.{Ends, revoked, wait_of};
 
-use crate::live::{Live, Outcome, Phase};
+use crate::transmission::{Outcome, Phase, Transmission};
 use crate::{TxActs, TxSet};
 use gw_base::Tick;
 use hub_core::{DestRecord, DestResult, End, Joined, Left, Move, Port, TxWait};
 use tp_unit::BoxAct;
 
 /// The session goes on.
-pub fn go_on(live: Live, boxed: BoxAct) -> Outcome
+pub fn go_on(live: Transmission, boxed: BoxAct) -> Outcome
     ensures live { result.live ≡ Some live }
     ensures boxed { result.acts.boxed ≡ boxed }
     ensures ended { result.acts.ended ≡ None }
@@ -34,14 +34,14 @@ pub fn go_on(live: Live, boxed: BoxAct) -> Outcome
 /// The session ends with that cause in this tick.
 pub fn end<P: Port>(
     set: &TxSet,
-    live: Live,
+    live: Transmission,
     boxed: BoxAct,
     cause: DestResult,
     tick: Tick,
     port: &mut P,
 ) -> Outcome
     requires { KnowsToken (P.view port.old) set.now (live.at.seq + 1) live }
-    ensures step { Over (Ends set.now (sending_of live) (box_meaning_of boxed) cause) (P.floors port.old) (P.view port.old) (P.view port.new) (did_of tick.0 result) }
+    ensures step { OverRow (Ends set.now (transmission_of live) (box_meaning_of boxed) cause) (P.floors port.old) (P.view port.old) (P.view port.new) tick.0 (live.at.seq + 1) result }
     ensures port { KeepsPort set.now (live.at.seq + 1) result.live (P.view port.old) (P.view port.new) (P.means port.old) (P.means port.new) }
     ensures rise { Rise (P.floors port.old) (P.floors port.new) }
 {
@@ -60,7 +60,7 @@ pub fn end<P: Port>(
 /// The destination leaves the session that is told of.
 pub fn leave<P: Port>(at: Joined, boxed: BoxAct, told: DestRecord, port: &mut P) -> Outcome
     requires { Reads (P.view port.old) at }
-    ensures view { P.view port.new ≡ grow (Parted at.path.0 at.dest.0 at.seq (freed_of result.acts.moved)) (P.view port.old) }
+    ensures view { P.view port.new ≡ grow (Parted at.path.0 at.dest.0 at.seq (freed_by (left_by result.acts.moved))) (P.view port.old) }
     ensures by { ByReader at.path.0 at.dest.0 0 (P.view port.old) (P.view port.new) }
     ensures means { SameMeans (P.means port.old) (P.means port.new) }
     ensures rise { Rise (P.floors port.old) (P.floors port.new) }

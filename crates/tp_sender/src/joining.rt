@@ -1,12 +1,12 @@
 ghost use Rattle.std.specs.Prelude.{◌≡◌, ◌<◌, length, true, None};
+ghost use Rattle.tp_sender.specs.Port.{JoinsOver};
 ghost use Rattle.hub_core.specs.Calls.{SameMeans};
 ghost use Rattle.hub_core.specs.Floors.{Rise};
-ghost use Rattle.tp_sender.specs.State.{sending_of};
+ghost use Rattle.tp_sender.specs.State.{transmission_of};
 ghost use Rattle.tp_sender.specs.Table.{joined_in};
-ghost use Rattle.tp_sender.specs.Over.{JoinsOver};
 ghost use Rattle.tp_unit.specs.Unit.{Keeps, box_meaning_of};
 
-use crate::live::{Live, Phase};
+use crate::transmission::{Phase, Transmission};
 use crate::{TxActs, TxSet};
 use cell_stream::Carry;
 use gw_base::Tick;
@@ -17,7 +17,7 @@ use tp_unit::BoxAct;
 const FIRST_NUMBER: u8 = 1;
 
 /// Joins the destination's next session, where one stands.
-pub fn join<P: Port>(set: &TxSet, next: u32, tick: Tick, port: &mut P) -> Option<Live>
+pub fn join<P: Port>(set: &TxSet, next: u32, tick: Tick, port: &mut P) -> Option<Transmission>
     requires acts { (P.means port.old).reads set.now.path.0 set.now.dest.0 ≡ true }
     requires next { length ((P.view port.old).readings set.now.path.0 set.now.dest.0) ≡ next }
     ensures joins { JoinsOver set.now next tick.0 (P.floors port.old) (P.view port.old) (P.view port.new) result }
@@ -29,12 +29,12 @@ pub fn join<P: Port>(set: &TxSet, next: u32, tick: Tick, port: &mut P) -> Option
 }
 
 /// A session as it is joined.
-fn live_of(at: Joined, tick: Tick) -> Live
+fn live_of(at: Joined, tick: Tick) -> Transmission
     requires { 0 < at.len }
     ensures at { result.at ≡ at }
-    ensures state { sending_of result ≡ record (joined_in tick.0 at.seq at.len) { at = at.at } }
+    ensures state { transmission_of result ≡ record (joined_in tick.0 at.seq at.len) { at = at.at } }
 {
-    Live {
+    Transmission {
         at,
         carry: Carry::new(),
         begin: tick,

@@ -6,12 +6,12 @@ mod ending;
 mod event;
 mod frame;
 mod joining;
-mod live;
 mod progress;
 mod sender;
 mod set;
 #[cfg(test)]
 mod tests;
+mod transmission;
 mod turn;
 
 pub use event::{TxActs, TxEvent};

@@ -1,16 +1,16 @@
 ghost use Rattle.std.specs.Prelude.{◌≡◌, ◌+◌, ◌≤◌};
+ghost use Rattle.tp_sender.specs.Port.{KnowsToken, KeepsPort, OverRow, did_of};
 ghost use Rattle.hub_core.specs.Floors.{Rise};
 ghost use Rattle.tp_unit.specs.Shape.{IsShape};
-ghost use Rattle.tp_sender.specs.State.{KnowsToken, in_box, sending_of};
+ghost use Rattle.tp_sender.specs.State.{in_box, transmission_of};
 ghost use Rattle.tp_sender.specs.Table.{Answered, Ends, FrameLeft, InAnswer, LiveRow, all_sent, revoked, wait_of};
 ghost use Rattle.hub_core.specs.declared.record.DestResult.TheVariants.{RunEnd as EndOfRun, Sent};
 ghost use Rattle.tp_unit.specs.Unit.{Keeps};
 ghost use Rattle.tp_sender.specs.declared.event.TxEvent.TheVariants.{Left};
-ghost use Rattle.tp_sender.specs.Over.{KeepsPort, Over, did_of};
 
 use crate::ending::{awaited, end, go_on, leave, revoke};
 use crate::frame::next_part;
-use crate::live::{Live, Outcome, Phase};
+use crate::transmission::{Outcome, Phase, Transmission};
 use crate::turn::take_turn;
 use crate::{TxEvent, TxSet};
 use gw_base::Tick;
@@ -33,11 +33,11 @@ const WAIT: u8 = 1;
 const OVERFLOW: u8 = 2;
 
 /// The frame in the box left.
-pub fn frame_left<P: Port>(set: &TxSet, mut live: Live, tick: Tick, port: &mut P) -> Outcome
+pub fn frame_left<P: Port>(set: &TxSet, mut live: Transmission, tick: Tick, port: &mut P) -> Outcome
     requires shape { IsShape set.now.shape }
     requires knows { KnowsToken (P.view port.old) set.now (live.at.seq + 1) live }
     requires tick { tick.0 ≤ 10000000 }
-    ensures step { Over (FrameLeft set.now (sending_of live)) (P.floors port.old) (P.view port.old) (P.view port.new) (did_of tick.0 result) }
+    ensures step { OverRow (FrameLeft set.now (transmission_of live)) (P.floors port.old) (P.view port.old) (P.view port.new) tick.0 (live.at.seq + 1) result }
     ensures port { KeepsPort set.now (live.at.seq + 1) result.live (P.view port.old) (P.view port.new) (P.means port.old) (P.means port.new) }
     ensures rise { Rise (P.floors port.old) (P.floors port.new) }
 {
@@ -60,9 +60,9 @@ pub fn frame_left<P: Port>(set: &TxSet, mut live: Live, tick: Tick, port: &mut P
 }
 
 /// The unit's last frame left.
-fn all_left<P: Port>(set: &TxSet, live: Live, tick: Tick, port: &mut P) -> Outcome
+fn all_left<P: Port>(set: &TxSet, live: Transmission, tick: Tick, port: &mut P) -> Outcome
     requires knows { KnowsToken (P.view port.old) set.now (live.at.seq + 1) live }
-    ensures step { Over (Ends set.now (all_sent (sending_of live)) Keeps Sent) (P.floors port.old) (P.view port.old) (P.view port.new) (did_of tick.0 result) }
+    ensures step { OverRow (Ends set.now (all_sent (transmission_of live)) Keeps Sent) (P.floors port.old) (P.view port.old) (P.view port.new) tick.0 (live.at.seq + 1) result }
     ensures port { KeepsPort set.now (live.at.seq + 1) result.live (P.view port.old) (P.view port.new) (P.means port.old) (P.means port.new) }
     ensures rise { Rise (P.floors port.old) (P.floors port.new) }
 {
@@ -79,9 +79,9 @@ fn all_left<P: Port>(set: &TxSet, live: Live, tick: Tick, port: &mut P) -> Outco
 }
 
 /// A flow control came: in every phase but Fc it is ignored.
-pub fn answer<P: Port>(set: &TxSet, live: Live, fs: u8, tick: Tick, port: &mut P) -> Outcome
+pub fn answer<P: Port>(set: &TxSet, live: Transmission, fs: u8, tick: Tick, port: &mut P) -> Outcome
     requires knows { KnowsToken (P.view port.old) set.now (live.at.seq + 1) live }
-    ensures step { Over (InAnswer set.now (sending_of live) live.phase fs) (P.floors port.old) (P.view port.old) (P.view port.new) (did_of tick.0 result) }
+    ensures step { OverRow (InAnswer set.now (transmission_of live) live.phase fs) (P.floors port.old) (P.view port.old) (P.view port.new) tick.0 (live.at.seq + 1) result }
     ensures port { KeepsPort set.now (live.at.seq + 1) result.live (P.view port.old) (P.view port.new) (P.means port.old) (P.means port.new) }
     ensures rise { Rise (P.floors port.old) (P.floors port.new) }
 {
@@ -94,9 +94,9 @@ pub fn answer<P: Port>(set: &TxSet, live: Live, fs: u8, tick: Tick, port: &mut P
 }
 
 /// A flow control came that is awaited.
-fn obey<P: Port>(set: &TxSet, mut live: Live, fs: u8, tick: Tick, port: &mut P) -> Outcome
+fn obey<P: Port>(set: &TxSet, mut live: Transmission, fs: u8, tick: Tick, port: &mut P) -> Outcome
     requires knows { KnowsToken (P.view port.old) set.now (live.at.seq + 1) live }
-    ensures step { Over (Answered set.now (sending_of live) fs) (P.floors port.old) (P.view port.old) (P.view port.new) (did_of tick.0 result) }
+    ensures step { OverRow (Answered set.now (transmission_of live) fs) (P.floors port.old) (P.view port.old) (P.view port.new) tick.0 (live.at.seq + 1) result }
     ensures port { KeepsPort set.now (live.at.seq + 1) result.live (P.view port.old) (P.view port.new) (P.means port.old) (P.means port.new) }
     ensures rise { Rise (P.floors port.old) (P.floors port.new) }
 {
@@ -124,9 +124,9 @@ fn obey<P: Port>(set: &TxSet, mut live: Live, fs: u8, tick: Tick, port: &mut P) 
 }
 
 /// The run ends.
-pub fn run_out<P: Port>(set: &TxSet, live: Live, tick: Tick, port: &mut P) -> Outcome
+pub fn run_out<P: Port>(set: &TxSet, live: Transmission, tick: Tick, port: &mut P) -> Outcome
     requires knows { KnowsToken (P.view port.old) set.now (live.at.seq + 1) live }
-    ensures step { Over (Ends set.now (sending_of live) (revoked live.phase) (EndOfRun (wait_of live.phase) live.since)) (P.floors port.old) (P.view port.old) (P.view port.new) (did_of tick.0 result) }
+    ensures step { OverRow (Ends set.now (transmission_of live) (revoked live.phase) (EndOfRun (wait_of live.phase) live.since)) (P.floors port.old) (P.view port.old) (P.view port.new) tick.0 (live.at.seq + 1) result }
     ensures port { KeepsPort set.now (live.at.seq + 1) result.live (P.view port.old) (P.view port.new) (P.means port.old) (P.means port.new) }
     ensures rise { Rise (P.floors port.old) (P.floors port.new) }
 {
@@ -141,7 +141,7 @@ pub fn run_out<P: Port>(set: &TxSet, live: Live, tick: Tick, port: &mut P) -> Ou
 /// What happens to a session.
 pub fn step_live<P: Port>(
     set: &TxSet,
-    live: Live,
+    live: Transmission,
     event: TxEvent,
     tick: Tick,
     port: &mut P,
@@ -151,7 +151,7 @@ pub fn step_live<P: Port>(
     requires since { live.since.0 ≤ tick.0 }
     requires tick { tick.0 ≤ 10000000 }
     requires left { event ≡ Left → in_box live.phase }
-    ensures step { Over (LiveRow set.now (sending_of live) event) (P.floors port.old) (P.view port.old) (P.view port.new) (did_of tick.0 result) }
+    ensures step { OverRow (LiveRow set.now (transmission_of live) event) (P.floors port.old) (P.view port.old) (P.view port.new) tick.0 (live.at.seq + 1) result }
     ensures port { KeepsPort set.now (live.at.seq + 1) result.live (P.view port.old) (P.view port.new) (P.means port.old) (P.means port.new) }
     ensures rise { Rise (P.floors port.old) (P.floors port.new) }
 {

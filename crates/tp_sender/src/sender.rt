@@ -2,8 +2,8 @@ ghost use Rattle.tp_unit.specs.Shape.{IsShape};
 
 use crate::ending::end;
 use crate::joining::{join, nothing};
-use crate::live::Live;
 use crate::progress::step_live;
+use crate::transmission::Transmission;
 use crate::turn::begin;
 use crate::{TxActs, TxEvent, TxSet};
 use gw_base::Tick;
@@ -17,25 +17,25 @@ pub struct Sender {
     set: TxSet,
     /// The number of the session that it joins next.
     next: u32,
-    live: Option<Live>,
+    live: Option<Transmission>,
     ghost shape: { IsShape set.shape },
 }
 
 impl Sender {
     ghost use Rattle.std.specs.Prelude.{◌≡◌, ◌+◌, ◌≤◌, ℕ, is_some, length, None, Some};
+    ghost use Rattle.tp_sender.specs.Port.{ActsFor, Knows, KnowsLive, KnowsToken, OthersStay, StepOver};
     ghost use Rattle.hub_core.specs.Calls.{SameMeans};
     ghost use Rattle.hub_core.specs.Floors.{Rise};
     ghost use Rattle.hub_core.specs.View.{View};
     ghost use Rattle.tp_unit.specs.Unit.{box_meaning_of};
     ghost use Rattle.tp_sender.specs.declared.event.TxEvent.TheVariants.{Left};
-    ghost use Rattle.tp_sender.specs.State.{ActsFor, HasFrame, IsInBox, IsPlain, Knows, KnowsLive, KnowsToken, OthersStay, StillHasFrame, sending_of, set_of, since_of, state_of, state_new};
-    ghost use Rattle.tp_sender.specs.Over.{StepOver};
+    ghost use Rattle.tp_sender.specs.State.{HasFrame, IsInBox, IsPlain, StillHasFrame, transmission_of, set_of, since_of, state_of, tx_new};
 
     /// A sender that sends nothing yet.
     pub fn new(set: TxSet) -> Sender
         requires { IsShape set.shape }
         ensures set { set_of result ≡ set }
-        ensures state { state_of result ≡ state_new }
+        ensures state { state_of result ≡ tx_new }
         ensures knows { (v : View) → length (v.readings set.path.0 set.dest.0) ≡ 0 → Knows v result }
     {
         Sender {
@@ -87,8 +87,8 @@ impl Sender {
     ghost use Rattle.hub_core.specs.Calls.{SameMeans};
     ghost use Rattle.hub_core.specs.Floors.{Rise};
     ghost use Rattle.tp_sender.specs.declared.event.TxEvent.TheVariants.{Left, Turn, RunEnd};
-    ghost use Rattle.tp_sender.specs.State.{ActsFor, Knows, OthersStay, set_of, since_of, state_of};
-    ghost use Rattle.tp_sender.specs.Over.{StepOver};
+    ghost use Rattle.tp_sender.specs.Port.{ActsFor, Knows, OthersStay, StepOver};
+    ghost use Rattle.tp_sender.specs.State.{set_of, since_of, state_of};
 
     /// A step where nothing is sent.
     fn step_idle<P: Port>(&mut self, event: TxEvent, tick: Tick, port: &mut P) -> TxActs

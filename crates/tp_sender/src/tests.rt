@@ -1,7 +1,8 @@
 ghost use Rattle.std.specs.Prelude.{◌≡◌, ◌+◌, ◌<◌, ◌≤◌, Option, None, true, length};
+ghost use Rattle.tp_sender.specs.Port.{ActsFor, Knows};
 ghost use Rattle.hub_core.specs.Tokens.{Writes};
 ghost use Rattle.tp_unit.specs.Unit.{box_meaning_of};
-ghost use Rattle.tp_sender.specs.State.{ActsFor, HasFrame, IsInBox, IsPlain, Knows, Sending, StillHasFrame, state_of};
+ghost use Rattle.tp_sender.specs.State.{HasFrame, IsInBox, IsPlain, StillHasFrame, state_of, Transmission};
 ghost use Rattle.tp_sender.specs.declared.event.TxEvent.{TxEvent as Came};
 ghost use Rattle.tp_sender.specs.declared.event.TxEvent.TheVariants.{Left as FrameLeft};
 
@@ -117,7 +118,7 @@ fn may_come(event: TxEvent, full: bool) -> bool
 
 /// Whether the box still holds a frame once the event came.
 fn still_full(event: TxEvent, full: bool) -> bool
-    ensures { (live : Option Sending) → (full ≡ true → HasFrame live) → result ≡ true → StillHasFrame event live }
+    ensures { (live : Option Transmission) → (full ≡ true → HasFrame live) → result ≡ true → StillHasFrame event live }
 {
     match event {
         TxEvent::Turn => full,
@@ -133,7 +134,7 @@ fn still_full(event: TxEvent, full: bool) -> bool
 
 /// Whether the box holds a frame after the act.
 fn full_after(boxed: &BoxAct, still: bool) -> bool
-    ensures { (event : Came) (old new : Option Sending) → (still ≡ true → StillHasFrame event old) → IsInBox (box_meaning_of boxed.now) (StillHasFrame event old) new → result ≡ true → HasFrame new }
+    ensures { (event : Came) (old new : Option Transmission) → (still ≡ true → StillHasFrame event old) → IsInBox (box_meaning_of boxed.now) (StillHasFrame event old) new → result ≡ true → HasFrame new }
 {
     match boxed {
         BoxAct::Keep => still,

@@ -1,17 +1,18 @@
-ghost use Rattle.std.specs.Prelude.{◌≡◌, ◌+◌, ◌<◌, ◌≤◌, ◌↔◌, IfSome, IsTrue, length};
+ghost use Rattle.std.specs.Prelude.{◌≡◌, ◌+◌, ◌<◌, ◌≤◌, ◌↔◌, IfSome, IsTrue, List, None, length};
+ghost use Rattle.hub_core.specs.View.{Event};
+ghost use Rattle.tp_sender.specs.Port.{KnowsToken, KeepsPort, OverRow, ReadsEnough, did_of};
 ghost use Rattle.hub_core.specs.Floors.{Rise};
 ghost use Rattle.hub_core.specs.Tokens.{Reads};
 ghost use Rattle.tp_unit.specs.Shape.{IsShape};
 ghost use Rattle.tp_sender.specs.Frame.{part_after};
-ghost use Rattle.tp_sender.specs.State.{KnowsToken, sending_of};
+ghost use Rattle.tp_sender.specs.State.{transmission_of};
 ghost use Rattle.tp_sender.specs.Table.{InBytes, InGap, InStart, InTurn, InWait, Lacks, OffersNext, in_phase, is_reached};
-ghost use Rattle.tp_sender.specs.Over.{KeepsPort, Over, ReadsEnough, did_of};
-ghost use Rattle.tp_sender.specs.declared.live.Phase.TheVariants.{Bytes};
+ghost use Rattle.tp_sender.specs.declared.transmission.Phase.TheVariants.{Bytes};
 
 use crate::TxSet;
 use crate::ending::{end, go_on, revoke};
 use crate::frame::{next_part, next_unit};
-use crate::live::{Live, Outcome, Phase};
+use crate::transmission::{Outcome, Phase, Transmission};
 use arrayvec::ArrayVec;
 use gw_base::Tick;
 use hub_core::{DestResult, Port, Seen};
@@ -19,11 +20,11 @@ use tick_clock::Timer;
 use tp_unit::BoxAct;
 
 /// A turn of a session, by its phase.
-pub fn take_turn<P: Port>(set: &TxSet, live: Live, tick: Tick, port: &mut P) -> Outcome
+pub fn take_turn<P: Port>(set: &TxSet, live: Transmission, tick: Tick, port: &mut P) -> Outcome
     requires shape { IsShape set.now.shape }
     requires knows { KnowsToken (P.view port.old) set.now (live.at.seq + 1) live }
     requires since { live.since.0 ≤ tick.0 }
-    ensures step { Over (InTurn set.now (sending_of live) live.phase) (P.floors port.old) (P.view port.old) (P.view port.new) (did_of tick.0 result) }
+    ensures step { OverRow (InTurn set.now (transmission_of live) live.phase) (P.floors port.old) (P.view port.old) (P.view port.new) tick.0 (live.at.seq + 1) result }
     ensures port { KeepsPort set.now (live.at.seq + 1) result.live (P.view port.old) (P.view port.new) (P.means port.old) (P.means port.new) }
     ensures rise { Rise (P.floors port.old) (P.floors port.new) }
 {
@@ -37,10 +38,10 @@ pub fn take_turn<P: Port>(set: &TxSet, live: Live, tick: Tick, port: &mut P) -> 
 }
 
 /// A turn in phase Start: the first frame's bytes are collected once enough of the session is published.
-pub fn begin<P: Port>(set: &TxSet, mut live: Live, tick: Tick, port: &mut P) -> Outcome
+pub fn begin<P: Port>(set: &TxSet, mut live: Transmission, tick: Tick, port: &mut P) -> Outcome
     requires shape { IsShape set.now.shape }
     requires knows { KnowsToken (P.view port.old) set.now (live.at.seq + 1) live }
-    ensures step { Over (InStart set.now (sending_of live)) (P.floors port.old) (P.view port.old) (P.view port.new) (did_of tick.0 result) }
+    ensures step { OverRow (InStart set.now (transmission_of live)) (P.floors port.old) (P.view port.old) (P.view port.new) tick.0 (live.at.seq + 1) result }
     ensures port { KeepsPort set.now (live.at.seq + 1) result.live (P.view port.old) (P.view port.new) (P.means port.old) (P.means port.new) }
     ensures rise { Rise (P.floors port.old) (P.floors port.new) }
 {
@@ -56,17 +57,17 @@ pub fn begin<P: Port>(set: &TxSet, mut live: Live, tick: Tick, port: &mut P) -> 
 
 /// Whether enough is published to begin with: all bytes or, unless whole units are stored, as many cells as the
 /// threshold.
-fn reaches(set: &TxSet, live: &Live, seen: Seen) -> bool
-    ensures { result ≡ is_reached set.now (sending_of live.now) seen }
+fn reaches(set: &TxSet, live: &Transmission, seen: Seen) -> bool
+    ensures { result ≡ is_reached set.now (transmission_of live.now) seen }
 {
     seen.bytes == live.at.len || !set.store && set.threshold <= seen.cells
 }
 
 /// Phase Bytes begins in this tick, with a turn.
-fn fill_from<P: Port>(set: &TxSet, mut live: Live, tick: Tick, port: &mut P) -> Outcome
+fn fill_from<P: Port>(set: &TxSet, mut live: Transmission, tick: Tick, port: &mut P) -> Outcome
     requires shape { IsShape set.now.shape }
     requires knows { KnowsToken (P.view port.old) set.now (live.at.seq + 1) live }
-    ensures step { Over (InBytes set.now (in_phase Bytes tick.0 (sending_of live))) (P.floors port.old) (P.view port.old) (P.view port.new) (did_of tick.0 result) }
+    ensures step { OverRow (InBytes set.now (in_phase Bytes tick.0 (transmission_of live))) (P.floors port.old) (P.view port.old) (P.view port.new) tick.0 (live.at.seq + 1) result }
     ensures port { KeepsPort set.now (live.at.seq + 1) result.live (P.view port.old) (P.view port.new) (P.means port.old) (P.means port.new) }
     ensures rise { Rise (P.floors port.old) (P.floors port.new) }
 {
@@ -76,11 +77,11 @@ fn fill_from<P: Port>(set: &TxSet, mut live: Live, tick: Tick, port: &mut P) -> 
 }
 
 /// A turn in phase Bytes: the next frame is offered once its bytes are there.
-fn fill<P: Port>(set: &TxSet, mut live: Live, tick: Tick, port: &mut P) -> Outcome
+fn fill<P: Port>(set: &TxSet, mut live: Transmission, tick: Tick, port: &mut P) -> Outcome
     requires shape { IsShape set.now.shape }
     requires knows { KnowsToken (P.view port.old) set.now (live.at.seq + 1) live }
     requires since { live.since.0 ≤ tick.0 }
-    ensures step { Over (InBytes set.now (sending_of live)) (P.floors port.old) (P.view port.old) (P.view port.new) (did_of tick.0 result) }
+    ensures step { OverRow (InBytes set.now (transmission_of live)) (P.floors port.old) (P.view port.old) (P.view port.new) tick.0 (live.at.seq + 1) result }
     ensures port { KeepsPort set.now (live.at.seq + 1) result.live (P.view port.old) (P.view port.new) (P.means port.old) (P.means port.new) }
     ensures rise { Rise (P.floors port.old) (P.floors port.new) }
 {
@@ -94,7 +95,7 @@ fn fill<P: Port>(set: &TxSet, mut live: Live, tick: Tick, port: &mut P) -> Outco
 }
 
 /// Reads cells while fewer bytes than `wanted` are carried, and cells are left of those that were seen.
-fn read_cells<P: Port>(live: &mut Live, wanted: usize, port: &mut P)
+fn read_cells<P: Port>(live: &mut Transmission, wanted: usize, port: &mut P)
     requires reads { Reads (P.view port.old) live.old.at }
     requires wanted { wanted ≤ 63 }
     ensures cells { ReadsEnough wanted live.old live.new (P.view port.old) (P.view port.new) (P.means port.old) (P.means port.new) }
@@ -107,10 +108,11 @@ fn read_cells<P: Port>(live: &mut Live, wanted: usize, port: &mut P)
 }
 
 /// The next frame is offered into the box.
-fn offer(set: &TxSet, mut live: Live, tick: Tick) -> Outcome
+fn offer(set: &TxSet, mut live: Transmission, tick: Tick) -> Outcome
     requires shape { IsShape set.now.shape }
     requires enough { part_after set.now.shape live.at.len live.sent ≤ length live.carry }
-    ensures offers { OffersNext set.now (sending_of live) (did_of tick.0 result) }
+    ensures offers { (all : List Event) → OffersNext set.now (transmission_of live) (did_of tick.0 (live.at.seq + 1) all result) }
+    ensures moved { result.acts.moved ≡ None }
     ensures token { IfSome result.live (λ offered. offered.at ≡ live.at) }
 {
     let part = next_part(&set.shape, live.at.len, live.sent);
@@ -129,10 +131,10 @@ fn offer(set: &TxSet, mut live: Live, tick: Tick) -> Outcome
 }
 
 /// The next frame's bytes aren't there: they never will be, or are late, or may still come.
-fn lack<P: Port>(set: &TxSet, live: Live, seen: Seen, tick: Tick, port: &mut P) -> Outcome
+fn lack<P: Port>(set: &TxSet, live: Transmission, seen: Seen, tick: Tick, port: &mut P) -> Outcome
     requires knows { KnowsToken (P.view port.old) set.now (live.at.seq + 1) live }
     requires since { live.since.0 ≤ tick.0 }
-    ensures step { Over (Lacks set.now (sending_of live) seen) (P.floors port.old) (P.view port.old) (P.view port.new) (did_of tick.0 result) }
+    ensures step { OverRow (Lacks set.now (transmission_of live) seen) (P.floors port.old) (P.view port.old) (P.view port.new) tick.0 (live.at.seq + 1) result }
     ensures port { KeepsPort set.now (live.at.seq + 1) result.live (P.view port.old) (P.view port.new) (P.means port.old) (P.means port.new) }
     ensures rise { Rise (P.floors port.old) (P.floors port.new) }
 {
@@ -149,7 +151,7 @@ fn lack<P: Port>(set: &TxSet, live: Live, seen: Seen, tick: Tick, port: &mut P) 
 /// A turn in a phase that waits for something else: the session ends once the limit, in ticks, is over.
 fn wait<P: Port>(
     set: &TxSet,
-    live: Live,
+    live: Transmission,
     limit: u32,
     cause: DestResult,
     tick: Tick,
@@ -157,7 +159,7 @@ fn wait<P: Port>(
 ) -> Outcome
     requires knows { KnowsToken (P.view port.old) set.now (live.at.seq + 1) live }
     requires since { live.since.0 ≤ tick.0 }
-    ensures step { Over (InWait set.now (sending_of live) limit cause) (P.floors port.old) (P.view port.old) (P.view port.new) (did_of tick.0 result) }
+    ensures step { OverRow (InWait set.now (transmission_of live) limit cause) (P.floors port.old) (P.view port.old) (P.view port.new) tick.0 (live.at.seq + 1) result }
     ensures port { KeepsPort set.now (live.at.seq + 1) result.live (P.view port.old) (P.view port.new) (P.means port.old) (P.means port.new) }
     ensures rise { Rise (P.floors port.old) (P.floors port.new) }
 {
@@ -169,10 +171,10 @@ fn wait<P: Port>(
 }
 
 /// A turn in phase Gap: from the tick `until` on the next frame's bytes are collected.
-fn pause<P: Port>(set: &TxSet, live: Live, until: Tick, tick: Tick, port: &mut P) -> Outcome
+fn pause<P: Port>(set: &TxSet, live: Transmission, until: Tick, tick: Tick, port: &mut P) -> Outcome
     requires shape { IsShape set.now.shape }
     requires knows { KnowsToken (P.view port.old) set.now (live.at.seq + 1) live }
-    ensures step { Over (InGap set.now (sending_of live) until.0) (P.floors port.old) (P.view port.old) (P.view port.new) (did_of tick.0 result) }
+    ensures step { OverRow (InGap set.now (transmission_of live) until.0) (P.floors port.old) (P.view port.old) (P.view port.new) tick.0 (live.at.seq + 1) result }
     ensures port { KeepsPort set.now (live.at.seq + 1) result.live (P.view port.old) (P.view port.new) (P.means port.old) (P.means port.new) }
     ensures rise { Rise (P.floors port.old) (P.floors port.new) }
 {

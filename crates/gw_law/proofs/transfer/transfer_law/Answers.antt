@@ -1,5 +1,10 @@
+use Rattle.gw_law.proofs.OtherFrames.{others-pass}
 use Rattle.gw_law.proofs.TxLaw.{law}
+use Rattle.gw_law.specs.Transfer.{transfer_of}
 use Rattle.gw_law.proofs.transfer.transfer_law.Goals as goal
 
-pub returns : goal.returns
-returns c = law
+pub returns-clause-own : goal.returns-clause-own
+returns-clause-own c = law
+
+pub returns-clause-channel : goal.returns-clause-channel
+returns-clause-channel c = λ set turns frames sound happened are. others-pass (transfer_of set turns) frames (law set turns sound happened) are

@@ -1,6 +1,6 @@
 use Rattle.std.proofs.Common.{◌-◌}
+use Rattle.tp_sender.specs.Port.{ReadsSome}
 use Rattle.hub_core.specs.Floors.{Rise}
-use Rattle.tp_sender.specs.Over.{ReadsSome}
 use Rattle.tp_sender.proofs.turn.read_cells.Given as goal
 
 abbrev pub invariant-loop-port : goal.invariant-loop-port

@@ -1,5 +1,5 @@
 use Rattle.std.proofs.Common.{ap, ◌∙◌, rules}
-use Rattle.tp_sender.specs.Sending.{box_then}
+use Rattle.tp_sender.specs.Runs.{box_then}
 use Rattle.gw_run.proofs.Leavings.{control-leaves}
 use Rattle.gw_run.proofs.gateway.Gateway.leave_control.Goals as goal
 
@@ -9,9 +9,9 @@ returns c =
     let gone = c.in_ok-leave.ensures in
     control-leaves c.args.self.now.control c.args.self.now c.tell_receiver.new.self c.args.tick.0 (search rules)
     (record {
-      move = told.move;
+      did = told.did;
       stepped = told.stepped;
-      lies_is = told.lies_is ∙ ap (λ l. box_then told.move.act l) gone.none;
+      lies_is = told.lies_is ∙ ap (λ l. box_then told.did.act l) gone.none;
       controls_are = told.controls_are ∙ gone.left;
       sessions = told.sessions;
       moves = told.moves;

@@ -1,5 +1,5 @@
 use Rattle.std.proofs.Common.{ap, ◌∙◌, rules}
-use Rattle.tp_sender.specs.Sending.{box_then}
+use Rattle.tp_sender.specs.Runs.{box_then}
 use Rattle.gw_run.proofs.Leavings.{frame-leaves}
 use Rattle.gw_run.proofs.gateway.Gateway.leave_frame.Goals as goal
 
@@ -9,9 +9,9 @@ returns c =
     let gone = c.in_ok-leave.ensures in
     frame-leaves c.args.self.now.frame c.args.self.now c.tell_sender.new.self c.args.tick.0 (search rules)
     (record {
-      move = told.move;
+      turn = told.turn;
       stepped = told.stepped;
-      lies_is = told.lies_is ∙ ap (λ l. box_then told.move.did.act l) gone.none;
+      lies_is = told.lies_is ∙ ap (λ l. box_then told.turn.did.act l) gone.none;
       frames_are = told.frames_are ∙ gone.left;
       dests = told.dests;
       moves = told.moves;

@@ -9,7 +9,7 @@ returns c =
     let kept = c.step-fc.ensures.kept in
     let sizes = kept.pool.sizes in
     record {
-      move = record { tick = c.args.tick.0; calls = over.calls; act = box_meaning_of c.step-fc.result.fc; records = c.step-fc.result.records.items; new = state_of c.step-fc.new.self };
+      did = record { tick = c.args.tick.0; calls = over.calls; act = box_meaning_of c.step-fc.result.fc; records = c.step-fc.result.records.items; new = state_of c.step-fc.new.self };
       stepped = record {
         tick_is = refl;
         row = over.row;

@@ -1,5 +1,5 @@
-use Rattle.std.proofs.Common.{◌≡◌, refl, arith}
-use Rattle.tp_sender.specs.Over.{did_by}
+use Rattle.std.proofs.Common.{◌≡◌, ◌++◌, refl, ap, ◌∙◌, arith}
+use Rattle.tp_sender.specs.Port.{did_by}
 use Rattle.tp_sender.specs.State.{state_of}
 use Rattle.gw_run.proofs.gateway.Gateway.tell_sender.Goals as goal
 
@@ -9,13 +9,13 @@ returns c =
     let means = c.step-boxed.ensures.means in
     let sizes = means.pool.sizes in
     record {
-      move = record { event = c.args.event; calls = over.0; did = did_by c.args.tick.0 c.step-boxed.result (state_of c.step-boxed.new.self).live; next = (state_of c.step-boxed.new.self).next };
+      turn = record { event = c.args.event; did = did_by c.args.tick.0 over.calls c.step-boxed.result (state_of c.step-boxed.new.self) };
       stepped = record {
         event_is = refl;
         tick_is = refl;
-        row = over.2;
-        fresh = over.3;
-        grown = over.1;
+        row = over.row;
+        fresh = over.fresh;
+        grown = over.grown;
         set = c.step-boxed.ensures.set;
         state = refl;
         knows = c.step-boxed.ensures.knows;
@@ -29,6 +29,6 @@ returns c =
       lies_is = c.put.ensures;
       frames_are = refl;
       dests = c.in_ok-note.ensures;
-      moves = c.in_ok-note-2.ensures;
+      moves = c.in_ok-note-2.ensures ∙ ap (λ l. c.args.self.now.moves ++ l) over.moves_are;
       rest = refl;
     }

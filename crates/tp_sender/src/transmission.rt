@@ -22,7 +22,7 @@ pub enum Phase {
 
 /// A session that is being sent.
 #[derive(Debug, Drop)]
-pub struct Live {
+pub struct Transmission {
     pub at: Joined,
     /// The bytes that were read and haven't been offered in a frame.
     pub carry: Carry,
@@ -42,6 +42,6 @@ pub struct Live {
 /// What a step comes to: the session that goes on, where one does, and what is done.
 #[derive(Debug, Drop)]
 pub struct Outcome {
-    pub live: Option<Live>,
+    pub live: Option<Transmission>,
     pub acts: TxActs,
 }

@@ -1,24 +1,17 @@
--- A run of a sender and its channel: moments, the newest first, and what they tell.
-use Rattle.std.specs.Prelude.{ℕ, ◌+◌, ◌≤◌, ◌==◌, if◌then◌else◌, Option, Some, None, option_to_list, List, [], ◌∷◌, ◌++◌}
+-- A run of a sender: its turns, the newest first, what came with them, and what left.
+use Rattle.std.specs.Prelude.{ℕ, ◌+◌, ◌≤◌, ◌==◌, if◌then◌else◌, Option, Some, None, List, [], ◌∷◌, ◌++◌}
 use Rattle.std.specs.List.{flat_map}
 use Rattle.can_frame.specs.Frame.{CanFrame}
+use Rattle.hub_core.specs.Turns.{Happened, state_after}
 use Rattle.hub_core.specs.View.{Event, Took, Refused, Entered, Asked, Put, Published, Joining, Missed, Saw, Read, Closed, Parted}
-use Rattle.hub_core.specs.declared.record.DestRecord.{DestRecord}
 use Rattle.tp_unit.specs.declared.shape.Shape.{Shape}
-use Rattle.tp_unit.specs.Reading.{unit_of}
-use Rattle.tp_unit.specs.Shape.{address_size}
 use Rattle.tp_unit.specs.Unit.{Meaning, SingleFrame, FirstFrame, ConsecutiveFrame, FlowControl, NoUnit, BoxMeaning, Keeps, Offers, Revokes}
 use Rattle.tp_unit.specs.Writing.{frame_of}
 use Rattle.tp_sender.specs.declared.event.TxEvent.{TxEvent}
 use Rattle.tp_sender.specs.declared.event.TxEvent.TheVariants.{Turn, Fc, Left, RunEnd}
 use Rattle.tp_sender.specs.declared.set.TxSet.{TxSet}
-use Rattle.tp_sender.specs.State.{TxState, state_new}
-use Rattle.tp_sender.specs.Table.{TxMove, TxStep, state_after}
-
--- a step of the sender, or another frame of its channel that left, such as a flow control of the channel's receiver
-pub data Moment : Type 0 where
-  Stepped : (m : TxMove) → Moment
-  OtherLeft : (tick : ℕ) → (frame : CanFrame) → Moment
+use Rattle.tp_sender.specs.State.{TxTurn, tx_new}
+use Rattle.tp_sender.specs.Table.{TxStep}
 
 -- a frame that left, with its tick
 pub record Written : Type 0 where
@@ -32,18 +25,6 @@ pub record Answer : Type 0 where
   pub block_size : ℕ
   pub separation : ℕ
 
--- the sender's state
-abbrev pub state_from : List Moment → TxState
-state_from [] = state_new
-state_from (Stepped m ∷ earlier) = state_after m
-state_from (OtherLeft tick frame ∷ earlier) = state_from earlier
-
--- the tick of the last moment
-abbrev pub now_of : List Moment → ℕ
-now_of [] = 0
-now_of (Stepped m ∷ earlier) = m.did.tick
-now_of (OtherLeft tick frame ∷ earlier) = tick
-
 -- what lies in the sender's box: a frame that left is gone, and an act offers one, revokes it or keeps it
 abbrev pub box_once : TxEvent → Option Meaning → Option Meaning
 box_once Turn lies = lies
@@ -56,10 +37,9 @@ box_then Keeps lies = lies
 box_then (Offers meaning) lies = Some meaning
 box_then Revokes lies = None
 
-abbrev pub box_after : List Moment → Option Meaning
+abbrev pub box_after : List TxTurn → Option Meaning
 box_after [] = None
-box_after (Stepped m ∷ earlier) = box_then m.did.act (box_once m.event (box_after earlier))
-box_after (OtherLeft tick frame ∷ earlier) = box_after earlier
+box_after (turn ∷ earlier) = box_then turn.did.act (box_once turn.event (box_after earlier))
 
 -- the frame that an event says has left: what lay in the box, written in the channel's shape
 abbrev pub written_of : Shape → ℕ → Option Meaning → List Written
@@ -72,35 +52,17 @@ written_at shape (Fc fs bs st) tick lies = []
 written_at shape Left tick lies = written_of shape tick lies
 written_at shape RunEnd tick lies = []
 
--- the channel's frames that left, the oldest first
-abbrev pub left_by : Shape → List Moment → List Written
+-- the frames that left, the oldest first
+abbrev pub left_by : Shape → List TxTurn → List Written
 left_by shape [] = []
-left_by shape (Stepped m ∷ earlier) = left_by shape earlier ++ written_at shape m.event m.did.tick (box_after earlier)
-left_by shape (OtherLeft tick frame ∷ earlier) = left_by shape earlier ++ record { tick = tick; frame = frame } ∷ []
+left_by shape (turn ∷ earlier) = left_by shape earlier ++ written_at shape turn.event turn.did.tick (box_after earlier)
 
--- the flow controls that came, the oldest first
-abbrev pub answer_at : TxEvent → ℕ → List Answer
-answer_at Turn tick = []
-answer_at (Fc fs bs st) tick = record { tick = tick; status = fs; block_size = bs; separation = st } ∷ []
-answer_at Left tick = []
-answer_at RunEnd tick = []
-
-abbrev pub answered_by : List Moment → List Answer
-answered_by [] = []
-answered_by (Stepped m ∷ earlier) = answered_by earlier ++ answer_at m.event m.did.tick
-answered_by (OtherLeft tick frame ∷ earlier) = answered_by earlier
-
--- the records of the sessions that ended, the oldest first
-abbrev pub told_by : List Moment → List DestRecord
-told_by [] = []
-told_by (Stepped m ∷ earlier) = told_by earlier ++ option_to_list m.did.ended
-told_by (OtherLeft tick frame ∷ earlier) = told_by earlier
-
--- what the sender's port did and saw, the oldest first
-abbrev pub calls_by : List Moment → List Event
-calls_by [] = []
-calls_by (Stepped m ∷ earlier) = calls_by earlier ++ m.calls
-calls_by (OtherLeft tick frame ∷ earlier) = calls_by earlier
+-- the flow control that came, with its tick
+abbrev pub controls_in : ℕ → TxEvent → List Answer
+controls_in tick Turn = []
+controls_in tick (Fc fs bs st) = record { tick = tick; status = fs; block_size = bs; separation = st } ∷ []
+controls_in tick Left = []
+controls_in tick RunEnd = []
 
 -- the length, in bytes, of a session that a call joined
 abbrev pub len_joined : Event → List ℕ
@@ -155,20 +117,17 @@ after_left (Fc fs bs st) tick before = before
 after_left Left tick before = tick + 1
 after_left RunEnd tick before = before
 
-abbrev pub clear_from : List Moment → ℕ
+abbrev pub clear_from : List TxTurn → ℕ
 clear_from [] = 0
-clear_from (Stepped m ∷ earlier) = after_left m.event m.did.tick (clear_from earlier)
-clear_from (OtherLeft tick frame ∷ earlier) = clear_from earlier
+clear_from (turn ∷ earlier) = after_left turn.event turn.did.tick (clear_from earlier)
 
 -- the order of work in a tick: flow controls come before frames leave
-abbrev pub InOrder : TxEvent → ℕ → List Moment → Type 0
+abbrev pub InOrder : TxEvent → ℕ → List TxTurn → Type 0
 InOrder Turn tick earlier = Unit {0}
 InOrder (Fc fs bs st) tick earlier = clear_from earlier ≤ tick
 InOrder Left tick earlier = Unit {0}
 InOrder RunEnd tick earlier = Unit {0}
 
--- these moments are a run: ticks never fall, each step is one of the table's, and no other data frame left
-abbrev pub Happened : TxSet → List Moment → Type 0
-Happened set [] = Unit {0}
-Happened set (Stepped m ∷ earlier) = (now_of earlier ≤ m.did.tick) × InOrder m.event m.did.tick earlier × TxStep set (state_from earlier) m × Happened set earlier
-Happened set (OtherLeft tick frame ∷ earlier) = (now_of earlier ≤ tick) × IsNoData (unit_of (address_size set.shape) frame) × Happened set earlier
+-- a sender's turns, from the first one on
+abbrev pub HasSent : TxSet → List TxTurn → Type 0
+HasSent set turns = Happened (λ earlier turn. InOrder turn.event turn.did.tick earlier × TxStep set (state_after tx_new earlier) turn.event turn.did) turns

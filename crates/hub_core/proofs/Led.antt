@@ -7,7 +7,7 @@ use Rattle.hub_core.proofs.EveryStep.{Lawful, lawful-of}
 use Rattle.hub_core.proofs.OneGroup.{law}
 use Rattle.hub_core.proofs.Sure.{sure-joint, from}
 use Rattle.hub_core.specs.Alone.{IsRoomOf, IsSeenOf}
-use Rattle.hub_core.specs.Core.{HubState, opening, Step, after, May, MayDo, Leads, IsLed, LedLaw}
+use Rattle.hub_core.specs.Core.{HubState, opening, Step, after, May, MayDo, Leads, IsLed, LedLaw, LeadingLaw}
 use Rattle.hub_core.specs.Floors.{staying, has_left, floors_of}
 use Rattle.hub_core.specs.Joint.{AreStreams}
 use Rattle.hub_core.specs.Tokens.{Holds, Writes, Reads}
@@ -24,6 +24,23 @@ leads-more groups (first ∷ steps) step h last led may = elim led [
   | inl did ↦ inl (did.0, leads-more groups steps step (after first h) last did.1 may)
   | inr stayed ↦ inr (stayed.0, leads-more groups steps step h last stayed.1 may)
 ]
+
+-- every list of steps leads to just one state
+leads-some : (groups : List (List ℕ)) (h : HubState) (steps : List Step) → ((last : HubState) → Leads groups h steps last → ⊥) → ⊥
+leads-some groups h [] none = none h refl
+leads-some groups h (step ∷ steps) none =
+    let may-not : May groups h step → ⊥ = λ may. leads-some groups (after step h) steps (λ last led. none last (inl (may, led))) in
+    leads-some groups h steps (λ last led. none last (inr (may-not, led)))
+
+leads-one : (groups : List (List ℕ)) (h : HubState) (steps : List Step) (last other : HubState) → Leads groups h steps last → Leads groups h steps other → last ≡ other
+leads-one groups h [] last other is too = is ∙ sym too
+leads-one groups h (step ∷ steps) last other led too = elim led [
+  | inl did ↦ elim too [ inl again ↦ leads-one groups (after step h) steps last other did.1 again.1 | inr not ↦ absurd (not.0 did.0) ]
+  | inr stayed ↦ elim too [ inl did ↦ absurd (stayed.0 did.0) | inr again ↦ leads-one groups h steps last other stayed.1 again.1 ]
+]
+
+pub leading : LeadingLaw
+leading groups h steps = record { some = leads-some groups h steps; one = leads-one groups h steps }
 
 -- at the opening, and after each step that may happen
 pub led-opening : (groups : List (List ℕ)) → IsLed groups opening

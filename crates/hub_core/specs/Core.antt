@@ -136,6 +136,11 @@ Leads groups h (step ∷ steps) last = (May groups h step × Leads groups (after
 abbrev pub IsLed : List (List ℕ) → HubState → Type 0
 IsLed groups h = ((steps : List Step) → Leads groups opening steps h → ⊥) → ⊥
 
+-- a list of steps leads to one state alone, and it can't be that it leads to none
+pub record LeadsToOne (groups : List (List ℕ)) (h : HubState) (steps : List Step) : Type 0 where
+  pub some : ((last : HubState) → Leads groups h steps last → ⊥) → ⊥
+  pub one : (last other : HubState) → Leads groups h steps last → Leads groups h steps other → last ≡ other
+
 -- a group's changes have the numbers from 1 on, each once, and are lawful; each of its overflows is one
 pub record IsGroupJournal (sizes : List ℕ) (count free : ℕ) (changes : List Change) (refused : List Refusal) : Type 0 where
   pub count_is : count ≡ length changes
@@ -207,6 +212,10 @@ CoreLaw = (groups : List (List ℕ)) (steps : List Step) (h : HubState) → Lead
 abbrev pub LedLaw : Type 0
 LedLaw = (sizes : List ℕ) (h : HubState) → IsLed (sizes ∷ []) h → AreInOrder h.view.changes → IsQuiet (sizes ∷ []) h.view →
     Joint sizes (length h.view.changes) (replay sizes h.view.changes (length h.view.changes)) h.view
+
+-- so the law says something of every list of steps
+abbrev pub LeadingLaw : Type 0
+LeadingLaw = (groups : List (List ℕ)) (h : HubState) (steps : List Step) → LeadsToOne groups h steps
 
 -- with one group, and where no buffer waits for its free, the view of all ports is joint in the words of a port
 abbrev pub OneGroupLaw : Type 0

@@ -1,4 +1,4 @@
-ghost use Rattle.hub_core.specs.Core.{CoreLaw, LedLaw, OneGroupLaw};
+ghost use Rattle.hub_core.specs.Core.{CoreLaw, LeadingLaw, LedLaw, OneGroupLaw};
 ghost use Rattle.hub_core.specs.Parts.{AgainLaw, JoinLaw, MergingLaw};
 
 /// After every list of steps, by any parties in any order, over any groups of buffers, paths and destinations, the views
@@ -6,6 +6,12 @@ ghost use Rattle.hub_core.specs.Parts.{AgainLaw, JoinLaw, MergingLaw};
 #[tactic(auto, using(crate::proofs::EveryStep::core))]
 pub fn core_law()
     ensures { CoreLaw }
+{}
+
+/// Every list of steps leads from a state to just one, so that `core_law` says something of each.
+#[tactic(auto, using(crate::proofs::Led::leading))]
+pub fn leading_law()
+    ensures { LeadingLaw }
 {}
 
 /// Over one group, where no buffer waits for its free, the law says that the view of all ports is joint.

@@ -275,11 +275,25 @@ module _ (d : ℕ) (keep : Bool) (p : ℕ) (l : Lane) (q : IsQueue d keep p l) w
   refused_for : (k : ℕ) (u : UnitOf) (count at : ℕ) → slice_get l.offers k ≡ Some (record { unit = u; answer = Refused count at }) → IsRefused d keep l k
   refused_for k u count at is = let c = q.caused k (record { unit = u; answer = Refused count at }) is in record { keeps = c.0; full = omega (arith, c.2) }
 
+  -- after a unit at the position or later none is taken or flushed
+  not_taken : (j : ℕ) (u : UnitOf) → p ≤ j → slice_get us j ≡ Some u → (k : ℕ) → u.number < k → times (taken_units l.takes) k ≡ 0
+  not_taken j u on is k above = dite (dec_lt 0 (times (taken_units l.takes) k))
+      (λ some. let r = taking-found l.takes k some in
+      let low = taken_below r.0 r.1 r.2 in
+      let rise = queued-rise 0 l.offers numbered r.1.position j r.1.unit u (omega (arith, low, on)) (q.units r.0 r.1 r.2) is in
+      absurd (omega (arith, rise, r.3, above)))
+      (λ no. omega (arith, no))
+
+  not_flushed_by : (j : ℕ) (u : UnitOf) → p ≤ j → slice_get us j ≡ Some u → (k : ℕ) → u.number < k → (b : Bool) → keep ≡ b → flushed l.offers k ≡ 0
+  not_flushed_by j u on is k above true e = keeps_all e k
+  not_flushed_by j u on is k above false e = let n = number_at e j u is in let none = q.left k (omega (arith, n, on, above)) in omega (arith, none)
+
   pub fates : AreFates d keep p l
   fates = record {
     one = one_fate;
     flushed_units = flushed_by_unit;
     refused_units = refused_for;
+    held_last = λ j u on is k above. (not_taken j u on is k above, not_flushed_by j u on is k above keep refl);
     in_order = λ i j s t less first second.
         queued-rise 0 l.offers numbered s.position t.position s.unit t.unit (q.rising i j s t less first second) (q.units i s first) (q.units j t second);
   }

@@ -44,6 +44,9 @@ pub record AreFates (depth : ℕ) (keep : Bool) (position : ℕ) (lane : Lane) :
   pub flushed_units : (k : ℕ) → 0 < flushed lane.offers k → IsFlushed depth keep lane k
   pub refused_units : (k : ℕ) (unit : UnitOf) (count at : ℕ) →
       slice_get lane.offers k ≡ Some (record { unit = unit; answer = Refused count at }) → IsRefused depth keep lane k
+  -- a unit after one that the queue still holds was neither taken nor flushed; so it is held too, or was refused
+  pub held_last : (j : ℕ) (unit : UnitOf) → position ≤ j → slice_get (queued lane.offers) j ≡ Some unit →
+      (k : ℕ) → unit.number < k → (times (taken_units lane.takes) k ≡ 0) × (flushed lane.offers k ≡ 0)
   -- units are taken in the order in which they were offered
   pub in_order : (i j : ℕ) (first second : Taking) → i < j → slice_get lane.takes i ≡ Some first →
       slice_get lane.takes j ≡ Some second → first.unit.number < second.unit.number

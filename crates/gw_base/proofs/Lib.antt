@@ -1,2 +1,3 @@
 pub mod Cells
 mod Padding
+pub mod Lists

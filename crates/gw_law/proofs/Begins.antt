@@ -18,7 +18,7 @@ use Rattle.tp_receiver.specs.declared.set.RxSet.{RxSet}
 use Rattle.tp_unit.specs.Unit.{Meaning, SingleFrame, FirstFrame, ConsecutiveFrame, FlowControl, NoUnit}
 use Rattle.gw_law.specs.Source.{CountsFrom, opened_by, sessions_in}
 use Rattle.gw_law.proofs.Openings.{entry_by}
-use Rattle.gw_law.proofs.Lists.{all-join, slice_get-more}
+use Rattle.gw_base.proofs.Lists.{all-join, slice_get-more}
 use Rattle.hub_core.proofs.Growing.{slice_get-pushed}
 
 -- the tick of a call that entered a session

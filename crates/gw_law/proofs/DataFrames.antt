@@ -18,7 +18,7 @@ use Rattle.tp_sender.specs.declared.set.TxSet.{TxSet}
 use Rattle.tp_unit.specs.Shape.{fits_shape, part_of_start}
 use Rattle.tp_unit.specs.Unit.{BoxMeaning, Keeps, Offers, Revokes, Meaning, SingleFrame, FirstFrame, ConsecutiveFrame}
 use Rattle.gw_law.specs.Emission.{WritesData}
-use Rattle.gw_law.proofs.Lists.{all-join}
+use Rattle.gw_base.proofs.Lists.{all-join}
 
 -- a data frame that fits the shape
 pub record IsFitting (set : TxSet) (meaning : Meaning) : Type 0 where

@@ -30,7 +30,7 @@ use Rattle.gw_law.proofs.SourceLaws.{idle-of, source_law_of}
 use Rattle.gw_law.proofs.Tellings.{TellsPut}
 use Rattle.gw_law.proofs.TxLaw.{law}
 use Rattle.gw_law.proofs.TxReadings.{readings}
-use Rattle.gw_law.proofs.Lists.{all-weaker, mapped-at, zip-all}
+use Rattle.gw_base.proofs.Lists.{all-weaker, mapped-at, zip-all}
 
 -- the record that opened a session, its unit, and what it tells of it
 pub record Found (R : Cut Seen → SessionRecord → Type 0) (units : List (Cut Seen)) (records : List SessionRecord) (seq : ℕ) (entry : Entry) : Type 0 where

@@ -16,7 +16,7 @@ use Rattle.gw_law.specs.Emission.{BusLaw, EmissionLaw, NeverFall, WritesControl,
 use Rattle.gw_law.specs.Run.{AnswersIn, AreTicks, CameIn, ControlLeaves, EndsReceiving, FrameLeaves, IsAnswerIn, IsEnd, IsFull, IsStepIn, ReceivesIn, SendsIn, Work, control_after, control_at, control_once, controls_by, moments_of, tick_after, turns_of}
 use Rattle.gw_law.proofs.DataFrames.{AreSteps, are-data}
 use Rattle.gw_law.proofs.Offers.{IsControl, IsControlAct, control-act, control-fits}
-use Rattle.gw_law.proofs.Lists.{all-join}
+use Rattle.gw_base.proofs.Lists.{all-join}
 use Rattle.gw_law.proofs.WholeRun.{WholeRun, route, works_of}
 
 -- the ticks strictly rise, from this one on and below that one

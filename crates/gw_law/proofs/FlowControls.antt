@@ -25,7 +25,7 @@ use Rattle.gw_law.proofs.Owed.{Answers, Facts, Gone, HasLeft, IdleSo, IsOpening,
 use Rattle.gw_law.proofs.Owed.{LetsCome as Lets}
 use Rattle.gw_law.proofs.Places.{attempt-of, start-of, starts_in}
 use Rattle.gw_law.proofs.SourceLaws.{source_law_of}
-use Rattle.gw_law.proofs.Lists.{all-at, all-both, all-split, all-weaker, same-some, there-at, zip-pair}
+use Rattle.gw_base.proofs.Lists.{all-at, all-both, all-split, all-weaker, same-some, there-at, zip-pair}
 use Rattle.gw_law.proofs.WholeRun.{WholeRun, route, works_of}
 
 -- a flow control of the channel is read as it was written

@@ -17,7 +17,7 @@ use Rattle.tp_unit.specs.Unit.{Meaning}
 use Rattle.gw_law.specs.Run.{AnswersIn, AreTicks, CameIn, ControlLeaves, EndsReceiving, FrameLeaves, IsAnswerIn, IsStepIn, ReceivesIn, SendsIn, Work, control_after, moments_of, tick_after, turns_of}
 use Rattle.gw_law.proofs.Origins.{InTicks}
 use Rattle.gw_law.proofs.Wholes.{AsFar, as-far, as-far-whole}
-use Rattle.gw_law.proofs.Lists.{all-join, all-weaker}
+use Rattle.gw_base.proofs.Lists.{all-join, all-weaker}
 use Rattle.gw_law.proofs.WholeRun.{WholeRun, works_of}
 
 -- each turn is of such a tick

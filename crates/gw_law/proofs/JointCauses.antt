@@ -44,7 +44,7 @@ use Rattle.gw_law.proofs.JointTicks.{end-tells, moments-told}
 use Rattle.gw_law.proofs.JointWaits.{none-waits}
 use Rattle.gw_law.proofs.Timely.{timely}
 use Rattle.gw_law.proofs.TransmissionCauses.{causes}
-use Rattle.gw_law.proofs.Lists.{all-at, slice_get-more, zip-back}
+use Rattle.gw_base.proofs.Lists.{all-at, slice_get-more, zip-back}
 use Rattle.gw_law.proofs.Wholes.{AsFar, as-far, as-far-whole, as-far-within, route-delivers, route-source}
 use Rattle.gw_law.proofs.WholeRun.{WholeRun, route, works_of}
 

@@ -31,7 +31,7 @@ use Rattle.gw_law.proofs.JointSessions.{IsLeft, IsOpenedAs}
 use Rattle.gw_law.proofs.JointTicks.{moments-told, turns-told}
 use Rattle.gw_law.proofs.SoFars.{IsOver}
 use Rattle.gw_law.proofs.SourceLaws.{HoldsBy, holds}
-use Rattle.gw_law.proofs.Lists.{all-at, all-join, slice_get-more}
+use Rattle.gw_base.proofs.Lists.{all-at, all-join, slice_get-more}
 use Rattle.gw_law.proofs.Wholes.{AsFar, AsFarWithin}
 
 -- numbers that count up stand once

@@ -3,7 +3,7 @@ use Rattle.std.proofs.Common.{◌≡◌, ◌≢◌, ℕ, ◌≤◌, zero, suc, S
 use Rattle.std.specs.Prelude.{slice_get}
 use Rattle.std.specs.List.{AllByRecursion}
 use Rattle.hub_core.specs.View.{change_at}
-use Rattle.gw_law.proofs.Lists.{at-next, get-append, slice_get-more}
+use Rattle.gw_base.proofs.Lists.{at-next, get-append, slice_get-more}
 use Rattle.hub_core.proofs.Growing.{slice_get-pushed}
 
 -- the other places stay

@@ -18,7 +18,7 @@ use Rattle.tp_sender.specs.Frame.{part_after}
 use Rattle.tp_sender.specs.Table.{next_part}
 use Rattle.tp_sender.specs.declared.set.TxSet.{TxSet}
 use Rattle.gw_law.proofs.JointLists.{Before, Has, Last, Pushed, has-last, has-more, other-place, pushed}
-use Rattle.gw_law.proofs.Lists.{all-push, all-weaker, slice_get-more}
+use Rattle.gw_base.proofs.Lists.{all-push, all-weaker, slice_get-more}
 
 -- all that was seen is read, and it is fewer bytes than the next frame takes
 pub record IsScant (set : TxSet) (sent : ℕ) (r : Reading) : Type 0 where

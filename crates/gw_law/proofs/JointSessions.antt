@@ -12,7 +12,7 @@ use Rattle.hub_core.specs.declared.record.SessionRecord.{SessionRecord}
 use Rattle.hub_core.specs.declared.record.SessionResult.TheVariants.{NoReaders}
 use Rattle.tp_receiver.specs.declared.set.RxSet.{RxSet}
 use Rattle.gw_law.proofs.JointLists.{Before, Has, Last, Pushed, has-last, has-more, other-place, pushed}
-use Rattle.gw_law.proofs.Lists.{all-push, all-weaker, slice_get-more}
+use Rattle.gw_base.proofs.Lists.{all-push, all-weaker, slice_get-more}
 
 -- a session: all its cells and so many bytes are published, for the path's destinations
 pub record IsPut (set : RxSet) (len bytes : ℕ) (s : Session) : Type 0 where

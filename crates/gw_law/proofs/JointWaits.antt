@@ -32,7 +32,7 @@ use Rattle.gw_law.specs.TransmissionCauses.{IsCausedWith, IsLate, TransmissionCa
 use Rattle.gw_law.proofs.JointEnds.{once}
 use Rattle.gw_law.proofs.Pieces.{CutIn, bytes-most, cuts-in}
 use Rattle.gw_law.proofs.TxCausesLists.{answer-above, left-all}
-use Rattle.gw_law.proofs.Lists.{all-at, all-map, all-weaker, zip-index, zip-pair}
+use Rattle.gw_base.proofs.Lists.{all-at, all-map, all-weaker, zip-index, zip-pair}
 use Rattle.tp_attempts.proofs.Cuts.{cuts-starts}
 
 -- each further piece carries what is due

@@ -18,7 +18,7 @@ use Rattle.tp_sender.specs.State.{TxState, TxTurn, tx_new, Transmission, TxDid}
 use Rattle.tp_sender.specs.Table.{Ends, FrameLeft, GoesOn, IdleRow, InAnswer, InBytes, InStart, InTurn, InWait, Lacks, LiveRow, TxRow, all_sent, fetched, in_phase, joined_in, revoked, wait_of}
 use Rattle.tp_sender.specs.Table.{AsksToWait, Continues, Due, Enough, FindsOne, FirstLeft, GapLasts, GapOver, IsInvalid, Joins, LastLeft, MayCome, NeverReached, NextLeft, NotDue, NotReached, NothingStands, NothingToSend, Overflows, Reached, Short, TooLate, WriterGone}
 use Rattle.tp_unit.specs.Unit.{BoxMeaning, Keeps}
-use Rattle.gw_law.proofs.Lists.{all-join, all-weaker}
+use Rattle.gw_base.proofs.Lists.{all-join, all-weaker}
 
 -- of the session that is sent, and of the record that is told
 abbrev pub OfLive : (ℕ → ℕ → Type 0) → Option Transmission → Type 0

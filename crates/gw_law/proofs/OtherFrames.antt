@@ -10,7 +10,7 @@ use Rattle.tp_sender.specs.State.{Transmission}
 use Rattle.tp_unit.specs.Unit.{Meaning, SingleFrame, FirstFrame, ConsecutiveFrame, FlowControl, NoUnit}
 use Rattle.hub_core.specs.declared.record.DestRecord.{DestRecord}
 use Rattle.gw_law.specs.Delivery.{Delivers, Delivery, DeliveryLaw, Names}
-use Rattle.gw_law.proofs.Lists.{all-weaker}
+use Rattle.gw_base.proofs.Lists.{all-weaker}
 use Rattle.gw_law.specs.Transfer.{GoesOnWith, Paced, Sends, SendsFor, Tells, Transfer, TransferLaw, has_sent, is_consecutive, is_data}
 
 -- a cut without the items that aren't kept

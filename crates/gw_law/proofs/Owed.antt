@@ -17,7 +17,7 @@ use Rattle.tp_unit.specs.Writing.{frame_of}
 use Rattle.gw_law.specs.FlowControls.{IsFirst}
 use Rattle.gw_law.specs.Source.{is_overflow}
 use Rattle.gw_law.proofs.Effects.{is_run_end}
-use Rattle.gw_law.proofs.Lists.{all-both, all-push, all-weaker, at-next, same-some, slice_get-more}
+use Rattle.gw_base.proofs.Lists.{all-both, all-push, all-weaker, at-next, same-some, slice_get-more}
 use Rattle.hub_core.proofs.Growing.{slice_get-pushed}
 
 -- what is told of a source channel so far: the present tick, one below which all flow controls left, what lies in the box,

@@ -26,7 +26,7 @@ use Rattle.tp_sender.specs.declared.set.TxSet.{TxSet}
 use Rattle.tp_sender.specs.Table.{Ends as EndsSending, FrameLeft, IdleRow, InAnswer, InBytes, InStart, InTurn, InWait, Lacks, LiveRow, TxRow, all_sent, fetched, in_phase, joined_in, revoked, wait_of}
 use Rattle.tp_sender.specs.Table.{AsksToWait, Continues as FcContinues, Due, Enough, FindsOne, FirstLeft, GapLasts, GapOver, IsInvalid, Joins, LastLeft, MayCome, NeverReached, NextLeft, NotDue, NotReached, NothingStands, NothingToSend, Overflows as FcOverflows, Reached, Short, TooLate, WriterGone}
 use Rattle.tp_unit.specs.Unit.{BoxMeaning, Keeps, Meaning, SingleFrame, FirstFrame, ConsecutiveFrame, FlowControl, NoUnit}
-use Rattle.gw_law.proofs.Lists.{all-join}
+use Rattle.gw_base.proofs.Lists.{all-join}
 
 -- a call of a path's writer, or its use of the pool
 abbrev pub OfWriter : ℕ → Event → Type 0

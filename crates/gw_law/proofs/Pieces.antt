@@ -13,7 +13,7 @@ use Rattle.tp_attempts.proofs.Prefixes.{Onward, goes_on}
 use Rattle.tp_unit.specs.Unit.{Meaning, SingleFrame, FirstFrame, ConsecutiveFrame, FlowControl, NoUnit}
 use Rattle.gw_law.specs.Timely.{bytes_to}
 use Rattle.gw_law.proofs.Fronts.{More}
-use Rattle.gw_law.proofs.Lists.{all-at, all-push}
+use Rattle.gw_base.proofs.Lists.{all-at, all-push}
 
 -- a cut whose items all have that
 abbrev pub CutIn : {T : Type 0} → (T → Type 0) → Cut T → Type 0

@@ -7,7 +7,7 @@ use Rattle.tp_attempts.specs.Attempts.{attempts_in}
 use Rattle.tp_attempts.specs.Cuts.{Cut, before_start, cuts}
 use Rattle.tp_attempts.specs.Seen.{Seen, is_start}
 use Rattle.tp_receiver.specs.declared.set.RxSet.{RxSet}
-use Rattle.gw_law.proofs.Lists.{mapped-at}
+use Rattle.gw_base.proofs.Lists.{mapped-at}
 
 -- the starts among the frames
 abbrev pub starts_in : RxSet → List Seen → List Seen

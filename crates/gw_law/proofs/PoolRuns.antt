@@ -25,7 +25,7 @@ use Rattle.gw_law.proofs.Standing.{IsUsed, Stands, takes_of}
 use Rattle.gw_law.proofs.StandingReader.{moments-step, session_of as sent_session}
 use Rattle.gw_law.proofs.StandingWriter.{session_of, turns-step}
 use Rattle.gw_law.proofs.Wholes.{sessions-own}
-use Rattle.gw_law.proofs.Lists.{all-join, mapped-at, slice_get-more}
+use Rattle.gw_base.proofs.Lists.{all-join, mapped-at, slice_get-more}
 use Rattle.gw_law.proofs.WholeRun.{WholeRun, route, works_of}
 use Rattle.hub_core.proofs.Growing.{slice_get-pushed}
 use Rattle.hub_core.proofs.Turns.{calls-append, happened-front}

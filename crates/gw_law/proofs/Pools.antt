@@ -32,7 +32,7 @@ use Rattle.gw_law.proofs.Deliveries.{find}
 use Rattle.gw_law.proofs.FreeSets.{whole-again}
 use Rattle.gw_law.proofs.Openings.{Denied, Entry, Granted, Outcome, entries-are, entries_told, entry_told, need_by, need_in, needs_by, openings, outcome_by, outcome_going, outcome_of, outcome_told, writing}
 use Rattle.gw_law.proofs.SourceLaws.{source_law_of}
-use Rattle.gw_law.proofs.Lists.{mapped-at, zip-both}
+use Rattle.gw_base.proofs.Lists.{mapped-at, zip-both}
 
 -- the moves of changes, by their numbers
 picked : (b : Bool) (x : Change) (change : Option Change) (move : Option Move) → move ≡ option_map move_of change → cond b (Some (move_of x)) move ≡ option_map move_of (cond b (Some x) change)

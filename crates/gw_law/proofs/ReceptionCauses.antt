@@ -31,7 +31,7 @@ use Rattle.gw_law.proofs.RxRooms.{rooms}
 use Rattle.gw_law.proofs.RxSettled.{AreSettled, Comes, IsLast, IsSettled, starts_of}
 use Rattle.gw_law.proofs.RxTicks.{AreOver, ordered, over_of}
 use Rattle.gw_law.proofs.SourceLaws.{source_law_of}
-use Rattle.gw_law.proofs.Lists.{none-some, zip-push}
+use Rattle.gw_base.proofs.Lists.{none-some, zip-push}
 use Rattle.gw_law.proofs.WholeRun.{WholeRun, route, works_of}
 
 last-is : (begin at : ℕ) (pieces : List Piece) → IsLast at pieces → last_place begin pieces ≡ at

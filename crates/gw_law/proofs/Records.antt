@@ -17,7 +17,7 @@ use Rattle.gw_law.specs.Run.{Route, Work, moments_of, turns_of}
 use Rattle.gw_law.proofs.FlowControls.{IsKnown, begins-at, known-of-run, start-at}
 use Rattle.gw_law.proofs.Fronts.{IsTimed, TurnIn, WorkIn, moments-in, rises-below, run-rising, run-timed, turns-in}
 use Rattle.gw_law.proofs.JointTicks.{EndsAt, tells-now}
-use Rattle.gw_law.proofs.Lists.{all-at, all-join, all-push, all-weaker, at-next}
+use Rattle.gw_base.proofs.Lists.{all-at, all-join, all-push, all-weaker, at-next}
 use Rattle.gw_law.proofs.Origins.{InTicks, IsToldBy, OfLive, row-by, told-by}
 use Rattle.gw_law.proofs.WholeRun.{WholeRun, route, works_of}
 

@@ -37,7 +37,7 @@ use Rattle.gw_law.proofs.RxTicks.{AreOrdered, Follows, IsReady, over_by, over_of
 use Rattle.gw_law.proofs.SoFars.{IsBusy, IsUnderway, due-is}
 use Rattle.gw_law.proofs.SourceLaws.{HoldsBy, holds}
 use Rattle.gw_law.proofs.Tellings.{with_frame}
-use Rattle.gw_law.proofs.Lists.{all-last, all-push, zip-push}
+use Rattle.gw_base.proofs.Lists.{all-last, all-push, zip-push}
 use Rattle.hub_core.proofs.Growing.{slice_get-pushed}
 
 -- what is waited for: in the box the flow control lies since this tick, and after that it left in the tick of the start

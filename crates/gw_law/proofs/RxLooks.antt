@@ -17,7 +17,7 @@ use Rattle.gw_law.specs.Run.{AreLooks, AreTicks, LooksCount, Work, moments_of, t
 use Rattle.gw_law.proofs.RxRooms.{AllLook, LooksWell}
 use Rattle.gw_law.proofs.Sessions.{AllFilled, all-filled, stored_in}
 use Rattle.gw_law.proofs.Wholes.{OwnSessions, sessions-own}
-use Rattle.gw_law.proofs.Lists.{all-front}
+use Rattle.gw_base.proofs.Lists.{all-front}
 use Rattle.hub_core.proofs.Growing.{grows-append}
 use Rattle.hub_core.proofs.Turns.{calls-append, happened-front}
 use Rattle.gw_law.proofs.Beside.{sessions-grown}

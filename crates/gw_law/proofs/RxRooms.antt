@@ -24,7 +24,7 @@ use Rattle.tp_unit.specs.Unit.{Meaning, SingleFrame, FirstFrame, ConsecutiveFram
 use Rattle.gw_law.specs.ReceptionCauses.{HasRoom, IsShortStart}
 use Rattle.gw_law.proofs.Sessions.{AllFilled, all-filled, cells_at}
 use Rattle.gw_law.proofs.Stores.{cells_in-puts}
-use Rattle.gw_law.proofs.Lists.{all-front, all-join, all-last}
+use Rattle.gw_base.proofs.Lists.{all-front, all-join, all-last}
 
 -- at most seven bytes are one cell
 one-cell : (bytes cells : List ℕ) → IsPacked bytes cells → length bytes ≤ 7 → length cells ≤ 1

@@ -16,7 +16,8 @@ use Rattle.tp_attempts.proofs.Walks.{look-full, walk_of-more}
 use Rattle.tp_receiver.specs.declared.set.RxSet.{RxSet}
 use Rattle.gw_law.specs.ReceptionCauses.{IsFoundBy, IsSilent, LetGoIn}
 use Rattle.gw_law.proofs.Tellings.{Looked, looked, with_frame}
-use Rattle.gw_law.proofs.Lists.{all-front, all-join, slice_get-more, zip-grow, zip-weaker}
+use Rattle.gw_base.proofs.Lists.{all-front, all-join, slice_get-more, zip-weaker}
+use Rattle.gw_law.proofs.Lists.{zip-grow}
 
 -- the last piece stands in that tick
 pub record IsLast (at : ℕ) (pieces : List Piece) : Type 0 where

@@ -9,7 +9,7 @@ use Rattle.std.specs.List.{AllByRecursion}
 use Rattle.tp_receiver.specs.declared.set.RxSet.{RxSet}
 use Rattle.tp_unit.specs.Unit.{Keeps, Meaning}
 use Rattle.gw_law.specs.Run.{Work, AreTicks, CameIn, ControlLeaves, control_after, control_once, tick_after, turns_of}
-use Rattle.gw_law.proofs.Lists.{none-some}
+use Rattle.gw_base.proofs.Lists.{none-some}
 use Rattle.hub_core.proofs.Turns.{happened-front}
 
 -- the tick from which on the next frame may come

@@ -26,7 +26,7 @@ use Rattle.gw_law.proofs.SoFars.{AreTold, IsBusy}
 use Rattle.gw_law.proofs.SourceLaws.{HoldsBy, holds, source_law_of}
 use Rattle.gw_law.proofs.Stores.{store}
 use Rattle.gw_law.proofs.Tellings.{TellsPut}
-use Rattle.gw_law.proofs.Lists.{all-at, get-append, slice_get-more, zip-at, zip-back, zip-long}
+use Rattle.gw_base.proofs.Lists.{all-at, get-append, slice_get-more, zip-at, zip-back, zip-long}
 use Rattle.hub_core.proofs.Growing.{slice_get-pushed}
 use Rattle.hub_core.proofs.Turns.{happened-front}
 

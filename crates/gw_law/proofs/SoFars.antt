@@ -21,7 +21,7 @@ use Rattle.tp_unit.specs.Unit.{ConsecutiveFrame}
 use Rattle.gw_law.specs.Source.{CountsFrom, is_overflow, opened_by, sessions_in}
 use Rattle.gw_law.proofs.Stores.{store, Adds}
 use Rattle.gw_law.proofs.Tellings.{TellsPut, counts-push, looked, with_frame, zip-grow, zip-stored}
-use Rattle.gw_law.proofs.Lists.{all-push, all-weaker, none-some, zip-push}
+use Rattle.gw_base.proofs.Lists.{all-push, all-weaker, none-some, zip-push}
 
 -- a record ended by that tick, and its session is one of the first ones
 pub record IsOver (now seq : ℕ) (told : SessionRecord) : Type 0 where

@@ -20,7 +20,7 @@ use Rattle.tp_receiver.specs.declared.set.RxSet.{RxSet}
 use Rattle.tp_unit.specs.Unit.{BoxMeaning, Keeps, Offers, Meaning, SingleFrame, FirstFrame, ConsecutiveFrame, FlowControl, NoUnit}
 use Rattle.gw_law.specs.Source.{Puts, SourceLaw, StoredLaw, Tells, is_overflow}
 use Rattle.gw_law.proofs.SoFars.{IsBusy, IsIdle, Same, begins, busy-later, busy-passed, closes, closes-wrong, due-is, goes-on, idle-later, idle-other, overflows}
-use Rattle.gw_law.proofs.Lists.{zip-weaker}
+use Rattle.gw_base.proofs.Lists.{zip-weaker}
 use Rattle.gw_law.proofs.Stores.{Adds, adds-cells, store, store-keeps}
 use Rattle.gw_law.proofs.Tellings.{TellsPut}
 

@@ -5,7 +5,7 @@ use Rattle.std.specs.List.{AllByRecursion}
 use Rattle.std.proofs.lemmas.List.{length-append, map-append}
 use Rattle.hub_core.proofs.Growing.{at_one-other, at_one-same, length-change_at, slice_get-pushed}
 use Rattle.hub_core.specs.View.{View, Change, Taken, Freed, Session, Reading, at_one, change_at}
-use Rattle.gw_law.proofs.Lists.{all-join, at-next, slice_get-more}
+use Rattle.gw_base.proofs.Lists.{all-join, at-next, slice_get-more}
 
 -- each item but the one that stands was left, and is as it should be
 abbrev pub AreLeft : {A : Type 0} → (A → Bool) → (A → Type 0) → Option ℕ → List A → Type 0

@@ -12,7 +12,7 @@ use Rattle.tp_attempts.proofs.Cuts.{grow, grow_after}
 use Rattle.tp_attempts.proofs.Walks.{look-ended, walk_of-more}
 use Rattle.tp_unit.specs.Unit.{Meaning, SingleFrame, FirstFrame, ConsecutiveFrame, FlowControl, NoUnit}
 use Rattle.gw_law.specs.Source.{CountsFrom, Covers, Puts, Tells}
-use Rattle.gw_law.proofs.Lists.{all-join}
+use Rattle.gw_base.proofs.Lists.{all-join}
 
 -- the attempt with one more frame
 abbrev pub with_frame : Cut Seen → Seen → Cut Seen

@@ -35,7 +35,7 @@ use Rattle.gw_law.proofs.Sides.{cells_at, cells_at-there}
 use Rattle.gw_law.proofs.SourceLaws.{source_law_of}
 use Rattle.gw_law.proofs.Stores.{store}
 use Rattle.gw_law.proofs.TxLaw.{law, so-far, world_of}
-use Rattle.gw_law.proofs.Lists.{all-at, all-weaker, slice_get-more, zip-index}
+use Rattle.gw_base.proofs.Lists.{all-at, all-weaker, slice_get-more, zip-index}
 use Rattle.gw_law.proofs.TxReadings.{readings}
 use Rattle.gw_law.proofs.TxUpTo.{sent-up-to}
 use Rattle.gw_law.proofs.TxWorld.{SoFar}

@@ -28,7 +28,7 @@ use Rattle.gw_law.proofs.TxCausesFrames.{ended_ticks, frames_by, is_left, live_t
 use Rattle.gw_law.proofs.TxCausesLists.{Splits}
 use Rattle.gw_law.proofs.TxCausesMoments.{Holds, Lives, answer-step, answered-more, left-step, stays-step, turn-step}
 use Rattle.gw_law.proofs.TxCausesSteps.{Counted, Opens, OpensIn, Tells, Turned, came}
-use Rattle.gw_law.proofs.Lists.{all-front, all-join, all-weaker, zip-both}
+use Rattle.gw_base.proofs.Lists.{all-front, all-join, all-weaker, zip-both}
 use Rattle.gw_law.proofs.Deliveries.{none-going}
 use Rattle.gw_law.proofs.WholeRun.{WholeRun, route}
 use Rattle.hub_core.proofs.Turns.{happened-front}

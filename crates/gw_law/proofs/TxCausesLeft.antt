@@ -15,7 +15,7 @@ use Rattle.tp_unit.specs.Shape.{IsShape}
 use Rattle.tp_unit.specs.Unit.{Keeps}
 use Rattle.gw_law.specs.Transfer.{Permits, answer_after}
 use Rattle.gw_law.specs.TransmissionCauses.{AwaitsSince, IsAllowed, IsInTime, IsLate, LeftIn, NoneRefuses, answers_up_to, last_of, latest, left_up_to}
-use Rattle.gw_law.proofs.Lists.{all-push, all-weaker}
+use Rattle.gw_base.proofs.Lists.{all-push, all-weaker}
 use Rattle.gw_law.proofs.TxCausesLists.{Splits, answer-above, answer-late, answers-so-far, last_of-next, latest-same, left-all, left-next, none-after}
 use Rattle.gw_law.proofs.TxCausesSteps.{AllowedFrom, Comes, Continued, Counted, InGapNow, Opens, OpensIn, Stands, Turned, TurnedIn, Waits, Goes, ends, none-by}
 use Rattle.gw_law.proofs.TxLaw.{part-some}

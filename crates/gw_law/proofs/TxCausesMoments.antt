@@ -21,7 +21,7 @@ use Rattle.gw_law.proofs.TxCausesLeft.{left, stays}
 use Rattle.gw_law.proofs.TxCausesLists.{Splits}
 use Rattle.gw_law.proofs.TxCausesSteps.{Comes, Opens, Tells, Turned, Goes, Closes, Rests, answers, came}
 use Rattle.gw_law.proofs.TxCausesTurns.{of-start, turns}
-use Rattle.gw_law.proofs.Lists.{zip-push}
+use Rattle.gw_base.proofs.Lists.{zip-push}
 
 -- what is told of the session that is being sent
 abbrev pub Lives : (List ℕ → Transmission → Type 0) → List ℕ → Option Transmission → Type 0

@@ -16,7 +16,7 @@ use Rattle.tp_unit.specs.Unit.{Keeps}
 use Rattle.gw_law.specs.TransmissionCauses.{AwaitsSince, NoneRefuses, left_up_to}
 use Rattle.gw_law.proofs.TxCausesLists.{Splits, answers-so-far, left-all}
 use Rattle.gw_law.proofs.TxCausesSteps.{AllowedFrom, Comes, InGapNow, Opens, OpensIn, Stands, Turned, TurnedIn, Waits, Goes, allowed-by, at-phase, continued-from, ends, none-by, none-sooner, none-unanswered, waits-anew}
-use Rattle.gw_law.proofs.Lists.{all-weaker}
+use Rattle.gw_base.proofs.Lists.{all-weaker}
 
 -- all that left stands up to the tick
 pub up-to-now : (tick : ℕ) (ticks : List ℕ) → AllByRecursion (λ (at : ℕ). at < tick) ticks → left_up_to tick ticks ≡ ticks

@@ -28,7 +28,8 @@ use Rattle.tp_unit.specs.Unit.{Meaning, ConsecutiveFrame}
 use Rattle.std.proofs.lemmas.List.{map-append}
 use Rattle.gw_law.specs.Transfer.{Sends, SendsFor, Tells, Transfer, has_sent, is_consecutive, ticks_of}
 use Rattle.gw_law.proofs.TxFrames.{Begins, begins, looks-next, seen_unit}
-use Rattle.gw_law.proofs.Lists.{all-push, all-weaker, numbered-next, zip-push, zip-weaker}
+use Rattle.gw_base.proofs.Lists.{all-push, all-weaker, zip-push, zip-weaker}
+use Rattle.gw_law.proofs.Lists.{numbered-next}
 use Rattle.gw_law.proofs.TxMoves.{grows-same, lives-some}
 use Rattle.gw_law.proofs.TxPaces.{MayLeave, paced-next}
 use Rattle.gw_law.proofs.TxWorld.{GoesOn, Grows, IsOnWay, Lives, SoFar, Way, World, Unsent, UnderWay, sends-on, tells-on}

@@ -25,7 +25,8 @@ use Rattle.tp_unit.specs.Unit.{Meaning}
 use Rattle.gw_law.specs.Transfer.{Paced, Sends, SendsFor, Tells, Transfer, answer_after, has_sent, ticks_of}
 use Rattle.gw_law.proofs.TxFrames.{no-consecutive, looks-none, no-start, seen_unit}
 use Rattle.gw_law.proofs.TxLeaves.{ticks-same, OneSent, finishes, leaves-first, leaves-next, record_of, sends-way}
-use Rattle.gw_law.proofs.Lists.{all-weaker, zip-grow, zip-weaker}
+use Rattle.gw_base.proofs.Lists.{all-weaker, zip-weaker}
+use Rattle.gw_law.proofs.Lists.{zip-grow}
 use Rattle.gw_law.proofs.TxMoves.{grows-same, lives-some}
 use Rattle.gw_law.proofs.TxPaces.{MayLeave, counts_after, may-later, may-next}
 use Rattle.gw_law.proofs.TxWorld.{Boxed, GoesOn, IsBoxed, IsOnWay, Lives, Ready, SoFar, Unanswered, Way, World, Unsent, UnderWay, sends-on, so-cut, tells-on}

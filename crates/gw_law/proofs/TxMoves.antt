@@ -18,7 +18,7 @@ use Rattle.tp_sender.specs.Table.{fetched, in_phase, joined_in}
 use Rattle.tp_unit.specs.declared.shape.Shape.{Shape}
 use Rattle.tp_unit.specs.Shape.{address_size, fits_shape}
 use Rattle.gw_law.specs.Transfer.{Transfer, answer_after}
-use Rattle.gw_law.proofs.Lists.{all-push, all-weaker}
+use Rattle.gw_base.proofs.Lists.{all-push, all-weaker}
 use Rattle.gw_law.proofs.TxPaces.{MayLeave, answer-next, counts_after, may-later, may-more, paced-more}
 use Rattle.gw_law.proofs.TxWorld.{Boxed, GoesOn, Grows, IsOnWay, Lives, Ready, SoFar, Unanswered, Way, World, Unsent, UnderWay, so-on}
 use Rattle.hub_core.proofs.Growing.{slice_get-pushed}

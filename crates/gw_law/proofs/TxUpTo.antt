@@ -23,7 +23,7 @@ use Rattle.gw_law.proofs.Fronts.{More, left-more, sent-more}
 use Rattle.gw_law.proofs.Origins.{InTicks, OfLive, OfTold, Originates, originates}
 use Rattle.gw_law.proofs.Pieces.{After, CutFront, CutIn, Within, bytes-front, bytes-most, bytes-none, cut-front, cuts-in, pieces-in}
 use Rattle.gw_law.proofs.TxLaw.{law, so-far, world_of}
-use Rattle.gw_law.proofs.Lists.{all-at, all-map, all-weaker, get-after, get-append, slice_get-more, zip-at, zip-long}
+use Rattle.gw_base.proofs.Lists.{all-at, all-map, all-weaker, get-after, get-append, slice_get-more, zip-at, zip-long}
 use Rattle.gw_law.proofs.TxMoves.{lives-some}
 use Rattle.gw_law.proofs.TxWorld.{GoesOn, Lives, SoFar, World}
 use Rattle.hub_core.proofs.Turns.{happened-front}

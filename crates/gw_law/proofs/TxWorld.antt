@@ -17,7 +17,7 @@ use Rattle.tp_unit.specs.declared.shape.Shape.{Shape}
 use Rattle.tp_unit.specs.Shape.{address_size, fits_shape}
 use Rattle.tp_unit.specs.Unit.{Meaning}
 use Rattle.gw_law.specs.Transfer.{NumberedFrom, Paced, Sends, SendsFor, Tells, Transfer, answer_after, has_sent, ticks_of}
-use Rattle.gw_law.proofs.Lists.{all-weaker, slice_get-more, zip-weaker}
+use Rattle.gw_base.proofs.Lists.{all-weaker, slice_get-more, zip-weaker}
 use Rattle.gw_law.proofs.TxPaces.{MayLeave, paced-more}
 
 -- what is told, and besides: what lies in the box, the tick after the last frame's, the number of the next session

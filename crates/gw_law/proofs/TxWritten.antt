@@ -33,7 +33,7 @@ use Rattle.gw_law.proofs.TxLeaves.{ticks-next}
 use Rattle.gw_law.proofs.TxLeft.{in-box}
 use Rattle.gw_law.proofs.TxMoves.{lives-some}
 use Rattle.gw_law.proofs.TxWorld.{GoesOn, IsBoxed, SoFar, Unsent, UnderWay, Way, World}
-use Rattle.gw_law.proofs.Lists.{all-join}
+use Rattle.gw_base.proofs.Lists.{all-join}
 
 -- the ticks of all transmissions of these frames
 abbrev pub all_ticks : List Seen → List ℕ

@@ -9,7 +9,7 @@ use Rattle.gw_run.specs.Setup.{Bus}
 use Rattle.gw_run.specs.declared.log.Stamped.{Stamped}
 use Rattle.gw_run.specs.Line.{IsBuiltLine, without_return}
 use Rattle.gw_run.specs.Log.{AreBuilt, ended, HasNoFeed, GoesPast, IsBuiltLog, StopsAt}
-use Rattle.gw_law.proofs.Lists.{zip-long}
+use Rattle.gw_base.proofs.Lists.{zip-long}
 
 -- a byte more at the front of the first line
 abbrev begun : ℕ → List (List ℕ) → List (List ℕ)

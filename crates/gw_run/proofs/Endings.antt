@@ -37,7 +37,7 @@ use Rattle.gw_run.proofs.RxTurns.{turn-stands}
 use Rattle.gw_run.proofs.Ticks.{stands-joint, told-same}
 use Rattle.gw_run.proofs.TxMoments.{moment-stands}
 use Rattle.gw_law.proofs.TxCausesEnd.{end-answers}
-use Rattle.gw_law.proofs.Lists.{there-at}
+use Rattle.gw_base.proofs.Lists.{there-at}
 use Rattle.hub_core.proofs.Growing.{grows-append}
 use Rattle.std.proofs.lemmas.Option.{slice_get_within}
 

@@ -24,7 +24,7 @@ use Rattle.gw_run.proofs.Cuts.{built-once, stops-once, stops-or_built, stops-or_
 use Rattle.gw_run.proofs.Refused.{Bad, ConfigEnd, ConfigIs, Good, Long, config-once}
 use Rattle.gw_run.proofs.Setups.{setup-once}
 use Rattle.gw_run.proofs.Starts.{start-once}
-use Rattle.gw_law.proofs.Lists.{same-some}
+use Rattle.gw_base.proofs.Lists.{same-some}
 
 -- ---- how a log ends
 

@@ -13,7 +13,7 @@ use Rattle.std.proofs.lemmas.Bool.{leb-true}
 use Rattle.gw_run.specs.Dated.{AreDated}
 use Rattle.gw_run.specs.Line.{IsBuiltLine, without_return}
 use Rattle.gw_run.specs.Log.{HasNoFeed, ended, AreBuilt, IsBuiltLog, ReadSoFar, ReadsLog, AddsLine}
-use Rattle.gw_law.proofs.Lists.{zip-push}
+use Rattle.gw_base.proofs.Lists.{zip-push}
 
 pub ended-push : (lines : List (List ℕ)) (line : List ℕ) → ended (lines ++ line ∷ []) ≡ ended lines ++ (line ++ 10 ∷ [])
 ended-push lines line = flat_map-append (λ l. l ++ 10 ∷ []) lines (line ∷ []) ∙ ap (λ t. ended lines ++ t) (append-nil (line ++ 10 ∷ []))

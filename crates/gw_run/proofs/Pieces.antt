@@ -4,7 +4,7 @@ use Rattle.std.proofs.Math.Seq.{take-add, take-length}
 use Rattle.gw_depot.specs.Fault.{Blame}
 use Rattle.gw_depot.specs.Files.{Files, OthersStay, AppendsFile, ReadsFile}
 use Rattle.gw_run.specs.Whole.{IsTooLong}
-use Rattle.gw_law.proofs.Lists.{same-some}
+use Rattle.gw_base.proofs.Lists.{same-some}
 
 -- so many bytes of the text were appended, and nothing failed
 pub record Appended (told : Bool) (old new : Files) (name text : List ℕ) (done : ℕ) : Type 0 where

@@ -16,7 +16,7 @@ use Rattle.gw_run.specs.declared.status.ConfigCause.{ConfigCause}
 use Rattle.gw_run.specs.declared.status.ConfigCause.TheVariants.{Fault, Conflict as Contradiction}
 use Rattle.gw_run.specs.Config.{HoldsText, IsRefusedFor, ReadsConfig, SpellsAccepted, files_repeat}
 use Rattle.gw_run.specs.Whole.{IsTooLong}
-use Rattle.gw_law.proofs.Lists.{same-some}
+use Rattle.gw_base.proofs.Lists.{same-some}
 
 -- ---- the first conflict is one
 

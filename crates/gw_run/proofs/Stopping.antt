@@ -17,7 +17,7 @@ use Rattle.gw_run.specs.Line.{IsBuiltLine, without_return}
 use Rattle.gw_run.specs.Log.{HasNoFeed, ended, EndsLine, ReadSoFar, StopsAt, GoesPast, Stops, Refuses, LogStops}
 use Rattle.gw_run.proofs.Logs.{ReadFrom}
 use Rattle.gw_run.proofs.Pieces.{read_within, take-whole}
-use Rattle.gw_law.proofs.Lists.{zip-long}
+use Rattle.gw_base.proofs.Lists.{zip-long}
 
 -- the line at the front of some bytes
 record FrontLine (bytes : List ℕ) : Type 0 where

@@ -88,8 +88,8 @@ pair_taken text bytes rest later high low byte so_far is first second byte_is ro
       digits = omega (arith, so_far.digits, now, long);
       bytes_are = so_far.bytes_are ∙ ap (λ t. bytes ++ t) spelled ∙ sym (append_assoc bytes (byte ∷ []) (hex_bytes (take (prefix_len is_hex later) later)));
       rest_is =
-        let places : 2 * length bytes + 2 ≡ 2 * length (bytes ++ byte ∷ []) = omega (arith, long) in
-        ap (drop 2) (sym is ∙ so_far.rest_is) ∙ drop-drop 2 (2 * length bytes) text ∙ ap (λ n. drop n text) places;
+          let places : 2 * length bytes + 2 ≡ 2 * length (bytes ++ byte ∷ []) = omega (arith, long) in
+          ap (drop 2) (sym is ∙ so_far.rest_is) ∙ drop-drop 2 (2 * length bytes) text ∙ ap (λ n. drop n text) places;
       most = omega (arith, long);
     }
 

@@ -1,5 +1,5 @@
 pub mod Digits
-pub mod Places
-pub mod PlainLemmas
 pub mod Reading
 pub mod Counting
+pub mod ReadLemmas
+pub mod Written

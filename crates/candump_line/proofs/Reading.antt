@@ -1,4 +1,4 @@
--- The digits of a field give its number and its bytes back.
+-- The digits of a field give its number back.
 use Rattle.std.proofs.Common.{◌≡◌, ℕ, zero, suc, ◌+◌, ◌-◌, ◌*◌, ◌/◌, ◌%◌, ◌^◌, ◌<◌, ◌≤◌, List, [], ◌∷◌, ◌++◌, length, slice_index, get_or, take, drop, Some, Result, Ok, Err, inl, inr, refl, sym, ap, ◌∙◌, arith, pow-suc}
 use Rattle.std.specs.Prelude.{All, MatchResult, decimal, replicate}
 use Rattle.std.specs.Char.{digit_value}
@@ -40,7 +40,7 @@ Writes-padded_decimal width value small =
 digit_value-hex : (byte value : ℕ) → hex_digit_value byte ≡ Some value → digit_value byte ≡ value
 digit_value-hex byte value read = grind (arith, nat_tests)
 
-digit_value-upper : (digit : ℕ) → digit < 16 → digit_value (slice_index upper_digits digit) ≡ digit
+pub digit_value-upper : (digit : ℕ) → digit < 16 → digit_value (slice_index upper_digits digit) ≡ digit
 digit_value-upper digit small = digit_value-hex (slice_index upper_digits digit) digit (IsDigits-upper_digits digit small)
 
 pub Writes-hex_number : (width value : ℕ) → value < 16 ^ width → Writes 16 value (hex_number width value)
@@ -54,12 +54,6 @@ Writes-hex_number (suc width) value small =
       all = digits_push 16 (hex_number width (value / 16)) digit before.all (omega (arith, read));
       value = digits_value_push 16 (hex_number width (value / 16)) digit ∙ omega (arith, before.value, read);
     }
-
--- each digit is one of the base
-pub AllDigits-at : (base : ℕ) (digits : List ℕ) (i : ℕ) → AllDigits base digits → i < length digits → digit_value (get_or digits i 0) < base
-AllDigits-at base [] i all inside = absurd (omega arith)
-AllDigits-at base (digit ∷ digits) zero all inside = all.0
-AllDigits-at base (digit ∷ digits) (suc i) all inside = AllDigits-at base digits i all.1 (omega arith)
 
 -- ten digits of a base up to 16 fit
 pub number_fits : (base : ℕ) (digits : List ℕ) (i value scale digit : ℕ) → base ≤ 16 → length digits ≤ 10 → i < length digits →
@@ -77,47 +71,3 @@ pub number_more : (base : ℕ) (digits : List ℕ) (i value scale digit glyph : 
     value ≡ digits_value base (take i digits) → scale ≡ base → digit ≡ digit_value glyph → glyph ≡ get_or digits i 0 →
     value * scale + digit ≡ digits_value base (take (i + 1) digits)
 number_more base digits i value scale digit glyph inside so_far same read at = rw (so_far, same, read, at) (sym (digits_value_more base digits i inside))
-
--- so many digits write a number below that power of their base
-pub digits_below : (base width value : ℕ) (digits : List ℕ) → AllDigits base digits × (value ≡ digits_value base digits) → length digits ≡ width → value < base ^ width
-digits_below base width value digits read many = rw read.1 (rw many at (digits_value-lt base digits read.0))
-
--- a stamp of ten digits and six
-pub stamp_below : (line : List ℕ) (seconds micros : ℕ) → 18 ≤ length line →
-    AllDigits 10 (take 10 (drop 1 line)) × (seconds ≡ digits_value 10 (take 10 (drop 1 line))) →
-    AllDigits 10 (take 6 (drop 12 line)) × (micros ≡ digits_value 10 (take 6 (drop 12 line))) → seconds * 1000000 + micros < 10 ^ 16
-stamp_below line seconds micros long first second =
-    let ten : seconds < 10 ^ 10 = digits_below 10 10 seconds (take 10 (drop 1 line)) first (simp (length-take, length-drop) (omega arith)) in
-    let six : micros < 10 ^ 6 = digits_below 10 6 micros (take 6 (drop 12 line)) second (simp (length-take, length-drop) (omega arith)) in
-    omega arith
-
--- a list of bytes in hex's words
-pub IsBytes-from_All : (bytes : List ℕ) → All (λ b. b < 256) bytes → IsBytes bytes
-IsBytes-from_All bytes all i =
-    elim (cases_lt i (length bytes)) [
-      | inl inside ↦ all i 0 inside
-      | inr past ↦ rw (get_or_past bytes i 0 past) (omega arith)
-    ]
-
-IsBytes-to_All : (bytes : List ℕ) → IsBytes bytes → All (λ b. b < 256) bytes
-IsBytes-to_All bytes small i default inside = rw (get_or_default bytes i default 0 inside) (small i)
-
--- what `decode_to_slice` says
-abbrev Decodes : Result (List ℕ) FromHexError → Result Unit FromHexError → List ℕ → Type 0
-Decodes read result out = MatchResult read (λ bytes. (result ≡ Ok tt) × (out ≡ bytes)) (λ e. result ≡ Err e)
-
--- the digits of bytes are decoded to them
-pub decodes : (digits bytes : List ℕ) (n : ℕ) (result : Result Unit FromHexError) (out : List ℕ) → IsBytes bytes → digits ≡ encode_upper bytes →
-    Decodes (decode_sized digits n) result out → n ≡ length digits / 2 → (result ≡ Ok tt) × (out ≡ bytes)
-decodes digits bytes n result out small hex says same =
-    let twice : length digits ≡ 2 * n = ap length hex ∙ length-encode_with upper_digits bytes ∙ omega (arith, ap length hex, length-encode_with upper_digits bytes) in
-    let read : decode_sized digits n ≡ Ok bytes = decode_sized-twice digits n twice ∙ ap decode_of hex ∙ decode_of-encode_upper bytes small in
-    rw read at says
-
--- what is decoded is bytes
-pub decoded_bytes : (digits out : List ℕ) (n : ℕ) (read : Result (List ℕ) FromHexError) (result : Result Unit FromHexError) →
-    decode_sized digits n ≡ read → Decodes read result out → result ≡ Ok tt → All (λ b. b < 256) out
-decoded_bytes digits out n (Ok bytes) result is says ok =
-    let decoded = decode_of-ok digits bytes (sym (decode_sized-twice digits n (decode_sized-ok digits n bytes is)) ∙ is) in
-    rw says.1 (IsBytes-to_All bytes decoded.3)
-decoded_bytes digits out n (Err e) result is says ok = cc (sym says ∙ ok)

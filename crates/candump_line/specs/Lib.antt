@@ -1,4 +1,3 @@
 pub mod Line
-pub mod Plain
 pub mod Fault
 pub mod Reading

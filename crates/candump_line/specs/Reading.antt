@@ -1,15 +1,16 @@
 -- What a line of a log says, after candump's log format, or its first fault: its fields, from the first to the last. Each field is a
 -- value and what stands after it; the fault's place is where the rest of the line can't stand.
-use Rattle.std.specs.Prelude.{ℕ, ◌+◌, ◌-◌, ◌*◌, ◌/◌, ◌%◌, min, Bool, true, false, ◌&&◌, ◌||◌, ◌==◌, nat_le, nat_lt, if◌then◌else◌, List, [], ◌∷◌, length, take, drop, Option, None, Some, ok_or, Result, Ok, Err}
+use Rattle.std.specs.Prelude.{◌≡◌, ℕ, ◌+◌, ◌-◌, ◌*◌, ◌/◌, ◌%◌, ◌^◌, ◌<◌, min, Bool, true, false, ◌&&◌, ◌||◌, ◌==◌, nat_le, nat_lt, if◌then◌else◌, List, [], ◌∷◌, length, take, drop, Option, None, Some, ok_or, Result, Ok, Err}
 use Rattle.std.specs.Char.{digit_value, is_digit}
 use Rattle.std.specs.List.{list_all, prefix_len}
 use Rattle.std.specs.Str.{bytes_eq}
 use Rattle.std.specs.Str.Parse.{digits_value}
-use Rattle.can_frame.specs.Frame.{CanFrame}
+use Rattle.can_frame.specs.Frame.{CanFrame, IsLawful}
 use Rattle.can_frame.specs.Length.{length_fits}
 use Rattle.can_frame.specs.declared.id.CanId.{CanId}
 use Rattle.can_frame.specs.declared.id.CanId.TheVariants.{Std, Ext}
 use Rattle.candump_line.specs.Fault.{fault_at, ◌>>=◌}
+use Rattle.candump_line.specs.Line.{entry_text}
 use Rattle.candump_line.specs.declared.fault.LineFault.{LineFault}
 use Rattle.candump_line.specs.declared.fault.LineKind.TheVariants.{TooLong, NoStamp, BadStamp, NoIface, BadId, NoHash, BadData, BadLength}
 use Rattle.candump_line.specs.declared.line.Line.{Line}
@@ -82,7 +83,7 @@ interface_at len rest =
     let name : List ℕ = after_spaces rest in
     let bytes : ℕ = prefix_len is_visible name in
     if begins 32 rest then (
-      if nat_le 1 bytes && nat_le bytes 15 then Ok (take bytes name, drop bytes name) else Err (fault_at len NoIface (drop (min bytes 15) name)))
+    if nat_le 1 bytes && nat_le bytes 15 then Ok (take bytes name, drop bytes name) else Err (fault_at len NoIface (drop (min bytes 15) name)))
     else Err (fault_at len NoIface rest)
 
 -- an error frame's: 8 digits, with this bit set
@@ -138,7 +139,7 @@ fd_at len id rest =
 unfoldable pub length_code_at : (len bytes : ℕ) → List ℕ → Result (List ℕ) LineFault
 length_code_at len bytes rest =
     if bytes == 8 && begins 95 rest then (
-      if digits_in 16 1 (drop 1 rest) == 1 && nat_le 9 (number_in 16 1 (drop 1 rest)) then Ok (drop 2 rest) else Err (fault_at len BadData (drop 1 rest)))
+    if digits_in 16 1 (drop 1 rest) == 1 && nat_le 9 (number_in 16 1 (drop 1 rest)) then Ok (drop 2 rest) else Err (fault_at len BadData (drop 1 rest)))
     else Ok rest
 
 -- a classic frame: the data
@@ -174,11 +175,11 @@ unfoldable pub content_at : (len at : ℕ) → Option CanId → List ℕ → Res
 content_at len at None rest = Ok Passed
 content_at len at (Some id) rest =
     if begins 35 rest then (
-      if is_remote (drop 1 rest) then Ok Passed
-      else (do
-        frame ← frame_at len id (drop 1 rest)
-        end ← end_at len frame.1
-        Ok (FrameLine (record { 0 = at }) frame.0)))
+    if is_remote (drop 1 rest) then Ok Passed
+    else (do
+      frame ← frame_at len id (drop 1 rest)
+      end ← end_at len frame.1
+      Ok (FrameLine (record { 0 = at }) frame.0)))
     else Err (fault_at len NoHash rest)
 
 -- a frame of the bus: its identifier and what stands after it
@@ -197,3 +198,13 @@ line_of iface line =
       stamp ← stamp_at line
       name ← interface_at (length line) stamp.1
       if bytes_eq name.0 iface then named_at (length line) stamp.0 name.1 else Ok Passed)
+
+-- a frame that is read is lawful, and its stamp is below 2^32 seconds
+abbrev pub IsLawfulLine : Line → Type 0
+IsLawfulLine (FrameLine at frame) = (at.0 < 2 ^ 32 * 10 ^ 6) × IsLawful frame
+IsLawfulLine Passed = Unit {0}
+IsLawfulLine Empty = Unit {0}
+
+-- a line that is written for a frame is read as its stamp and the frame
+abbrev pub ReadsBack : (at : ℕ) (iface : List ℕ) (frame : CanFrame) → Type 0
+ReadsBack at iface frame = line_of iface (entry_text at iface frame) ≡ Ok (FrameLine (record { 0 = at }) frame)

@@ -1,6 +1,7 @@
 //! A frame's data in a line.
 ghost use Rattle.std.specs.Prelude.{◌≡◌, ◌≤◌, ◌+◌, ◌*◌, ◌++◌, ◌&&◌, [], length, drop, take, true, false, Ok, Err, MatchResult, IfOk};
 ghost use Rattle.std.specs.List.{prefix_len};
+ghost use Rattle.can_frame.specs.Frame.{IsLawful};
 ghost use Rattle.can_frame.specs.Id.{id_fits};
 ghost use Rattle.candump_line.specs.Reading.{after_direction, classic_at, data_at, end_at, fd_at, frame_of, hex_bytes, is_hex, length_code_at};
 
@@ -71,7 +72,8 @@ fn frame_of(
 ) -> Result<Frame, LineFault>
     requires short { len ≤ MOST_LINE }
     requires id { id_fits id ≡ true }
-    ensures { result ≡ frame_of len (record { id = id; fd = fd; brs = fd && brs; bytes = bytes.now }) rest.now }
+    ensures made { result ≡ frame_of len (record { id = id; fd = fd; brs = fd && brs; bytes = bytes.now }) rest.now }
+    ensures lawful { IfOk result IsLawful }
 {
     match Frame::new(id, fd, brs, bytes) {
         Ok(frame) => Ok(frame),
@@ -85,7 +87,8 @@ fn frame_of(
 pub(crate) fn read_fd(len: usize, id: CanId, rest: &[u8]) -> Result<(Frame, &[u8]), LineFault>
     requires short { len ≤ MOST_LINE }
     requires id { id_fits id ≡ true }
-    ensures { MatchResult result (λ read. fd_at len id rest.now ≡ Ok (read.0, read.1.now)) (λ fault. fd_at len id rest.now ≡ Err fault) }
+    ensures read { MatchResult result (λ read. fd_at len id rest.now ≡ Ok (read.0, read.1.now)) (λ fault. fd_at len id rest.now ≡ Err fault) }
+    ensures lawful { IfOk result (λ read. IsLawful read.0) }
 {
     let (flags, digits) = number(rest, HEX, 1);
     if digits != 1 {
@@ -122,7 +125,8 @@ fn after_length_code(len: usize, bytes: usize, rest: &[u8]) -> Result<&[u8], Lin
 pub(crate) fn read_classic(len: usize, id: CanId, rest: &[u8]) -> Result<(Frame, &[u8]), LineFault>
     requires short { len ≤ MOST_LINE }
     requires id { id_fits id ≡ true }
-    ensures { MatchResult result (λ read. classic_at len id rest.now ≡ Ok (read.0, read.1.now)) (λ fault. classic_at len id rest.now ≡ Err fault) }
+    ensures read { MatchResult result (λ read. classic_at len id rest.now ≡ Ok (read.0, read.1.now)) (λ fault. classic_at len id rest.now ≡ Err fault) }
+    ensures lawful { IfOk result (λ read. IsLawful read.0) }
 {
     let (bytes, left) = read_data(len, rest)?;
     let frame = frame_of(len, id, false, false, &bytes, rest)?;

@@ -5,16 +5,16 @@ mod data;
 mod fault;
 mod fields;
 mod id;
+mod law;
 mod line;
-mod plain;
 mod read;
 mod spell;
 mod stamp;
 mod write;
 
 pub use fault::{LineFault, LineKind};
+pub use law::reading_law;
 pub use line::Line;
-pub use plain::plain_line;
 pub use read::read_line;
 pub use write::write_line;
 

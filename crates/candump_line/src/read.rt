@@ -1,7 +1,8 @@
 //! A line of a log that is read.
-ghost use Rattle.std.specs.Prelude.{◌≡◌, ◌≤◌, ◌<◌, ◌^◌, ◌*◌, true, false, length, Some, None, Ok, Err, MatchResult};
+ghost use Rattle.std.specs.Prelude.{◌≡◌, ◌≤◌, ◌<◌, ◌^◌, ◌*◌, true, false, length, Some, None, Ok, Err, IfOk, MatchResult};
+ghost use Rattle.can_frame.specs.Frame.{IsLawful};
 ghost use Rattle.can_frame.specs.Id.{id_fits};
-ghost use Rattle.candump_line.specs.Reading.{content_at, frame_at, is_remote, line_of, named_at};
+ghost use Rattle.candump_line.specs.Reading.{IsLawfulLine, content_at, frame_at, is_remote, line_of, named_at};
 
 use crate::data::{read_classic, read_end, read_fd};
 use crate::fault::{LineFault, LineKind};
@@ -16,7 +17,8 @@ use gw_base::Micros;
 fn read_frame(len: usize, id: CanId, rest: &[u8]) -> Result<(Frame, &[u8]), LineFault>
     requires short { len ≤ MOST_LINE }
     requires id { id_fits id ≡ true }
-    ensures { MatchResult result (λ read. frame_at len id rest.now ≡ Ok (read.0, read.1.now)) (λ fault. frame_at len id rest.now ≡ Err fault) }
+    ensures read { MatchResult result (λ read. frame_at len id rest.now ≡ Ok (read.0, read.1.now)) (λ fault. frame_at len id rest.now ≡ Err fault) }
+    ensures lawful { IfOk result (λ read. IsLawful read.0) }
 {
     match after(b'#', rest) {
         Some(flags) => read_fd(len, id, flags),
@@ -36,7 +38,9 @@ fn is_remote(rest: &[u8]) -> bool
 fn read_content(len: usize, at: Micros, id: CanId, rest: &[u8]) -> Result<Line, LineFault>
     requires short { len ≤ MOST_LINE }
     requires id { id_fits id ≡ true }
-    ensures { result ≡ content_at len at.0 (Some id) rest.now }
+    requires dated { at.0 < 2 ^ 32 * 10 ^ 6 }
+    ensures read { result ≡ content_at len at.0 (Some id) rest.now }
+    ensures lawful { IfOk result IsLawfulLine }
 {
     let Some(rest) = after(b'#', rest) else {
         return Err(fault_at(len, LineKind::NoHash, rest));
@@ -52,8 +56,10 @@ fn read_content(len: usize, at: Micros, id: CanId, rest: &[u8]) -> Result<Line, 
 /// What stands after the bus's own name.
 #[tactic(auto, unfolding(crate::specs::Reading::named_at, crate::specs::Reading::content_at))]
 fn read_named(len: usize, at: Micros, rest: &[u8]) -> Result<Line, LineFault>
-    requires { len ≤ MOST_LINE }
-    ensures { result ≡ named_at len at.0 rest.now }
+    requires short { len ≤ MOST_LINE }
+    requires dated { at.0 < 2 ^ 32 * 10 ^ 6 }
+    ensures read { result ≡ named_at len at.0 rest.now }
+    ensures lawful { IfOk result IsLawfulLine }
 {
     match read_id(len, rest)? {
         (Some(id), rest) => read_content(len, at, id, rest),
@@ -69,7 +75,8 @@ fn read_named(len: usize, at: Micros, rest: &[u8]) -> Result<Line, LineFault>
 /// a remote frame as far as its mark.
 #[tactic(auto, unfolding(crate::specs::Reading::line_of))]
 pub fn read_line(line: &[u8], iface: &[u8]) -> Result<Line, LineFault>
-    ensures { result ≡ line_of iface.now line.now }
+    ensures read { result ≡ line_of iface.now line.now }
+    ensures lawful { IfOk result IsLawfulLine }
 {
     let len = line.len();
     if len > MOST_LINE {

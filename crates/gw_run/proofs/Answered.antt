@@ -4,7 +4,7 @@ use Rattle.gw_depot.specs.Fault.{Blame}
 use Rattle.gw_depot.specs.Files.{Files}
 use Rattle.gw_run.specs.declared.status.FileRole.TheVariants.{Say}
 use Rattle.gw_run.specs.declared.status.Status.{Status}
-use Rattle.gw_run.specs.declared.status.Status.TheVariants.{Ok, Accepted, Usage, ConfigRefused, Unbuilt, ReadFault, WriteFault, Memory, Limit}
+use Rattle.gw_run.specs.declared.status.Status.TheVariants.{Ok, Accepted, Usage, ConfigRefused, LogRefused, Unbuilt, ReadFault, WriteFault, Memory, Limit}
 use Rattle.gw_run.specs.declared.status.Summary.{Summary}
 use Rattle.gw_run.specs.Answered.{Answers, IsFaultOf}
 use Rattle.gw_run.specs.Causes.{IsCause, IsFault, IsNamed, LeavesFiles}
@@ -19,6 +19,7 @@ summary_of P (Ok summary) done holds = (summary, holds)
 summary_of P Accepted done holds = absurd holds
 summary_of P Usage done holds = let clash : false ≡ true = done in cc
 summary_of P (ConfigRefused cause) done holds = let clash : false ≡ true = done in cc
+summary_of P (LogRefused bus line fault) done holds = let clash : false ≡ true = done in cc
 summary_of P (Unbuilt form) done holds = let clash : false ≡ true = done in cc
 summary_of P (ReadFault role) done holds = let clash : false ≡ true = done in cc
 summary_of P (WriteFault role) done holds = let clash : false ≡ true = done in cc

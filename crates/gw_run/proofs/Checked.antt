@@ -4,7 +4,7 @@ use Rattle.gw_depot.specs.Fault.{Blame}
 use Rattle.gw_depot.specs.Files.{Files}
 use Rattle.gw_run.specs.declared.status.FileRole.TheVariants.{Say}
 use Rattle.gw_run.specs.declared.status.Status.{Status}
-use Rattle.gw_run.specs.declared.status.Status.TheVariants.{Ok, Accepted, Usage, ConfigRefused, Unbuilt, ReadFault, WriteFault, Memory, Limit}
+use Rattle.gw_run.specs.declared.status.Status.TheVariants.{Ok, Accepted, Usage, ConfigRefused, LogRefused, Unbuilt, ReadFault, WriteFault, Memory, Limit}
 use Rattle.gw_run.specs.declared.status.Which.TheVariants.{ConfigBytes, Lines, Ticks}
 use Rattle.gw_run.specs.Answered.{IsCutShort}
 use Rattle.gw_run.specs.Checked.{AnswersCheck, HoldsAccepted, IsCheckCause, IsCheckFault}
@@ -27,6 +27,7 @@ found_of before config faults faults' blame said said' (Ok summary) cause fault 
 found_of before config faults faults' blame said said' Accepted cause fault = inl (Good cause.0, cause.1, inl refl)
 found_of before config faults faults' blame said said' Usage cause fault = absurd cause
 found_of before config faults faults' blame said said' (ConfigRefused why) cause fault = inl (Bad why, cause, refl)
+found_of before config faults faults' blame said said' (LogRefused bus line why) cause fault = absurd cause
 found_of before config faults faults' blame said said' (Unbuilt form) cause fault = absurd cause
 found_of before config faults faults' blame said said' (ReadFault role) cause fault = inr tt
 found_of before config faults faults' blame said said' (WriteFault role) cause fault = inl (Good cause.0, cause.1, inr (ap WriteFault fault.0))
@@ -67,6 +68,7 @@ accepted_of before config (Ok summary) done cause = absurd cause
 accepted_of before config Accepted done cause = cause
 accepted_of before config Usage done cause = absurd cause
 accepted_of before config (ConfigRefused why) done cause = let clash : false ≡ true = done in cc
+accepted_of before config (LogRefused bus line why) done cause = absurd cause
 accepted_of before config (Unbuilt form) done cause = absurd cause
 accepted_of before config (ReadFault role) done cause = let clash : false ≡ true = done in cc
 accepted_of before config (WriteFault role) done cause = cause

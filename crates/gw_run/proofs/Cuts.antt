@@ -1,15 +1,13 @@
--- A content is cut at its line feeds in one way, and a line is that of one frame.
-use Rattle.std.proofs.Common.{◌≡◌, ◌≢◌, ℕ, ◌+◌, ◌<◌, ◌≤◌, ◌==◌, true, false, cond, List, [], ◌∷◌, ◌++◌, length, refl, subst, sym, ◌∙◌, ap, append_assoc, append-nil, length-append, inl, inr, arith}
+-- A content is cut at its line feeds in one way, and so ends in one way.
+use Rattle.std.proofs.Common.{◌≡◌, ◌≢◌, ℕ, ◌+◌, ◌<◌, ◌≤◌, ◌==◌, true, false, cond, Result, Ok, Err, Option, is_ok, List, [], ◌∷◌, ◌++◌, length, refl, subst, sym, ◌∙◌, ap, append_assoc, append-nil, length-append, inl, inr, arith}
 use Rattle.std.specs.List.{All}
 use Rattle.std.proofs.lemmas.Bool.{ne_eqb}
 use Rattle.std.proofs.lemmas.List.Elements.{All-tail}
-use Rattle.can_frame.specs.Frame.{CanFrame}
-use Rattle.candump_line.proofs.PlainLemmas.{plain-unique}
-use Rattle.gw_run.specs.Setup.{Bus}
+use Rattle.gw_run.specs.Setup.{Bus, is_unbuilt_frame}
+use Rattle.gw_run.specs.declared.log.LineRefusal.{LineRefusal}
 use Rattle.gw_run.specs.declared.log.Stamped.{Stamped}
-use Rattle.gw_run.specs.Line.{IsBuiltLine, without_return}
-use Rattle.gw_run.specs.Log.{AreBuilt, ended, HasNoFeed, GoesPast, IsBuiltLog, StopsAt}
-use Rattle.gw_base.proofs.Lists.{zip-long}
+use Rattle.gw_run.specs.Line.{taken_by}
+use Rattle.gw_run.specs.Log.{AreTaken, ended, frames_of, HasNoFeed, GoesPast, IsBuiltLog, IsCut, StopsAt}
 
 -- a byte more at the front of the first line
 abbrev begun : ℕ → List (List ℕ) → List (List ℕ)
@@ -59,29 +57,31 @@ cut-some (b ∷ bytes) some =
 
 -- ---- what each end of a reading says of the lines
 
--- all lines are built
-all_built : (bus : Bus) (content : List ℕ) (frames : List Stamped) → IsBuiltLog bus content frames → AreBuilt bus (cut content) frames
-all_built bus content frames built =
-    let same : cut content ≡ built.lines = elim built.cut [
-      | inl whole ↦ ap cut (whole ∙ sym (append-nil (ended built.lines))) ∙ cut-ended built.lines [] built.no_feed ∙ append-nil built.lines
-      | inr within ↦
-          ap cut within.bytes ∙ cut-within within.front within.last (subst (All HasNoFeed) within.all built.no_feed) within.some ∙ sym within.all
-    ] in
-    subst (λ lines. AreBuilt bus lines frames) (sym same) built.built
+cut_lines : (content : List ℕ) (lines : List (List ℕ)) → IsCut content lines → cut content ≡ lines
+cut_lines content lines is = elim is.cut [
+  | inl whole ↦ ap cut (whole ∙ sym (append-nil (ended lines))) ∙ cut-ended lines [] is.no_feed ∙ append-nil lines
+  | inr within ↦ ap cut within.bytes ∙ cut-within within.front within.last (subst (All HasNoFeed) within.all is.no_feed) within.some ∙ sym within.all
+]
 
--- after lines that are built stands one that isn't
-record IsStopped (bus : Bus) (all : List (List ℕ)) (number : ℕ) : Type 0 where
+-- the lines of a bus's log are taken
+abbrev Taken : Bus → List (List ℕ) → Type 0
+Taken bus lines = AreTaken bus.interface (is_unbuilt_frame bus.side) lines
+
+all_taken : (bus : Bus) (content : List ℕ) (count : ℕ) (frames : List Stamped) → IsBuiltLog bus content count frames → Taken bus (cut content)
+all_taken bus content count frames (lines, is, long) = subst (Taken bus) (sym (cut_lines content lines is.cut)) is.taken
+
+-- after lines that are taken stands one that is refused
+record IsStopped (bus : Bus) (all : List (List ℕ)) (number : ℕ) (refusal : LineRefusal) : Type 0 where
   lines : List (List ℕ)
-  frames : List Stamped
   line : List ℕ
   more : List (List ℕ)
   whole : all ≡ lines ++ line ∷ more
-  built : AreBuilt bus lines frames
-  not_built : (stamped : Stamped) → ¬ IsBuiltLine bus (without_return line) stamped
+  taken : Taken bus lines
+  refused : taken_by bus line ≡ Err refusal
   count : number ≡ length lines + 1
 
-stopped : (bus : Bus) (most : ℕ) (content : List ℕ) (number : ℕ) → StopsAt bus most content number → IsStopped bus (cut content) number
-stopped bus most content number stops =
+stopped : (bus : Bus) (most : ℕ) (content : List ℕ) (number : ℕ) (refusal : LineRefusal) → StopsAt bus most content number refusal → IsStopped bus (cut content) number refusal
+stopped bus most content number refusal stops =
     let front : cut content ≡ stops.lines ++ cut (stops.line ++ stops.tail) = ap cut (stops.bytes ∙ append_assoc (ended stops.lines) stops.line stops.tail) ∙ cut-ended stops.lines (stops.line ++ stops.tail) stops.no_feed in
     let ends : (more : List (List ℕ)) × (cut (stops.line ++ stops.tail) ≡ stops.line ∷ more) = elim stops.ends [
       | inl none ↦ ([], let same : stops.line ++ stops.tail ≡ stops.line = rw none.0 (append-nil stops.line) in ap cut same ∙ cut-last stops.line stops.is_line none.1)
@@ -89,76 +89,75 @@ stopped bus most content number stops =
     ] in
     record {
       lines = stops.lines;
-      frames = stops.frames;
       line = stops.line;
       more = ends.0;
       whole = front ∙ ap (λ t. stops.lines ++ t) ends.1;
-      built = stops.built;
-      not_built = stops.not_built;
+      taken = stops.taken;
+      refused = stops.refused;
       count = stops.count;
     }
 
--- a line that isn't built stands after all that are
-no_more_built : (bus : Bus) (lines lines' : List (List ℕ)) (line : List ℕ) (more rest : List (List ℕ)) (frames' : List Stamped) →
-    lines ++ line ∷ more ≡ lines' ++ rest → AreBuilt bus lines' frames' → ((stamped : Stamped) → ¬ IsBuiltLine bus (without_return line) stamped) →
-    length lines' ≤ length lines
-no_more_built bus lines [] line more rest frames' same built not_built = omega arith
-no_more_built bus lines (l ∷ lines') line more rest [] same built not_built = absurd built
-no_more_built bus [] (l ∷ lines') line more rest (s ∷ frames') same built not_built =
-    let first : line ≡ l = cc in absurd (not_built s (rw first built.0))
-no_more_built bus (x ∷ lines) (l ∷ lines') line more rest (s ∷ frames') same built not_built =
+-- a line that is refused isn't taken
+not_both : (r : Result (Option Stamped) LineRefusal) (refusal : LineRefusal) → r ≡ Err refusal → is_ok r ≡ true → ⊥
+not_both r refusal refused taken = let clash : false ≡ true = rw refused at taken in cc
+
+-- a line that is refused stands after all that are taken
+no_more_taken : (bus : Bus) (lines lines' : List (List ℕ)) (line : List ℕ) (more rest : List (List ℕ)) (refusal : LineRefusal) →
+    lines ++ line ∷ more ≡ lines' ++ rest → Taken bus lines' → taken_by bus line ≡ Err refusal → length lines' ≤ length lines
+no_more_taken bus lines [] line more rest refusal same taken refused = omega arith
+no_more_taken bus [] (l ∷ lines') line more rest refusal same taken refused =
+    let first : line ≡ l = cc in
+    absurd (not_both (taken_by bus l) refusal (ap (taken_by bus) (sym first) ∙ refused) (taken 0 [] (omega arith)))
+no_more_taken bus (x ∷ lines) (l ∷ lines') line more rest refusal same taken refused =
     let later : lines ++ line ∷ more ≡ lines' ++ rest = cc in
-    let fewer = no_more_built bus lines lines' line more rest frames' later built.1 not_built in omega (arith, fewer)
+    let fewer = no_more_taken bus lines lines' line more rest refusal later (All-tail (λ t. is_ok (taken_by bus t) ≡ true) l lines' taken) refused in omega (arith, fewer)
 
--- a line is that of one frame
-frame-once : (bus : Bus) (line : List ℕ) (s t : Stamped) → IsBuiltLine bus line s → IsBuiltLine bus line t → s ≡ t
-frame-once bus line s t one other =
-    let same = plain-unique (bus.interface) line s.at.0 t.at.0 s.frame t.frame one.plain other.plain in
-    let stamped : ℕ → CanFrame → Stamped = λ at frame. record { at = record { 0 = at }; frame = frame } in
-    ap (λ at. stamped at s.frame) same.0 ∙ ap (λ frame. stamped t.at.0 frame) same.1
-
-frames-once : (bus : Bus) (lines : List (List ℕ)) (frames frames' : List Stamped) → AreBuilt bus lines frames → AreBuilt bus lines frames' → frames ≡ frames'
-frames-once bus [] [] [] one other = refl
-frames-once bus [] [] (t ∷ frames') one other = absurd other
-frames-once bus [] (s ∷ frames) frames' one other = absurd one
-frames-once bus (line ∷ lines) [] frames' one other = absurd one
-frames-once bus (line ∷ lines) (s ∷ frames) [] one other = absurd other
-frames-once bus (line ∷ lines) (s ∷ frames) (t ∷ frames') one other =
-    let first : s ≡ t = frame-once bus (without_return line) s t one.0 other.0 in
-    let later : frames ≡ frames' = frames-once bus lines frames frames' one.1 other.1 in
-    cc
+-- after as many lines stands the same line
+same_line : (lines lines' : List (List ℕ)) (line line' : List ℕ) (more more' : List (List ℕ)) → lines ++ line ∷ more ≡ lines' ++ line' ∷ more' → length lines ≡ length lines' → line ≡ line'
+same_line [] [] line line' more more' same long = cc
+same_line [] (l ∷ lines') line line' more more' same long = absurd (omega (arith, long))
+same_line (x ∷ lines) [] line line' more more' same long = absurd (omega (arith, long))
+same_line (x ∷ lines) (l ∷ lines') line line' more more' same long =
+    let later : lines ++ line ∷ more ≡ lines' ++ line' ∷ more' = cc in
+    same_line lines lines' line line' more more' later (omega (arith, long))
 
 -- ---- a log ends in one way
 
-pub built-once : (bus : Bus) (content : List ℕ) (frames frames' : List Stamped) → IsBuiltLog bus content frames → IsBuiltLog bus content frames' → frames ≡ frames'
-built-once bus content frames frames' one other =
-    frames-once bus (cut content) frames frames' (all_built bus content frames one) (all_built bus content frames' other)
+pub built-once : (bus : Bus) (content : List ℕ) (m n : ℕ) (frames frames' : List Stamped) → IsBuiltLog bus content m frames → IsBuiltLog bus content n frames' → (m ≡ n) × (frames ≡ frames')
+built-once bus content m n frames frames' (lines, one, long) (lines', other, long') =
+    let same : lines ≡ lines' = sym (cut_lines content lines one.cut) ∙ cut_lines content lines' other.cut in (
+      long ∙ ap length same ∙ sym long',
+      one.frames_are ∙ ap (frames_of bus.interface (is_unbuilt_frame bus.side)) same ∙ sym other.frames_are,
+    )
 
-pub stops-once : (bus : Bus) (most : ℕ) (content : List ℕ) (m n : ℕ) → StopsAt bus most content m → StopsAt bus most content n → m ≡ n
-stops-once bus most content m n one other =
-    let a = stopped bus most content m one in
-    let b = stopped bus most content n other in
-    let fewer = no_more_built bus a.lines b.lines a.line a.more (b.line ∷ b.more) b.frames (sym a.whole ∙ b.whole) b.built a.not_built in
-    let more = no_more_built bus b.lines a.lines b.line b.more (a.line ∷ a.more) a.frames (sym b.whole ∙ a.whole) a.built b.not_built in
-    omega (arith, fewer, more, a.count, b.count)
+pub stops-once : (bus : Bus) (most : ℕ) (content : List ℕ) (m n : ℕ) (r s : LineRefusal) → StopsAt bus most content m r → StopsAt bus most content n s → (m ≡ n) × (r ≡ s)
+stops-once bus most content m n r s one other =
+    let a = stopped bus most content m r one in
+    let b = stopped bus most content n s other in
+    let all : a.lines ++ a.line ∷ a.more ≡ b.lines ++ b.line ∷ b.more = sym a.whole ∙ b.whole in
+    let fewer = no_more_taken bus a.lines b.lines a.line a.more (b.line ∷ b.more) r all b.taken a.refused in
+    let more = no_more_taken bus b.lines a.lines b.line b.more (a.line ∷ a.more) s (sym all) a.taken b.refused in
+    let line : a.line ≡ b.line = same_line a.lines b.lines a.line b.line a.more b.more all (omega (arith, fewer, more)) in
+    let refusals : ◌≡◌ {A = Result (Option Stamped) LineRefusal} (Err r) (Err s) = sym a.refused ∙ ap (taken_by bus) line ∙ b.refused in
+    (omega (arith, fewer, more, a.count, b.count), cc)
 
-pub stops-or_built : (bus : Bus) (most : ℕ) (content : List ℕ) (number : ℕ) (frames : List Stamped) → StopsAt bus most content number → ¬ IsBuiltLog bus content frames
-stops-or_built bus most content number frames stops built =
-    let a = stopped bus most content number stops in
-    let fewer = no_more_built bus a.lines (cut content) a.line a.more [] frames (sym a.whole ∙ sym (append-nil (cut content))) (all_built bus content frames built) a.not_built in
+pub stops-or_built : (bus : Bus) (most : ℕ) (content : List ℕ) (number : ℕ) (refusal : LineRefusal) (count : ℕ) (frames : List Stamped) → StopsAt bus most content number refusal → ¬ IsBuiltLog bus content count frames
+stops-or_built bus most content number refusal count frames stops built =
+    let a = stopped bus most content number refusal stops in
+    let fewer = no_more_taken bus a.lines (cut content) a.line a.more [] refusal (sym a.whole ∙ sym (append-nil (cut content))) (all_taken bus content count frames built) a.refused in
     let long : length (cut content) ≡ length a.lines + length (a.line ∷ a.more) = ap length a.whole ∙ length-append a.lines (a.line ∷ a.more) in
     omega (arith, fewer, long)
 
-pub stops-or_passes : (bus : Bus) (most : ℕ) (content : List ℕ) (number : ℕ) → StopsAt bus most content number → ¬ GoesPast bus content most
-stops-or_passes bus most content number stops past =
-    let a = stopped bus most content number stops in
+pub stops-or_passes : (bus : Bus) (most : ℕ) (content : List ℕ) (number : ℕ) (refusal : LineRefusal) → StopsAt bus most content number refusal → ¬ GoesPast bus content most
+stops-or_passes bus most content number refusal stops past =
+    let a = stopped bus most content number refusal stops in
     let whole : cut content ≡ past.lines ++ cut past.rest = ap cut past.bytes ∙ cut-ended past.lines past.rest past.no_feed in
-    let fewer = no_more_built bus a.lines past.lines a.line a.more (cut past.rest) past.frames (sym a.whole ∙ whole) past.built a.not_built in
+    let fewer = no_more_taken bus a.lines past.lines a.line a.more (cut past.rest) refusal (sym a.whole ∙ whole) past.taken a.refused in
     omega (arith, fewer, a.count, stops.within, past.count)
 
-pub passes-or_built : (bus : Bus) (most : ℕ) (content : List ℕ) (frames : List Stamped) → length frames ≤ most → GoesPast bus content most → ¬ IsBuiltLog bus content frames
-passes-or_built bus most content frames few past built =
+pub passes-or_built : (bus : Bus) (most : ℕ) (content : List ℕ) (count : ℕ) (frames : List Stamped) → count ≤ most → GoesPast bus content most → ¬ IsBuiltLog bus content count frames
+passes-or_built bus most content count frames few past (lines, is, all) =
     let whole : cut content ≡ past.lines ++ cut past.rest = ap cut past.bytes ∙ cut-ended past.lines past.rest past.no_feed in
     let long : length (cut content) ≡ length past.lines + length (cut past.rest) = ap length whole ∙ length-append past.lines (cut past.rest) in
-    let all : length (cut content) ≡ length frames = zip-long _ (cut content) frames (all_built bus content frames built) in
-    omega (arith, few, long, all, past.count, cut-some past.rest past.further)
+    let same : length (cut content) ≡ length lines = ap length (cut_lines content lines is.cut) in
+    omega (arith, few, long, all, same, past.count, cut-some past.rest past.further)

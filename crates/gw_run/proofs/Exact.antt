@@ -1,8 +1,11 @@
 -- A run is decided in one way: by the first cause that stands in its files, or by none.
-use Rattle.std.proofs.Common.{◌≡◌, ◌⊎◌, ℕ, zero, suc, ◌+◌, ◌-◌, Bool, Some, List, ◌++◌, length, refl, subst, sym, ◌∙◌, ap, inl, inr, arith}
+use Rattle.std.proofs.Common.{◌≡◌, ◌⊎◌, ℕ, zero, suc, ◌+◌, ◌-◌, Bool, Some, List, ◌++◌, refl, subst, sym, ◌∙◌, ap, inl, inr, arith}
+use Rattle.candump_line.specs.declared.fault.LineFault.{LineFault}
 use Rattle.gw_base.specs.declared.numbers.BusNo.{BusNo}
 use Rattle.gw_depot.specs.Fault.{Blame, Rose}
 use Rattle.gw_depot.specs.Files.{Files}
+use Rattle.gw_run.specs.declared.log.LineRefusal.{LineRefusal}
+use Rattle.gw_run.specs.declared.log.LineRefusal.TheVariants.{Unbuilt as LineNotBuilt, Bad as BadLine}
 use Rattle.gw_run.specs.declared.log.Stamped.{Stamped}
 use Rattle.gw_run.specs.declared.status.FileRole.{FileRole}
 use Rattle.gw_run.specs.declared.status.FileRole.TheVariants.{Config, Log, Out, Report, Say}
@@ -10,11 +13,11 @@ use Rattle.gw_run.specs.declared.status.Form.{Form}
 use Rattle.gw_run.specs.declared.status.Form.TheVariants.{Configuration as WholeConfiguration, Line}
 use Rattle.gw_config.specs.Config.{Configuration}
 use Rattle.gw_run.specs.declared.status.Status.{Status}
-use Rattle.gw_run.specs.declared.status.Status.TheVariants.{Ok, Accepted, Usage, ConfigRefused, Unbuilt, ReadFault, WriteFault, Memory, Limit}
+use Rattle.gw_run.specs.declared.status.Status.TheVariants.{Ok, Accepted, Usage, ConfigRefused, LogRefused, Unbuilt, ReadFault, WriteFault, Memory, Limit}
 use Rattle.gw_run.specs.declared.status.Which.{Which}
 use Rattle.gw_run.specs.declared.status.Which.TheVariants.{ConfigBytes, Lines, Ticks}
 use Rattle.gw_run.specs.Answered.{IsCutShort, IsExact, IsComplete, IsFaultOf}
-use Rattle.gw_run.specs.Causes.{IsCause, IsUnbuiltLine, LeavesFiles, PassesLog, StopsLog, TooManyTicks}
+use Rattle.gw_run.specs.Causes.{IsCause, IsRefusedLine, LeavesFiles, PassesLog, StopsLog, TooManyTicks, line_status}
 use Rattle.gw_run.specs.Results.{ReadFailed, WriteFailed}
 use Rattle.gw_run.specs.Setup.{Bus, IsBuiltConfig, Setup}
 use Rattle.gw_run.specs.Start.{stamps_of}
@@ -29,44 +32,50 @@ use Rattle.gw_base.proofs.Lists.{same-some}
 -- ---- how a log ends
 
 pub data LogEnd : Type 0 where
-  AtLine : ℕ → LogEnd
+  AtLine : ℕ → LineRefusal → LogEnd
   Past : LogEnd
-  Whole : List Stamped → LogEnd
+  Whole : ℕ → List Stamped → LogEnd
 
 abbrev Ends : Files → Bus → (most : ℕ) → LogEnd → Type 0
-Ends before bus most (AtLine number) = StopsLog before bus most number
+Ends before bus most (AtLine number refusal) = StopsLog before bus most number refusal
 Ends before bus most Past = PassesLog before bus most
-Ends before bus most (Whole frames) = HoldsLog before bus most frames
+Ends before bus most (Whole count frames) = HoldsLog before bus most count frames
 
-stops-holds : (before : Files) (bus : Bus) (most number : ℕ) (frames : List Stamped) → StopsLog before bus most number → ¬ HoldsLog before bus most frames
-stops-holds before bus most number frames stops holds =
+stops-holds : (before : Files) (bus : Bus) (most number : ℕ) (refusal : LineRefusal) (count : ℕ) (frames : List Stamped) → StopsLog before bus most number refusal → ¬ HoldsLog before bus most count frames
+stops-holds before bus most number refusal count frames stops holds =
     let same = same-some holds.there stops.there in
-    stops-or_built bus most stops.content number frames stops.stops (subst (λ c. IsBuiltLog bus c frames) same holds.built)
+    stops-or_built bus most stops.content number refusal count frames stops.stops (subst (λ c. IsBuiltLog bus c count frames) same holds.built)
 
-stops-passes : (before : Files) (bus : Bus) (most number : ℕ) → StopsLog before bus most number → ¬ PassesLog before bus most
-stops-passes before bus most number stops past =
+stops-passes : (before : Files) (bus : Bus) (most number : ℕ) (refusal : LineRefusal) → StopsLog before bus most number refusal → ¬ PassesLog before bus most
+stops-passes before bus most number refusal stops past =
     let same = same-some past.there stops.there in
-    stops-or_passes bus most stops.content number stops.stops (subst (λ c. GoesPast bus c most) same past.goes_past)
+    stops-or_passes bus most stops.content number refusal stops.stops (subst (λ c. GoesPast bus c most) same past.goes_past)
 
-passes-holds : (before : Files) (bus : Bus) (most : ℕ) (frames : List Stamped) → PassesLog before bus most → ¬ HoldsLog before bus most frames
-passes-holds before bus most frames past holds =
+passes-holds : (before : Files) (bus : Bus) (most count : ℕ) (frames : List Stamped) → PassesLog before bus most → ¬ HoldsLog before bus most count frames
+passes-holds before bus most count frames past holds =
     let same = same-some holds.there past.there in
-    passes-or_built bus most past.content frames holds.few past.goes_past (subst (λ c. IsBuiltLog bus c frames) same holds.built)
+    passes-or_built bus most past.content count frames holds.few past.goes_past (subst (λ c. IsBuiltLog bus c count frames) same holds.built)
+
+same_stop : (m n : ℕ) (r s : LineRefusal) → (m ≡ n) × (r ≡ s) → AtLine m r ≡ AtLine n s
+same_stop m n r s same = ap (λ k. AtLine k r) same.0 ∙ ap (AtLine n) same.1
+
+same_whole : (m n : ℕ) (frames frames' : List Stamped) → (m ≡ n) × (frames ≡ frames') → Whole m frames ≡ Whole n frames'
+same_whole m n frames frames' same = ap (λ k. Whole k frames) same.0 ∙ ap (Whole n) same.1
 
 end-once : (before : Files) (bus : Bus) (most : ℕ) (e f : LogEnd) → Ends before bus most e → Ends before bus most f → e ≡ f
-end-once before bus most (AtLine m) (AtLine n) one other =
+end-once before bus most (AtLine m r) (AtLine n s) one other =
     let same = same-some one.there other.there in
-    ap AtLine (stops-once bus most other.content m n (subst (λ c. StopsAt bus most c m) same one.stops) other.stops)
-end-once before bus most (AtLine m) Past one other = absurd (stops-passes before bus most m one other)
-end-once before bus most (AtLine m) (Whole frames) one other = absurd (stops-holds before bus most m frames one other)
-end-once before bus most Past (AtLine n) one other = absurd (stops-passes before bus most n other one)
+    same_stop m n r s (stops-once bus most other.content m n r s (subst (λ c. StopsAt bus most c m r) same one.stops) other.stops)
+end-once before bus most (AtLine m r) Past one other = absurd (stops-passes before bus most m r one other)
+end-once before bus most (AtLine m r) (Whole count frames) one other = absurd (stops-holds before bus most m r count frames one other)
+end-once before bus most Past (AtLine n s) one other = absurd (stops-passes before bus most n s other one)
 end-once before bus most Past Past one other = refl
-end-once before bus most Past (Whole frames) one other = absurd (passes-holds before bus most frames one other)
-end-once before bus most (Whole frames) (AtLine n) one other = absurd (stops-holds before bus most n frames other one)
-end-once before bus most (Whole frames) Past one other = absurd (passes-holds before bus most frames other one)
-end-once before bus most (Whole frames) (Whole frames') one other =
+end-once before bus most Past (Whole count frames) one other = absurd (passes-holds before bus most count frames one other)
+end-once before bus most (Whole count frames) (AtLine n s) one other = absurd (stops-holds before bus most n s count frames other one)
+end-once before bus most (Whole count frames) Past one other = absurd (passes-holds before bus most count frames other one)
+end-once before bus most (Whole m frames) (Whole n frames') one other =
     let same = same-some one.there other.there in
-    ap Whole (built-once bus other.content frames frames' (subst (λ c. IsBuiltLog bus c frames) same one.built) other.built)
+    same_whole m n frames frames' (built-once bus other.content m n frames frames' (subst (λ c. IsBuiltLog bus c m frames) same one.built) other.built)
 
 -- ---- how the ticks end
 
@@ -100,20 +109,21 @@ IsLate (Ok summary) = Unit {0}
 IsLate Accepted = ⊥
 IsLate Usage = ⊥
 IsLate (ConfigRefused cause) = ⊥
+IsLate (LogRefused bus line fault) = ⊥
 IsLate (Unbuilt form) = ⊥
 IsLate (ReadFault role) = ⊥
 IsLate (WriteFault role) = Unit {0}
 IsLate Memory = ⊥
 IsLate (Limit which value) = ⊥
 
--- the line of the bus isn't built
-abbrev SaysLine : (bus number : ℕ) → Status → Type 0
-SaysLine bus number status = (place : BusNo) × (place.0 ≡ bus) × (status ≡ Unbuilt (Line place number))
+-- the line of the bus is refused
+abbrev SaysLine : (bus number : ℕ) → LineRefusal → Status → Type 0
+SaysLine bus number refusal status = (place : BusNo) × (place.0 ≡ bus) × (status ≡ line_status place number refusal)
 
-abbrev LogSays : ℕ → (List Stamped → Status → Type 0) → LogEnd → Status → Type 0
-LogSays bus next (AtLine number) status = SaysLine bus number status
+abbrev LogSays : ℕ → (ℕ → List Stamped → Status → Type 0) → LogEnd → Status → Type 0
+LogSays bus next (AtLine number refusal) status = SaysLine bus number refusal status
 LogSays bus next Past status = status ≡ Limit Lines 1_000_001
-LogSays bus next (Whole frames) status = next frames status
+LogSays bus next (Whole count frames) status = next count frames status
 
 abbrev PlanSays : PlanEnd → Status → Type 0
 PlanSays (Many value) status = status ≡ Limit Ticks value
@@ -122,8 +132,8 @@ PlanSays Fits status = IsLate status
 abbrev AfterBoth : Setup → (source destination : List Stamped) → Status → Type 0
 AfterBoth setup source destination status = (p : PlanEnd) × Plans setup source destination p × PlanSays p status
 
-abbrev AfterFirst : Files → Setup → (source : List Stamped) → Status → Type 0
-AfterFirst before setup source status = (e : LogEnd) × Ends before setup.destination (1_000_000 - length source) e × LogSays 1 (AfterBoth setup source) e status
+abbrev AfterFirst : Files → Setup → (lines : ℕ) → (source : List Stamped) → Status → Type 0
+AfterFirst before setup lines source status = (e : LogEnd) × Ends before setup.destination (1_000_000 - lines) e × LogSays 1 (λ count. AfterBoth setup source) e status
 
 -- what is decided of a configuration that is accepted
 pub data ConfigSays (before : Files) (c : Configuration) (status : Status) : Type 0 where
@@ -141,17 +151,17 @@ Decides before config report status = (e : ConfigEnd) × ConfigIs before config 
 abbrev IsSame : Status → Status → Type 0
 IsSame s t = (s ≡ t) ⊎ (IsLate s × IsLate t)
 
-line-once : (bus number : ℕ) (s t : Status) → SaysLine bus number s → SaysLine bus number t → IsSame s t
-line-once bus number s t (a, at, one) (b, bt, other) =
+line-once : (bus number : ℕ) (refusal : LineRefusal) (s t : Status) → SaysLine bus number refusal s → SaysLine bus number refusal t → IsSame s t
+line-once bus number refusal s t (a, at, one) (b, bt, other) =
     let place : ℕ → BusNo = λ n. record { 0 = n } in
     let same : a ≡ b = ap place (at ∙ sym bt) in
-    inl (one ∙ ap (λ bus. Unbuilt (Line bus number)) same ∙ sym other)
+    inl (one ∙ ap (λ bus. line_status bus number refusal) same ∙ sym other)
 
-log_says-once : (bus : ℕ) (next : List Stamped → Status → Type 0) (e : LogEnd) (s t : Status) →
-    ((frames : List Stamped) → next frames s → next frames t → IsSame s t) → LogSays bus next e s → LogSays bus next e t → IsSame s t
-log_says-once bus next (AtLine number) s t later one other = line-once bus number s t one other
+log_says-once : (bus : ℕ) (next : ℕ → List Stamped → Status → Type 0) (e : LogEnd) (s t : Status) →
+    ((count : ℕ) (frames : List Stamped) → next count frames s → next count frames t → IsSame s t) → LogSays bus next e s → LogSays bus next e t → IsSame s t
+log_says-once bus next (AtLine number refusal) s t later one other = line-once bus number refusal s t one other
 log_says-once bus next Past s t later one other = inl (one ∙ sym other)
-log_says-once bus next (Whole frames) s t later one other = later frames one other
+log_says-once bus next (Whole count frames) s t later one other = later count frames one other
 
 plan_says-once : (p : PlanEnd) (s t : Status) → PlanSays p s → PlanSays p t → IsSame s t
 plan_says-once (Many value) s t one other = inl (one ∙ sym other)
@@ -161,15 +171,15 @@ after_both-once : (setup : Setup) (source destination : List Stamped) (s t : Sta
 after_both-once setup source destination s t (p, is, one) (q, is', other) =
     plan_says-once q s t (subst (λ r. PlanSays r s) (plan-once setup source destination p q is is') one) other
 
-after_first-once : (before : Files) (setup : Setup) (source : List Stamped) (s t : Status) → AfterFirst before setup source s → AfterFirst before setup source t → IsSame s t
-after_first-once before setup source s t (e, is, one) (f, is', other) =
-    log_says-once 1 (AfterBoth setup source) f s t (λ destination. after_both-once setup source destination s t)
-    (subst (λ g. LogSays 1 (AfterBoth setup source) g s) (end-once before setup.destination (1_000_000 - length source) e f is is') one) other
+after_first-once : (before : Files) (setup : Setup) (lines : ℕ) (source : List Stamped) (s t : Status) → AfterFirst before setup lines source s → AfterFirst before setup lines source t → IsSame s t
+after_first-once before setup lines source s t (e, is, one) (f, is', other) =
+    log_says-once 1 (λ count. AfterBoth setup source) f s t (λ count destination. after_both-once setup source destination s t)
+    (subst (λ g. LogSays 1 (λ count. AfterBoth setup source) g s) (end-once before setup.destination (1_000_000 - lines) e f is is') one) other
 
 logs-once : (before : Files) (setup : Setup) (e f : LogEnd) (s t : Status) → Ends before setup.source 1_000_000 e → Ends before setup.source 1_000_000 f →
     LogSays 0 (AfterFirst before setup) e s → LogSays 0 (AfterFirst before setup) f t → IsSame s t
 logs-once before setup e f s t is is' one other =
-    log_says-once 0 (AfterFirst before setup) f s t (λ source. after_first-once before setup source s t)
+    log_says-once 0 (AfterFirst before setup) f s t (λ lines source. after_first-once before setup lines source s t)
     (subst (λ g. LogSays 0 (AfterFirst before setup) g s) (end-once before setup.source 1_000_000 e f is is') one) other
 
 config_says-once : (before : Files) (c : Configuration) (s t : Status) → ConfigSays before c s → ConfigSays before c t → IsSame s t
@@ -200,27 +210,30 @@ configured-decides before config report setup e status set is says = (Good set.c
 built-decides : (before : Files) (config report : List ℕ) (setup : Setup) (source destination : List Stamped) (start : ℕ) (status : Status) →
     IsBuilt before config report setup source destination start → IsLate status → Decides before config report status
 built-decides before config report setup source destination start status built late =
-    configured-decides before config report setup (Whole source) status built.configured built.logs.source_log (Whole destination, built.logs.destination_log, (Fits, (start, built.ticks), late))
+    configured-decides before config report setup (Whole built.logs.source_lines source) status built.configured built.logs.source_log (Whole built.logs.destination_lines destination, built.logs.destination_log, (Fits, (start, built.ticks), late))
 
-line-decides : (before : Files) (config report : List ℕ) (setup : Setup) (place : BusNo) (bus number : ℕ) → place.0 ≡ bus → IsConfigured before config report setup →
-    IsUnbuiltLine before setup bus number → Decides before config report (Unbuilt (Line place number))
-line-decides before config report setup place zero number is set stops =
-    configured-decides before config report setup (AtLine number) (Unbuilt (Line place number)) set stops (place, is, refl)
-line-decides before config report setup place (suc zero) number is set stops =
-    configured-decides before config report setup (Whole stops.source) (Unbuilt (Line place number)) set stops.source_log (AtLine number, stops.stops, (place, is, refl))
-line-decides before config report setup place (suc (suc bus)) number is set none = absurd none
+line-decides : (before : Files) (config report : List ℕ) (setup : Setup) (place : BusNo) (bus number : ℕ) (refusal : LineRefusal) → place.0 ≡ bus → IsConfigured before config report setup →
+    IsRefusedLine before setup bus number refusal → Decides before config report (line_status place number refusal)
+line-decides before config report setup place zero number refusal is set stops =
+    configured-decides before config report setup (AtLine number refusal) (line_status place number refusal) set stops (place, is, refl)
+line-decides before config report setup place (suc zero) number refusal is set stops =
+    configured-decides before config report setup (Whole stops.lines stops.source) (line_status place number refusal) set stops.source_log (AtLine number refusal, stops.stops, (place, is, refl))
+line-decides before config report setup place (suc (suc bus)) number refusal is set none = absurd none
+
+log-decides : (before : Files) (config report : List ℕ) (bus : BusNo) (number : ℕ) (fault : LineFault) → IsCause before config report (LogRefused bus number fault) → Decides before config report (LogRefused bus number fault)
+log-decides before config report bus number fault (setup, set, line) = line-decides before config report setup bus bus.0 number (BadLine fault) refl set line
 
 unbuilt-decides : (before : Files) (config report : List ℕ) (form : Form) → IsCause before config report (Unbuilt form) → Decides before config report (Unbuilt form)
 unbuilt-decides before config report WholeConfiguration (c, reads, not) = (Good c, reads, NotBuilt not refl)
-unbuilt-decides before config report (Line bus number) (setup, set, line) = line-decides before config report setup bus bus.0 number refl set line
+unbuilt-decides before config report (Line bus number) (setup, set, line) = line-decides before config report setup bus bus.0 number LineNotBuilt refl set line
 
 limit-decides : (before : Files) (config report : List ℕ) (which : Which) (value : ℕ) → IsCause before config report (Limit which value) → Decides before config report (Limit which value)
 limit-decides before config report ConfigBytes value (is, long) = (Long, long, ap (Limit ConfigBytes) is)
 limit-decides before config report Lines value (is, (setup, set, inl past)) = configured-decides before config report setup Past (Limit Lines value) set past (ap (Limit Lines) is)
 limit-decides before config report Lines value (is, (setup, set, inr past)) =
-    configured-decides before config report setup (Whole past.source) (Limit Lines value) set past.source_log (Past, past.passes, ap (Limit Lines) is)
+    configured-decides before config report setup (Whole past.lines past.source) (Limit Lines value) set past.source_log (Past, past.passes, ap (Limit Lines) is)
 limit-decides before config report Ticks value (setup, set, ticks) =
-    configured-decides before config report setup (Whole ticks.source) (Limit Ticks value) set ticks.logs.source_log (Whole ticks.destination, ticks.logs.destination_log, (Many value, ticks.over, refl))
+    configured-decides before config report setup (Whole ticks.logs.source_lines ticks.source) (Limit Ticks value) set ticks.logs.source_log (Whole ticks.logs.destination_lines ticks.destination, ticks.logs.destination_log, (Many value, ticks.over, refl))
 
 -- an answer that isn't cut short decides
 answer-decides : (before after : Files) (config report : List ℕ) (result : Status) → IfDone result (Forwards before after config report) →
@@ -229,6 +242,7 @@ answer-decides before after config report (Ok summary) done cause files = inl (b
 answer-decides before after config report Accepted done cause files = absurd cause
 answer-decides before after config report Usage done cause files = absurd cause
 answer-decides before after config report (ConfigRefused why) done cause files = inl (Bad why, cause, refl)
+answer-decides before after config report (LogRefused bus number fault) done cause files = inl (log-decides before config report bus number fault cause)
 answer-decides before after config report (Unbuilt form) done cause files = inl (unbuilt-decides before config report form cause)
 answer-decides before after config report (ReadFault role) done cause files = inr tt
 answer-decides before after config report (WriteFault role) done cause (inl (written, begun)) =
@@ -252,6 +266,7 @@ is_exact before after config report result done cause files =
     let answered = answer-decides before after config report result done cause files in
     record {
       refused = λ why is. same-answer before config report result (ConfigRefused why) answered (Bad why, is, refl) (λ late. late);
+      log = λ bus number fault is. same-answer before config report result (LogRefused bus number fault) answered (log-decides before config report bus number fault is) (λ late. late);
       unbuilt = λ form is. same-answer before config report result (Unbuilt form) answered (unbuilt-decides before config report form is) (λ late. late);
       limit = λ which value is. same-answer before config report result (Limit which value) answered (limit-decides before config report which value is) (λ late. late);
     }
@@ -289,6 +304,8 @@ is_complete told before config report faults faults' blame said said' Accepted c
 is_complete told before config report faults faults' blame said said' (ConfigRefused why) cause fault setup source destination start built no_fault all_said =
     absurd (not_refused before config report setup source destination start (ConfigRefused why) built (Bad why, cause, refl) (λ late. late) (λ e. cc))
 is_complete told before config report faults faults' blame said said' Usage cause fault setup source destination start built no_fault all_said = absurd cause
+is_complete told before config report faults faults' blame said said' (LogRefused bus number why) cause fault setup source destination start built no_fault all_said =
+    absurd (not_refused before config report setup source destination start (LogRefused bus number why) built (log-decides before config report bus number why cause) (λ late. late) (λ e. cc))
 is_complete told before config report faults faults' blame said said' (Unbuilt form) cause fault setup source destination start built no_fault all_said =
     absurd (not_refused before config report setup source destination start (Unbuilt form) built (unbuilt-decides before config report form cause) (λ late. late) (λ e. cc))
 is_complete told before config report faults faults' blame said said' (ReadFault role) cause (inl (inl failed)) setup source destination start built no_fault all_said = absurd (no_fault failed.1)

@@ -1,7 +1,6 @@
 pub mod Answered
 pub mod Barriers
 pub mod Beginning
-pub mod Built
 pub mod CanTell
 pub mod Checked
 pub mod Cuts
@@ -12,6 +11,7 @@ pub mod Feeds
 pub mod Fresh
 pub mod Leavings
 pub mod Left
+pub mod LineFeeds
 pub mod Logs
 pub mod Lying
 pub mod Names

@@ -1,23 +1,26 @@
--- A log that isn't read to its end: a line that isn't built, or one too many.
-use Rattle.std.proofs.Common.{◌≡◌, ◌≢◌, ℕ, ◌+◌, ◌-◌, ◌<◌, ◌≤◌, ◌⊎◌, Bool, true, false, cond, ◌==◌, List, [], ◌∷◌, ◌++◌, length, take, drop, get_or, refl, subst, sym, ◌∙◌, ap, inl, inr, append_assoc, append-nil, add-one, drop-cons, length-append, length-take, arith}
+-- A log that isn't read to its end: a line that is refused, or one too many.
+use Rattle.std.proofs.Common.{◌≡◌, ◌≢◌, ℕ, ◌+◌, ◌-◌, ◌<◌, ◌≤◌, ◌⊎◌, Bool, true, false, cond, ◌==◌, Err, List, [], ◌∷◌, ◌++◌, length, take, drop, refl, subst, sym, ◌∙◌, ap, inl, inr, append_assoc, append-nil, length-append, length-take, arith}
 use Rattle.std.specs.Prelude.{slice_index}
 use Rattle.std.proofs.Math.Seq.{take-add}
 use Rattle.std.proofs.lemmas.List.{take-append-drop}
 use Rattle.std.proofs.lemmas.Bool.{cases_eq}
 use Rattle.std.proofs.lemmas.List.Elements.{All-nil, All-cons, All-append}
-use Rattle.candump_line.specs.Line.{IsInterface}
-use Rattle.candump_line.proofs.PlainLemmas.{length-plain}
+use Rattle.candump_line.proofs.ReadLemmas.{line-too_long}
+use Rattle.candump_line.specs.declared.fault.LineKind.TheVariants.{TooLong}
 use Rattle.gw_depot.specs.Files.{Files, ReadsFile}
-use Rattle.gw_run.specs.Setup.{Bus}
-use Rattle.gw_run.specs.declared.log.Stamped.{Stamped}
+use Rattle.gw_run.specs.Setup.{Bus, is_unbuilt_frame}
+use Rattle.gw_run.specs.declared.log.LineRefusal.TheVariants.{Bad}
 use Rattle.gw_run.specs.declared.log.LineStop.{LineStop}
-use Rattle.gw_run.specs.declared.log.LineStop.TheVariants.{Memory, Unbuilt, Limit}
+use Rattle.gw_run.specs.declared.log.LineStop.TheVariants.{Memory, Refused, Limit}
 use Rattle.gw_run.specs.declared.log.LogStop.TheVariants.{Line}
-use Rattle.gw_run.specs.Line.{IsBuiltLine, without_return}
-use Rattle.gw_run.specs.Log.{HasNoFeed, ended, EndsLine, ReadSoFar, StopsAt, GoesPast, Stops, Refuses, LogStops}
+use Rattle.gw_run.specs.declared.log.Stamped.{Stamped}
+use Rattle.gw_run.specs.Line.{taken_by, taken_of, without_return}
+use Rattle.gw_run.specs.Log.{HasNoFeed, IsFeedAt, ended, EndsLine, ReadSoFar, StopsAt, GoesPast, Stops, Refuses, LogStops}
 use Rattle.gw_run.proofs.Logs.{ReadFrom}
 use Rattle.gw_run.proofs.Pieces.{read_within, take-whole}
-use Rattle.gw_base.proofs.Lists.{zip-long}
+
+regroup : (a b c d e : List ℕ) → ((a ++ b) ++ c) ++ (d ++ e) ≡ a ++ ((b ++ c) ++ d) ++ e
+regroup a b c d e = simp append_assoc
 
 -- the line at the front of some bytes
 record FrontLine (bytes : List ℕ) : Type 0 where
@@ -44,95 +47,98 @@ without_return-long line =
       | false ↦ omega arith
     ]
 
--- a line of more than 512 bytes isn't built
-too_long : (bus : Bus) (line : List ℕ) → IsInterface (bus.interface) → 514 ≤ length line → (s : Stamped) → ¬ IsBuiltLine bus (without_return line) s
-too_long bus line name long s built =
-    let short = length-plain (bus.interface) (without_return line) s.at.0 s.frame name built.plain in
-    omega (arith, short, without_return-long line)
+-- a line of more than 512 bytes is too long
+too_long : (bus : Bus) (line : List ℕ) → 514 ≤ length line → taken_by bus line ≡ Err (Bad (record { kind = TooLong; at = 512 }))
+too_long bus line long =
+    let much : 513 ≤ length (without_return line) = omega (arith, long, without_return-long line) in
+    ap (λ r. taken_of (is_unbuilt_frame bus.side) r) (line-too_long bus.interface (without_return line) much)
 
-counted : (bus : Bus) (content piece : List ℕ) (frames : List Stamped) → (so_far : ReadSoFar bus content piece frames) → length so_far.lines ≡ length frames
-counted bus content piece frames so_far = zip-long _ so_far.lines frames so_far.built
-
--- the line that ends here isn't built
-pub stops_here : (bus : Bus) (most : ℕ) (content line tail : List ℕ) (frames : List Stamped) (stop : LineStop) →
-    ReadSoFar bus content line frames → EndsLine line tail → length frames < most → Refuses bus line (length frames) stop → Stops bus most (content ++ tail) stop
-stops_here bus most content line tail frames Memory so_far ends few refused = tt
-stops_here bus most content line tail frames (Unbuilt number) so_far ends few refused = record {
+-- the line that ends here is refused
+pub stops_here : (bus : Bus) (most : ℕ) (content line tail : List ℕ) (count : ℕ) (frames : List Stamped) (stop : LineStop) →
+    ReadSoFar bus content line count frames → EndsLine line tail → count < most → Refuses bus line count stop → Stops bus most (content ++ tail) stop
+stops_here bus most content line tail count frames Memory so_far ends few refused = tt
+stops_here bus most content line tail count frames (Refused number refusal) so_far ends few refused = record {
   lines = so_far.lines;
-  frames = frames;
   line = line;
   tail = tail;
   bytes = ap (λ t. t ++ tail) so_far.bytes;
   no_feed = so_far.no_feed;
-  built = so_far.built;
+  taken = so_far.taken;
   is_line = so_far.unfinished;
   ends = ends;
-  not_built = refused.1;
-  count = refused.0 ∙ ap (λ n. n + 1) (sym (counted bus content line frames so_far));
+  refused = refused.1;
+  count = refused.0 ∙ ap (λ n. n + 1) so_far.count_is;
   within = omega (arith, refused.0, few);
 }
-stops_here bus most content line tail frames Limit so_far ends few refused = absurd refused
+stops_here bus most content line tail count frames Limit so_far ends few refused = absurd refused
 
 -- the line is too long, wherever it ends
-pub stops_within : (bus : Bus) (most : ℕ) (content piece later : List ℕ) (byte : ℕ) (frames : List Stamped) (number : ℕ) →
-    IsInterface (bus.interface) → ReadSoFar bus content piece frames → 513 ≤ length piece → byte ≢ 10 → number ≡ length frames + 1 → length frames < most →
-    StopsAt bus most (content ++ byte ∷ later) number
-stops_within bus most content piece later byte frames number name so_far long other is few =
+pub stops_within : (bus : Bus) (most : ℕ) (content piece part later : List ℕ) (count : ℕ) (frames : List Stamped) (number : ℕ) →
+    ReadSoFar bus content piece count frames → 514 ≤ length piece + length part → HasNoFeed part → number ≡ count + 1 → count < most →
+    StopsAt bus most (content ++ part ++ later) number (Bad (record { kind = TooLong; at = 512 }))
+stops_within bus most content piece part later count frames number so_far long none is few =
     let front : FrontLine later = front_line later in
-    let line : List ℕ = piece ++ byte ∷ front.line in
-    let all : piece ++ byte ∷ later ≡ line ++ front.tail = ap (λ t. piece ++ byte ∷ t) front.all ∙ sym (append_assoc piece (byte ∷ front.line) front.tail) in
-    let much : 514 ≤ length line = rw length-append (omega arith) in
-    let some : line ≢ [] = λ none. let zero : length line ≡ 0 = ap length none in omega arith in
+    let line : List ℕ = (piece ++ part) ++ front.line in
+    let much : 514 ≤ length line = rw length-append (rw length-append (omega (arith, long))) in
+    let some : line ≢ [] = λ empty. let zero : length line ≡ 0 = ap length empty in omega (arith, zero, much) in
     record {
       lines = so_far.lines;
-      frames = frames;
       line = line;
       tail = front.tail;
-      bytes = ap (λ t. t ++ byte ∷ later) so_far.bytes ∙ append_assoc (ended so_far.lines) piece (byte ∷ later)
-          ∙ ap (λ t. ended so_far.lines ++ t) all ∙ sym (append_assoc (ended so_far.lines) line front.tail);
+      bytes = ap (λ t. t ++ part ++ later) so_far.bytes ∙ ap (λ t. ((ended so_far.lines ++ piece) ++ part) ++ t) front.all ∙ regroup (ended so_far.lines) piece part front.line front.tail;
       no_feed = so_far.no_feed;
-      built = so_far.built;
-      is_line = All-append (λ b. b ≢ 10) piece (byte ∷ front.line) so_far.unfinished (All-cons (λ b. b ≢ 10) byte front.line other front.is_line);
-      ends = elim front.ends [ inl none ↦ inl (none, some) | inr feed ↦ inr feed ];
-      not_built = too_long bus line name much;
-      count = is ∙ ap (λ n. n + 1) (sym (counted bus content piece frames so_far));
+      taken = so_far.taken;
+      is_line = All-append (λ b. b ≢ 10) (piece ++ part) front.line (All-append (λ b. b ≢ 10) piece part so_far.unfinished none) front.is_line;
+      ends = elim front.ends [ inl empty ↦ inl (empty, some) | inr feed ↦ inr feed ];
+      refused = too_long bus line much;
+      count = is ∙ ap (λ n. n + 1) so_far.count_is;
       within = omega (arith, is, few);
     }
 
 -- one line too many begins
-pub goes_past : (bus : Bus) (most : ℕ) (content piece : List ℕ) (byte : ℕ) (later : List ℕ) (frames : List Stamped) →
-    ReadSoFar bus content piece frames → piece ≡ [] → length frames ≡ most → GoesPast bus (content ++ byte ∷ later) most
-goes_past bus most content piece byte later frames so_far none full = record {
+pub goes_past : (bus : Bus) (most : ℕ) (content piece bytes : List ℕ) (count : ℕ) (frames : List Stamped) →
+    ReadSoFar bus content piece count frames → piece ≡ [] → count ≡ most → 0 < length bytes → GoesPast bus (content ++ bytes) most
+goes_past bus most content piece bytes count frames so_far none full some = record {
   lines = so_far.lines;
-  frames = frames;
-  rest = byte ∷ later;
-  bytes = ap (λ t. t ++ byte ∷ later) (so_far.bytes ∙ rw none (append-nil (ended so_far.lines)));
+  rest = bytes;
+  bytes = ap (λ t. t ++ bytes) (so_far.bytes ∙ rw none (append-nil (ended so_far.lines)));
   no_feed = so_far.no_feed;
-  built = so_far.built;
-  count = counted bus content piece frames so_far ∙ full;
-  further = λ empty. cc;
+  taken = so_far.taken;
+  count = sym so_far.count_is ∙ full;
+  further = λ empty. let zero : length bytes ≡ 0 = ap length empty in omega (arith, zero, some);
 }
 
--- the names of the base buses' interfaces
--- a byte among others
-among : (bytes : List ℕ) (i : ℕ) → i < length bytes → bytes ≡ take i bytes ++ get_or bytes i 0 ∷ drop (i + 1) bytes
-among bytes i inside = sym (take-append-drop i bytes) ∙ ap (λ t. take i bytes ++ t) (rw (add-one, drop-cons bytes i 0) refl)
+-- what stops in a part of some bytes stops in all of them
+pub stops_in_part : (bus : Bus) (most most' : ℕ) (content bytes later : List ℕ) (front : ℕ) (stop : LineStop) → most' ≡ most →
+    Stops bus most' (content ++ take front bytes ++ (drop front bytes ++ later)) stop → Stops bus most (content ++ bytes ++ later) stop
+stops_in_part bus most most' content bytes later front stop same_most stops =
+    let all : content ++ take front bytes ++ (drop front bytes ++ later) ≡ content ++ bytes ++ later =
+    sym (append_assoc (content ++ take front bytes) (drop front bytes) later) ∙ ap (λ t. t ++ later) (append_assoc content (take front bytes) (drop front bytes) ∙ ap (λ t. content ++ t) (take-append-drop front bytes)) in
+    subst (λ t. Stops bus most t stop) all (rw (← same_most) stops)
 
--- what stops at a byte stops in all that follows it
-pub stops_at_byte : (bus : Bus) (most most' : ℕ) (content bytes later : List ℕ) (i : ℕ) (stop : LineStop) → most' ≡ most → i < length bytes →
-    Stops bus most' ((content ++ take i bytes) ++ get_or bytes i 0 ∷ (drop (i + 1) bytes ++ later)) stop → Stops bus most (content ++ bytes ++ later) stop
-stops_at_byte bus most most' content bytes later i stop same_most inside stops =
-    let all : (content ++ take i bytes) ++ get_or bytes i 0 ∷ (drop (i + 1) bytes ++ later) ≡ content ++ bytes ++ later =
-    append_assoc content (take i bytes) (get_or bytes i 0 ∷ (drop (i + 1) bytes ++ later))
-    ∙ ap (λ t. content ++ t) (sym (append_assoc (take i bytes) (get_or bytes i 0 ∷ drop (i + 1) bytes) later) ∙ ap (λ t. t ++ later) (sym (among bytes i inside)))
+-- and so does what stops at their first line feed
+pub stops_at_feed : (bus : Bus) (most most' : ℕ) (content bytes later : List ℕ) (place : ℕ) (stop : LineStop) → most' ≡ most → IsFeedAt bytes place →
+    Stops bus most' ((content ++ take place bytes) ++ 10 ∷ (drop (place + 1) bytes ++ later)) stop → Stops bus most (content ++ bytes ++ later) stop
+stops_at_feed bus most most' content bytes later place stop same_most at stops =
+    let all : (content ++ take place bytes) ++ 10 ∷ (drop (place + 1) bytes ++ later) ≡ content ++ bytes ++ later =
+    append_assoc content (take place bytes) (10 ∷ (drop (place + 1) bytes ++ later))
+    ∙ ap (λ t. content ++ t) (sym (append_assoc (take place bytes) (10 ∷ drop (place + 1) bytes) later) ∙ ap (λ t. t ++ later) (sym at.feed))
     ∙ sym (append_assoc content bytes later) in
     subst (λ t. Stops bus most t stop) all (rw (← same_most) stops)
 
+-- what stops in the rest of some bytes stops in all of them
+pub stops_in_rest : (bus : Bus) (most most' : ℕ) (content bytes rest later : List ℕ) (done : ℕ) (stop : LineStop) → most' ≡ most → rest ≡ drop done bytes →
+    Stops bus most' ((content ++ take done bytes) ++ rest ++ later) stop → Stops bus most (content ++ bytes ++ later) stop
+stops_in_rest bus most most' content bytes rest later done stop same_most is stops =
+    let all : (content ++ take done bytes) ++ rest ++ later ≡ content ++ bytes ++ later =
+    ap (λ t. (content ++ take done bytes) ++ t ++ later) is ∙ ap (λ t. t ++ later) (append_assoc content (take done bytes) (drop done bytes) ∙ ap (λ t. content ++ t) (take-append-drop done bytes)) in
+    subst (λ t. Stops bus most t stop) all (rw (← same_most) stops)
+
 -- what stops at the file's end stops in the whole log
-pub stops_at_end : (told : Bool) (files : Files) (bus : Bus) (most most' taken : ℕ) (piece got : List ℕ) (frames : List Stamped) (stop : LineStop) → most' ≡ most →
-    ReadFrom told files bus taken piece frames → (told ≡ true → ReadsFile files (bus.log) taken 0 got) →
-    ((content : List ℕ) → ReadSoFar bus content piece frames → Stops bus most' content stop) → LogStops told files bus most (Line stop)
-stops_at_end told files bus most most' taken piece got frames stop same_most from reads stops is =
+pub stops_at_end : (told : Bool) (files : Files) (bus : Bus) (most most' taken : ℕ) (piece got : List ℕ) (count : ℕ) (frames : List Stamped) (stop : LineStop) → most' ≡ most →
+    ReadFrom told files bus taken piece count frames → (told ≡ true → ReadsFile files (bus.log) taken 0 got) →
+    ((content : List ℕ) → ReadSoFar bus content piece count frames → Stops bus most' content stop) → LogStops told files bus most (Line stop)
+stops_at_end told files bus most most' taken piece got count frames stop same_most from reads stops is =
     let read = reads is in
     let whole = from.there is read.content read.there in
     let past : length read.content ≤ taken = read.end.0 refl in
@@ -144,18 +150,18 @@ stops_at_end told files bus most most' taken piece got frames stop same_most fro
     }
 
 -- and so does what stops in the bytes of one read
-pub stops_in_read : (told : Bool) (files : Files) (bus : Bus) (most most' taken count : ℕ) (piece got : List ℕ) (frames : List Stamped) (stop : LineStop) → most' ≡ most →
-    ReadFrom told files bus taken piece frames → (told ≡ true → ReadsFile files (bus.log) taken count got) → length got ≡ count →
-    ((content later : List ℕ) → ReadSoFar bus content piece frames → Stops bus most' (content ++ got ++ later) stop) → LogStops told files bus most (Line stop)
-stops_in_read told files bus most most' taken count piece got frames stop same_most from reads long stops is =
+pub stops_in_read : (told : Bool) (files : Files) (bus : Bus) (most most' taken came : ℕ) (piece got : List ℕ) (count : ℕ) (frames : List Stamped) (stop : LineStop) → most' ≡ most →
+    ReadFrom told files bus taken piece count frames → (told ≡ true → ReadsFile files (bus.log) taken came got) → length got ≡ came →
+    ((content later : List ℕ) → ReadSoFar bus content piece count frames → Stops bus most' (content ++ got ++ later) stop) → LogStops told files bus most (Line stop)
+stops_in_read told files bus most most' taken came piece got count frames stop same_most from reads long stops is =
     let read = reads is in
     let whole = from.there is read.content read.there in
-    let next = read_within files (bus.log) got read.content taken count read long read.there whole.1 in
-    let front : from.front ++ got ≡ take (taken + count) read.content = rw take-add (rw (← whole.0, ← next.0) refl) in
-    let all : from.front ++ got ++ drop (taken + count) read.content ≡ read.content =
-    ap (λ t. t ++ drop (taken + count) read.content) front ∙ take-append-drop (taken + count) read.content in
+    let next = read_within files (bus.log) got read.content taken came read long read.there whole.1 in
+    let front : from.front ++ got ≡ take (taken + came) read.content = rw take-add (rw (← whole.0, ← next.0) refl) in
+    let all : from.front ++ got ++ drop (taken + came) read.content ≡ read.content =
+    ap (λ t. t ++ drop (taken + came) read.content) front ∙ take-append-drop (taken + came) read.content in
     record {
       content = read.content;
       there = read.there;
-      stops = subst (λ t. Stops bus most t stop) all (rw (← same_most) (stops from.front (drop (taken + count) read.content) from.so_far));
+      stops = subst (λ t. Stops bus most t stop) all (rw (← same_most) (stops from.front (drop (taken + came) read.content) from.so_far));
     }

@@ -1,5 +1,7 @@
 -- What a command answers, and why.
 use Rattle.std.specs.Prelude.{◌≡◌, ◌⊎◌, ℕ, Bool, true, List}
+use Rattle.candump_line.specs.declared.fault.LineFault.{LineFault}
+use Rattle.gw_base.specs.declared.numbers.BusNo.{BusNo}
 use Rattle.gw_depot.specs.Fault.{Blame, Rose}
 use Rattle.gw_depot.specs.Files.{Files}
 use Rattle.gw_run.specs.declared.log.Stamped.{Stamped}
@@ -7,7 +9,7 @@ use Rattle.gw_run.specs.declared.status.ConfigCause.{ConfigCause}
 use Rattle.gw_run.specs.declared.status.FileRole.TheVariants.{Say}
 use Rattle.gw_run.specs.declared.status.Form.{Form}
 use Rattle.gw_run.specs.declared.status.Status.{Status}
-use Rattle.gw_run.specs.declared.status.Status.TheVariants.{Ok, Accepted, Usage, ConfigRefused, Unbuilt, ReadFault, WriteFault, Memory, Limit}
+use Rattle.gw_run.specs.declared.status.Status.TheVariants.{Ok, Accepted, Usage, ConfigRefused, LogRefused, Unbuilt, ReadFault, WriteFault, Memory, Limit}
 use Rattle.gw_run.specs.declared.status.Which.{Which}
 use Rattle.gw_run.specs.Causes.{IsCause, IsFault, LeavesFiles}
 use Rattle.gw_run.specs.Forwarded.{Forwards, IfDone, IsBuilt}
@@ -25,6 +27,7 @@ IsCutShort (Ok summary) = ⊥
 IsCutShort Accepted = ⊥
 IsCutShort Usage = ⊥
 IsCutShort (ConfigRefused cause) = ⊥
+IsCutShort (LogRefused bus line fault) = ⊥
 IsCutShort (Unbuilt form) = ⊥
 IsCutShort (ReadFault role) = Unit {0}
 IsCutShort (WriteFault role) = ⊥
@@ -34,6 +37,7 @@ IsCutShort (Limit which value) = ⊥
 -- a refusal with a cause in the files comes wherever it has its cause, but where a read fails or memory is wanting
 pub record IsExact (before : Files) (config report : List ℕ) (result : Status) : Type 0 where
   pub refused : (cause : ConfigCause) → IsCause before config report (ConfigRefused cause) → (result ≡ ConfigRefused cause) ⊎ IsCutShort result
+  pub log : (bus : BusNo) (line : ℕ) (fault : LineFault) → IsCause before config report (LogRefused bus line fault) → (result ≡ LogRefused bus line fault) ⊎ IsCutShort result
   pub unbuilt : (form : Form) → IsCause before config report (Unbuilt form) → (result ≡ Unbuilt form) ⊎ IsCutShort result
   pub limit : (which : Which) (value : ℕ) → IsCause before config report (Limit which value) → (result ≡ Limit which value) ⊎ IsCutShort result
 

@@ -1,12 +1,14 @@
 -- Why a run was refused. Each cause is looked for only where no earlier one was met.
-use Rattle.std.specs.Prelude.{◌≡◌, ◌≢◌, ◌⊎◌, ℕ, zero, suc, ◌+◌, ◌-◌, ◌<◌, Bool, true, List, ◌++◌, length, Some}
+use Rattle.std.specs.Prelude.{◌≡◌, ◌≢◌, ◌⊎◌, ℕ, zero, suc, ◌+◌, ◌-◌, ◌<◌, Bool, true, List, ◌++◌, Some}
 use Rattle.gw_base.specs.declared.numbers.BusNo.{BusNo}
 use Rattle.gw_config.specs.Config.{Configuration}
 use Rattle.gw_depot.specs.declared.outside.CallKind.TheVariants.{Read}
 use Rattle.gw_depot.specs.Fault.{Blame, Rose}
 use Rattle.gw_depot.specs.Files.{Files}
 use Rattle.gw_run.specs.declared.log.Stamped.{Stamped}
-use Rattle.gw_run.specs.declared.log.LineStop.TheVariants.{Unbuilt as UnbuiltLine, Limit as LineLimit, Memory as LineMemory}
+use Rattle.gw_run.specs.declared.log.LineRefusal.{LineRefusal}
+use Rattle.gw_run.specs.declared.log.LineRefusal.TheVariants.{Unbuilt as NotBuilt, Bad}
+use Rattle.gw_run.specs.declared.log.LineStop.TheVariants.{Refused, Limit as LineLimit, Memory as LineMemory}
 use Rattle.gw_run.specs.declared.log.LogStop.{LogStop}
 use Rattle.gw_run.specs.declared.log.LogStop.TheVariants.{Fault, Line as AtLine}
 use Rattle.gw_run.specs.declared.status.FileRole.{FileRole}
@@ -14,7 +16,7 @@ use Rattle.gw_run.specs.declared.status.FileRole.TheVariants.{Config, Log, Say}
 use Rattle.gw_run.specs.declared.status.Form.TheVariants.{Configuration as WholeConfiguration, Line}
 use Rattle.gw_run.specs.declared.status.Status.{Status}
 use Rattle.gw_run.specs.declared.status.Summary.{Summary}
-use Rattle.gw_run.specs.declared.status.Status.TheVariants.{Ok, Accepted, Usage, ConfigRefused, Unbuilt, ReadFault, WriteFault, Memory, Limit}
+use Rattle.gw_run.specs.declared.status.Status.TheVariants.{Ok, Accepted, Usage, ConfigRefused, LogRefused, Unbuilt, ReadFault, WriteFault, Memory, Limit}
 use Rattle.gw_run.specs.declared.status.Which.TheVariants.{ConfigBytes, Lines, Ticks}
 use Rattle.gw_run.specs.Config.{HoldsText, IsRefusedFor, ReadsConfig}
 use Rattle.gw_run.specs.Forwarded.{BeginsToForward, Forwards, HoldsLog, HoldsLogs, IsConfigured, last_of}
@@ -24,13 +26,13 @@ use Rattle.gw_run.specs.Setup.{Bus, IsBuiltConfig, Setup}
 use Rattle.gw_run.specs.Start.{IsStart, stamps_of}
 use Rattle.gw_run.specs.Whole.{IsTooLong}
 
--- the bus's log has a line that isn't built, and only lines that are before it; it is among the first so many
-pub record StopsLog (before : Files) (bus : Bus) (most number : ℕ) : Type 0 where
+-- the bus's log has a line that is refused, and only lines that are taken before it; it is among the first so many
+pub record StopsLog (before : Files) (bus : Bus) (most number : ℕ) (refusal : LineRefusal) : Type 0 where
   pub content : List ℕ
   pub there : before bus.log ≡ Some content
-  pub stops : StopsAt bus most content number
+  pub stops : StopsAt bus most content number refusal
 
--- a line of the bus's log begins after so many, all of them built
+-- a line of the bus's log begins after so many, all of them taken
 pub record PassesLog (before : Files) (bus : Bus) (most : ℕ) : Type 0 where
   pub content : List ℕ
   pub there : before bus.log ≡ Some content
@@ -41,22 +43,28 @@ abbrev pub IsUnbuiltConfig : Files → (config report : List ℕ) → Type 0
 IsUnbuiltConfig before config report = (c : Configuration) × ReadsConfig before config (Some report) c × ((setup : Setup) → ¬ IsBuiltConfig c setup)
 
 -- the source's log is built line by line, and the destination's isn't
-pub record StopsSecondLog (before : Files) (setup : Setup) (number : ℕ) : Type 0 where
+pub record StopsSecondLog (before : Files) (setup : Setup) (number : ℕ) (refusal : LineRefusal) : Type 0 where
+  pub lines : ℕ
   pub source : List Stamped
-  pub source_log : HoldsLog before setup.source 1_000_000 source
-  pub stops : StopsLog before setup.destination (1_000_000 - length source) number
+  pub source_log : HoldsLog before setup.source 1_000_000 lines source
+  pub stops : StopsLog before setup.destination (1_000_000 - lines) number refusal
 
--- the line of the bus, counted from 1, is the first that isn't built, in bus order
-abbrev pub IsUnbuiltLine : Files → Setup → (bus number : ℕ) → Type 0
-IsUnbuiltLine before setup zero number = StopsLog before setup.source 1_000_000 number
-IsUnbuiltLine before setup (suc zero) number = StopsSecondLog before setup number
-IsUnbuiltLine before setup (suc (suc bus)) number = ⊥
+-- the line of the bus, counted from 1, is the first that is refused, in bus order
+abbrev pub IsRefusedLine : Files → Setup → (bus number : ℕ) → LineRefusal → Type 0
+IsRefusedLine before setup zero number refusal = StopsLog before setup.source 1_000_000 number refusal
+IsRefusedLine before setup (suc zero) number refusal = StopsSecondLog before setup number refusal
+IsRefusedLine before setup (suc (suc bus)) number refusal = ⊥
+
+-- the same of the run that a configuration asks for
+abbrev pub RefusesLine : Files → (config report : List ℕ) → (bus number : ℕ) → LineRefusal → Type 0
+RefusesLine before config report bus number refusal = (setup : Setup) × IsConfigured before config report setup × IsRefusedLine before setup bus number refusal
 
 -- the source's log is built line by line, and a line of the destination's begins after a million of both
 pub record PassesSecondLog (before : Files) (setup : Setup) : Type 0 where
+  pub lines : ℕ
   pub source : List Stamped
-  pub source_log : HoldsLog before setup.source 1_000_000 source
-  pub passes : PassesLog before setup.destination (1_000_000 - length source)
+  pub source_log : HoldsLog before setup.source 1_000_000 lines source
+  pub passes : PassesLog before setup.destination (1_000_000 - lines)
 
 -- the run has more than ten million ticks
 pub record TooManyTicks (setup : Setup) (source destination : List Stamped) (value : ℕ) : Type 0 where
@@ -78,8 +86,9 @@ IsCause before config report (Ok summary) = Unit {0}
 IsCause before config report Accepted = ⊥
 IsCause before config report Usage = ⊥
 IsCause before config report (ConfigRefused cause) = HoldsText before config (IsRefusedFor config (Some report) cause)
+IsCause before config report (LogRefused bus number fault) = RefusesLine before config report bus.0 number (Bad fault)
 IsCause before config report (Unbuilt WholeConfiguration) = IsUnbuiltConfig before config report
-IsCause before config report (Unbuilt (Line bus number)) = (setup : Setup) × IsConfigured before config report setup × IsUnbuiltLine before setup bus.0 number
+IsCause before config report (Unbuilt (Line bus number)) = RefusesLine before config report bus.0 number NotBuilt
 IsCause before config report (ReadFault role) = Unit {0}
 IsCause before config report (WriteFault role) = Unit {0}
 IsCause before config report Memory = Unit {0}
@@ -98,6 +107,7 @@ LeavesFiles (Ok summary) before after config report = Unit {0}
 LeavesFiles Accepted before after config report = after ≡ before
 LeavesFiles Usage before after config report = after ≡ before
 LeavesFiles (ConfigRefused cause) before after config report = after ≡ before
+LeavesFiles (LogRefused bus line fault) before after config report = after ≡ before
 LeavesFiles (Unbuilt form) before after config report = after ≡ before
 LeavesFiles (ReadFault role) before after config report = after ≡ before
 LeavesFiles (WriteFault role) before after config report =
@@ -119,6 +129,7 @@ IsFault told before config report faults faults' blame (Ok summary) = Unit {0}
 IsFault told before config report faults faults' blame Accepted = Unit {0}
 IsFault told before config report faults faults' blame Usage = Unit {0}
 IsFault told before config report faults faults' blame (ConfigRefused cause) = Unit {0}
+IsFault told before config report faults faults' blame (LogRefused bus line fault) = Unit {0}
 IsFault told before config report faults faults' blame (Unbuilt form) = Unit {0}
 IsFault told before config report faults faults' blame (ReadFault role) =
     ConfigFailed config faults faults' blame role ⊎ ((setup : Setup) × IsSetup told before config report setup × ReadFailed setup faults faults' blame role)
@@ -126,24 +137,34 @@ IsFault told before config report faults faults' blame (WriteFault role) = (setu
 IsFault told before config report faults faults' blame Memory = Unit {0}
 IsFault told before config report faults faults' blame (Limit which value) = Unit {0}
 
--- the name that is said of a line that isn't built is its bus's
+-- the name of the bus with that number
+abbrev pub IsNameOf : Bool → Files → (config report : List ℕ) → (bus : ℕ) → (name : List ℕ) → Type 0
+IsNameOf told before config report bus name = (setup : Setup) × IsSetup told before config report setup × (name ≡ (bus_numbered setup bus).interface)
+
+-- the name that is said of a line that isn't taken is its bus's
 abbrev pub IsNamed : Bool → Files → (config report : List ℕ) → Status → (name : List ℕ) → Type 0
 IsNamed told before config report (Ok summary) name = Unit {0}
 IsNamed told before config report Accepted name = Unit {0}
 IsNamed told before config report Usage name = Unit {0}
 IsNamed told before config report (ConfigRefused cause) name = Unit {0}
+IsNamed told before config report (LogRefused bus line fault) name = IsNameOf told before config report bus.0 name
 IsNamed told before config report (Unbuilt WholeConfiguration) name = Unit {0}
-IsNamed told before config report (Unbuilt (Line bus number)) name = (setup : Setup) × IsSetup told before config report setup × (name ≡ (bus_numbered setup bus.0).interface)
+IsNamed told before config report (Unbuilt (Line bus number)) name = IsNameOf told before config report bus.0 name
 IsNamed told before config report (ReadFault role) name = Unit {0}
 IsNamed told before config report (WriteFault role) name = Unit {0}
 IsNamed told before config report Memory name = Unit {0}
 IsNamed told before config report (Limit which value) name = Unit {0}
 
+-- what is answered where a line of a bus's log isn't taken
+abbrev pub line_status : BusNo → (number : ℕ) → LineRefusal → Status
+line_status bus number NotBuilt = Unbuilt (Line bus number)
+line_status bus number (Bad fault) = LogRefused bus number fault
+
 -- what is answered where a bus's log isn't read to its end
 abbrev pub log_status : BusNo → LogStop → Status
 log_status bus Fault = ReadFault (Log bus)
 log_status bus (AtLine LineMemory) = Memory
-log_status bus (AtLine (UnbuiltLine number)) = Unbuilt (Line bus number)
+log_status bus (AtLine (Refused number refusal)) = line_status bus number refusal
 log_status bus (AtLine LineLimit) = Limit Lines 1_000_001
 
 -- why the results of both logs' frames weren't planned
@@ -152,6 +173,7 @@ StopsPlan setup source destination (Ok summary) = ⊥
 StopsPlan setup source destination Accepted = ⊥
 StopsPlan setup source destination Usage = ⊥
 StopsPlan setup source destination (ConfigRefused cause) = ⊥
+StopsPlan setup source destination (LogRefused bus line fault) = ⊥
 StopsPlan setup source destination (Unbuilt form) = ⊥
 StopsPlan setup source destination (ReadFault role) = ⊥
 StopsPlan setup source destination (WriteFault role) = ⊥

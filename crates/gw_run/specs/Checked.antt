@@ -7,7 +7,7 @@ use Rattle.gw_depot.specs.Files.{Files}
 use Rattle.gw_run.specs.declared.status.ConfigCause.{ConfigCause}
 use Rattle.gw_run.specs.declared.status.FileRole.TheVariants.{Config, Say}
 use Rattle.gw_run.specs.declared.status.Status.{Status}
-use Rattle.gw_run.specs.declared.status.Status.TheVariants.{Ok, Accepted, Usage, ConfigRefused, Unbuilt, ReadFault, WriteFault, Memory, Limit}
+use Rattle.gw_run.specs.declared.status.Status.TheVariants.{Ok, Accepted, Usage, ConfigRefused, LogRefused, Unbuilt, ReadFault, WriteFault, Memory, Limit}
 use Rattle.gw_run.specs.declared.status.Which.TheVariants.{ConfigBytes, Lines, Ticks}
 use Rattle.gw_run.specs.Answered.{IsCutShort}
 use Rattle.gw_run.specs.Config.{HoldsText, IsRefusedFor, ReadsConfig}
@@ -23,6 +23,7 @@ IsCheckCause before config (Ok summary) = ⊥
 IsCheckCause before config Accepted = HoldsAccepted before config
 IsCheckCause before config Usage = ⊥
 IsCheckCause before config (ConfigRefused cause) = HoldsText before config (IsRefusedFor config None cause)
+IsCheckCause before config (LogRefused bus line fault) = ⊥
 IsCheckCause before config (Unbuilt form) = ⊥
 IsCheckCause before config (ReadFault role) = Unit {0}
 IsCheckCause before config (WriteFault role) = HoldsAccepted before config
@@ -37,6 +38,7 @@ IsCheckFault config faults faults' blame said said' (Ok summary) = Unit {0}
 IsCheckFault config faults faults' blame said said' Accepted = Unit {0}
 IsCheckFault config faults faults' blame said said' Usage = Unit {0}
 IsCheckFault config faults faults' blame said said' (ConfigRefused cause) = Unit {0}
+IsCheckFault config faults faults' blame said said' (LogRefused bus line fault) = Unit {0}
 IsCheckFault config faults faults' blame said said' (Unbuilt form) = Unit {0}
 IsCheckFault config faults faults' blame said said' (ReadFault role) = (role ≡ Config) × Rose faults faults' × (blame ≡ Some (Read, config))
 IsCheckFault config faults faults' blame said said' (WriteFault role) = (role ≡ Say) × Rose said said'

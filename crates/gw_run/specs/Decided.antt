@@ -4,7 +4,7 @@ use Rattle.gw_depot.specs.Fault.{Blame}
 use Rattle.gw_depot.specs.Files.{Files}
 use Rattle.gw_run.specs.declared.status.Form.TheVariants.{Configuration, Line}
 use Rattle.gw_run.specs.declared.status.Status.{Status}
-use Rattle.gw_run.specs.declared.status.Status.TheVariants.{Ok, Accepted, Usage, ConfigRefused, Unbuilt, ReadFault, WriteFault, Memory, Limit}
+use Rattle.gw_run.specs.declared.status.Status.TheVariants.{Ok, Accepted, Usage, ConfigRefused, LogRefused, Unbuilt, ReadFault, WriteFault, Memory, Limit}
 use Rattle.gw_run.specs.Causes.{IsCause, IsFault, IsNamed, LeavesFiles}
 use Rattle.gw_run.specs.Forwarded.{Forwards, IfDone}
 use Rattle.gw_run.specs.Results.{bus_numbered}
@@ -28,12 +28,13 @@ pub record IsToldOf (told : Bool) (before after : Files) (config report : List �
   pub stands : AfterTelling status said said' result
   pub line : told_said ≡ true → TellsLine name status old new said said' result
 
--- a name that goes with a status: of a line that isn't built its bus's
+-- a name that goes with a status: of a line that isn't taken its bus's
 abbrev pub IsNameIn : Setup → Status → (name : List ℕ) → Type 0
 IsNameIn setup (Ok summary) name = Unit {0}
 IsNameIn setup Accepted name = Unit {0}
 IsNameIn setup Usage name = Unit {0}
 IsNameIn setup (ConfigRefused cause) name = Unit {0}
+IsNameIn setup (LogRefused bus line fault) name = name ≡ (bus_numbered setup bus.0).interface
 IsNameIn setup (Unbuilt Configuration) name = Unit {0}
 IsNameIn setup (Unbuilt (Line bus number)) name = name ≡ (bus_numbered setup bus.0).interface
 IsNameIn setup (ReadFault role) name = Unit {0}

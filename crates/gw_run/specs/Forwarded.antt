@@ -15,7 +15,7 @@ use Rattle.gw_run.specs.declared.log.Stamped.{Stamped}
 use Rattle.gw_run.specs.declared.machines.Machines.{Machines}
 use Rattle.gw_run.specs.declared.status.Summary.{Summary}
 use Rattle.gw_run.specs.declared.status.Status.{Status}
-use Rattle.gw_run.specs.declared.status.Status.TheVariants.{Ok, Accepted, Usage, ConfigRefused, Unbuilt, ReadFault, WriteFault, Memory, Limit}
+use Rattle.gw_run.specs.declared.status.Status.TheVariants.{Ok, Accepted, Usage, ConfigRefused, LogRefused, Unbuilt, ReadFault, WriteFault, Memory, Limit}
 use Rattle.gw_run.specs.Config.{ReadsConfig}
 use Rattle.gw_run.specs.Frames.{greatest_tick}
 use Rattle.gw_run.specs.Log.{IsBuiltLog}
@@ -25,17 +25,19 @@ use Rattle.gw_run.specs.Results.{HasBegun, HasResults}
 use Rattle.gw_run.specs.Setup.{AreMachinesOf, Bus, IsBuiltConfig, Setup}
 use Rattle.gw_run.specs.Start.{IsStart, stamps_of}
 
--- the bus's log is there, and is a line for each of the frames, which are at most so many
-pub record HoldsLog (files : Files) (bus : Bus) (most : ℕ) (frames : List Stamped) : Type 0 where
+-- the bus's log is there, and is so many lines with these frames; the lines are at most so many as there may be
+pub record HoldsLog (files : Files) (bus : Bus) (most count : ℕ) (frames : List Stamped) : Type 0 where
   pub content : List ℕ
   pub there : files bus.log ≡ Some content
-  pub built : IsBuiltLog bus content frames
-  pub few : length frames ≤ most
+  pub built : IsBuiltLog bus content count frames
+  pub few : count ≤ most
 
 -- both logs are built line by line, and have at most a million lines together
 pub record HoldsLogs (files : Files) (setup : Setup) (source destination : List Stamped) : Type 0 where
-  pub source_log : HoldsLog files setup.source 1_000_000 source
-  pub destination_log : HoldsLog files setup.destination (1_000_000 - length source) destination
+  pub source_lines : ℕ
+  pub source_log : HoldsLog files setup.source 1_000_000 source_lines source
+  pub destination_lines : ℕ
+  pub destination_log : HoldsLog files setup.destination (1_000_000 - source_lines) destination_lines destination
 
 -- the configuration's file spells one that is accepted and built, and this is what it leaves free
 pub record IsConfigured (files : Files) (config report : List ℕ) (setup : Setup) : Type 0 where
@@ -129,6 +131,7 @@ IfDone (Ok summary) P = P summary
 IfDone Accepted P = ⊥
 IfDone Usage P = Unit {0}
 IfDone (ConfigRefused cause) P = Unit {0}
+IfDone (LogRefused bus line fault) P = Unit {0}
 IfDone (Unbuilt form) P = Unit {0}
 IfDone (ReadFault role) P = Unit {0}
 IfDone (WriteFault role) P = Unit {0}

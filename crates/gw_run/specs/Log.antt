@@ -1,14 +1,15 @@
--- A log: bytes that are cut at each line feed, and a frame for each line (this project's own, after candump's log format).
-use Rattle.std.specs.Prelude.{◌≡◌, ◌≢◌, ◌⊎◌, ℕ, ◌+◌, ◌≤◌, Bool, true, Some, List, [], ◌∷◌, ◌++◌, All, flat_map, length}
-use Rattle.std.specs.List.{AllZip}
-use Rattle.gw_run.specs.Setup.{Bus}
+-- A log: bytes that are cut at each line feed, and the frames that the lines give (this project's own, after candump's log format).
+use Rattle.std.specs.Prelude.{◌≡◌, ◌≢◌, ◌⊎◌, ℕ, ◌+◌, ◌<◌, ◌≤◌, Bool, true, Option, Some, IfSome, option_to_list, Result, Ok, Err, IsOk, List, [], ◌∷◌, ◌++◌, All, flat_map, length, take, drop}
+use Rattle.can_frame.specs.Frame.{CanFrame}
+use Rattle.gw_run.specs.Setup.{Bus, is_unbuilt_frame}
+use Rattle.gw_run.specs.declared.log.LineRefusal.{LineRefusal}
 use Rattle.gw_run.specs.declared.log.Stamped.{Stamped}
 use Rattle.gw_run.specs.declared.log.LineStop.{LineStop}
-use Rattle.gw_run.specs.declared.log.LineStop.TheVariants.{Memory, Unbuilt, Limit}
+use Rattle.gw_run.specs.declared.log.LineStop.TheVariants.{Memory, Refused, Limit}
 use Rattle.gw_run.specs.declared.log.LogStop.{LogStop}
 use Rattle.gw_run.specs.declared.log.LogStop.TheVariants.{Fault, Line}
 use Rattle.gw_depot.specs.Files.{Files}
-use Rattle.gw_run.specs.Line.{IsBuiltLine, without_return}
+use Rattle.gw_run.specs.Line.{IsBuiltStamped, line_taken, taken_by}
 
 -- no line feed is among the bytes
 abbrev pub HasNoFeed : List ℕ → Type 0
@@ -17,6 +18,12 @@ HasNoFeed bytes = All (λ b. b ≢ 10) bytes
 -- lines, each with the line feed that ends it
 abbrev pub ended : List (List ℕ) → List ℕ
 ended lines = flat_map (λ line. line ++ 10 ∷ []) lines
+
+-- at that place stands the first line feed
+pub record IsFeedAt (bytes : List ℕ) (place : ℕ) : Type 0 where
+  pub inside : place < length bytes
+  pub line : HasNoFeed (take place bytes)
+  pub feed : bytes ≡ take place bytes ++ 10 ∷ drop (place + 1) bytes
 
 -- after the line stands its line feed; or nothing, and then it isn't empty
 abbrev pub EndsLine : (line tail : List ℕ) → Type 0
@@ -30,67 +37,85 @@ pub record EndsWithin (content : List ℕ) (lines : List (List ℕ)) : Type 0 wh
   pub some : last ≢ []
   pub bytes : content ≡ ended front ++ last
 
--- each line is built, and is the line of the frame at its place
-abbrev pub AreBuilt : Bus → List (List ℕ) → List Stamped → Type 0
-AreBuilt bus lines frames = AllZip (λ line stamped. IsBuiltLine bus (without_return line) stamped) lines frames
-
--- the content, cut at each line feed, is a line for each frame
-pub record IsBuiltLog (bus : Bus) (content : List ℕ) (frames : List Stamped) : Type 0 where
-  pub lines : List (List ℕ)
+-- the content, cut at each line feed, is these lines
+pub record IsCut (content : List ℕ) (lines : List (List ℕ)) : Type 0 where
   pub cut : (content ≡ ended lines) ⊎ EndsWithin content lines
   pub no_feed : All HasNoFeed lines
-  pub built : AreBuilt bus lines frames
 
--- what was read so far is a line for each frame, and a piece of the next line
-pub record ReadSoFar (bus : Bus) (content piece : List ℕ) (frames : List Stamped) : Type 0 where
+-- the frame that a line gives, where it is taken
+abbrev pub given : Result (Option Stamped) LineRefusal → List Stamped
+given (Ok frame) = option_to_list frame
+given (Err refusal) = []
+
+-- each line is taken
+abbrev pub AreTaken : (interface : List ℕ) → (is_unbuilt : CanFrame → Bool) → List (List ℕ) → Type 0
+AreTaken interface is_unbuilt lines = All (λ line. IsOk (line_taken interface is_unbuilt line)) lines
+
+-- the frames that lines give, in their order
+abbrev pub frames_of : (interface : List ℕ) → (is_unbuilt : CanFrame → Bool) → List (List ℕ) → List Stamped
+frames_of interface is_unbuilt lines = flat_map (λ line. given (line_taken interface is_unbuilt line)) lines
+
+-- the content is a log of these frames: cut at each line feed it is lines that are taken, and they give the frames
+pub record IsLog (interface : List ℕ) (is_unbuilt : CanFrame → Bool) (content : List ℕ) (lines : List (List ℕ)) (frames : List Stamped) : Type 0 where
+  pub cut : IsCut content lines
+  pub taken : AreTaken interface is_unbuilt lines
+  pub frames_are : frames ≡ frames_of interface is_unbuilt lines
+
+-- the content is a log of the bus of so many lines, all of them built, with these frames
+abbrev pub IsBuiltLog : Bus → (content : List ℕ) → (count : ℕ) → List Stamped → Type 0
+IsBuiltLog bus content count frames = (lines : List (List ℕ)) × IsLog bus.interface (is_unbuilt_frame bus.side) content lines frames × (count ≡ length lines)
+
+-- what was read so far is so many lines, with these frames, and a piece of the next line
+pub record ReadSoFar (bus : Bus) (content piece : List ℕ) (count : ℕ) (frames : List Stamped) : Type 0 where
   pub lines : List (List ℕ)
   pub bytes : content ≡ ended lines ++ piece
   pub no_feed : All HasNoFeed lines
   pub unfinished : HasNoFeed piece
-  pub built : AreBuilt bus lines frames
+  pub taken : AreTaken bus.interface (is_unbuilt_frame bus.side) lines
+  pub frames_are : frames ≡ frames_of bus.interface (is_unbuilt_frame bus.side) lines
+  pub count_is : count ≡ length lines
+  pub built : All (IsBuiltStamped bus.side) frames
 
--- the frames are those of the bus's log, where the depot tells its contents, and of some log else
-pub record ReadsLog (told : Bool) (files : Files) (bus : Bus) (frames : List Stamped) : Type 0 where
+-- the frames are those of the bus's log, which has so many lines, where the depot tells its contents, and of some log else
+pub record ReadsLog (told : Bool) (files : Files) (bus : Bus) (count : ℕ) (frames : List Stamped) : Type 0 where
   pub content : List ℕ
   pub there : told ≡ true → files (bus.log) ≡ Some content
-  pub built : IsBuiltLog bus content frames
+  pub built : IsBuiltLog bus content count frames
 
--- after lines that are built stands one that isn't, among so many; it is the line with this number, counted from 1
-pub record StopsAt (bus : Bus) (most : ℕ) (content : List ℕ) (number : ℕ) : Type 0 where
+-- after lines that are taken stands one that is refused, among so many; it is the line with this number, counted from 1
+pub record StopsAt (bus : Bus) (most : ℕ) (content : List ℕ) (number : ℕ) (refusal : LineRefusal) : Type 0 where
   pub lines : List (List ℕ)
-  pub frames : List Stamped
   pub line : List ℕ
   pub tail : List ℕ
   pub bytes : content ≡ ended lines ++ line ++ tail
   pub no_feed : All HasNoFeed lines
-  pub built : AreBuilt bus lines frames
+  pub taken : AreTaken bus.interface (is_unbuilt_frame bus.side) lines
   pub is_line : HasNoFeed line
   pub ends : EndsLine line tail
-  pub not_built : (stamped : Stamped) → ¬ IsBuiltLine bus (without_return line) stamped
+  pub refused : taken_by bus line ≡ Err refusal
   pub count : number ≡ length lines + 1
   pub within : number ≤ most
 
--- after so many lines, all of them built, a further one begins
+-- after so many lines, all of them taken, a further one begins
 pub record GoesPast (bus : Bus) (content : List ℕ) (most : ℕ) : Type 0 where
   pub lines : List (List ℕ)
-  pub frames : List Stamped
   pub rest : List ℕ
   pub bytes : content ≡ ended lines ++ rest
   pub no_feed : All HasNoFeed lines
-  pub built : AreBuilt bus lines frames
+  pub taken : AreTaken bus.interface (is_unbuilt_frame bus.side) lines
   pub count : length lines ≡ most
   pub further : rest ≢ []
 
 -- why the content isn't read to its end; want of memory has no cause in it
 abbrev pub Stops : Bus → (most : ℕ) → (content : List ℕ) → LineStop → Type 0
 Stops bus most content Memory = Unit {0}
-Stops bus most content (Unbuilt number) = StopsAt bus most content number
+Stops bus most content (Refused number refusal) = StopsAt bus most content number refusal
 Stops bus most content Limit = GoesPast bus content most
 
--- why the line added no frame after those of so many lines
+-- why the line added nothing after so many lines
 abbrev pub Refuses : Bus → (line : List ℕ) → (before : ℕ) → LineStop → Type 0
 Refuses bus line before Memory = Unit {0}
-Refuses bus line before (Unbuilt number) = (number ≡ before + 1) × ((stamped : Stamped) → ¬ IsBuiltLine bus (without_return line) stamped)
+Refuses bus line before (Refused number refusal) = (number ≡ before + 1) × (taken_by bus line ≡ Err refusal)
 Refuses bus line before Limit = ⊥
 
 -- the bus's log is there, and isn't read to its end
@@ -104,8 +129,9 @@ abbrev pub LogStops : (told : Bool) → Files → Bus → (most : ℕ) → LogSt
 LogStops told files bus most Fault = Unit {0}
 LogStops told files bus most (Line stop) = told ≡ true → StoppedLog files bus most stop
 
--- one more frame, which is that of the line
+-- the line is taken, and its frame added
 pub record AddsLine (bus : Bus) (line : List ℕ) (old new : List Stamped) : Type 0 where
-  pub stamped : Stamped
-  pub added : new ≡ old ++ stamped ∷ []
-  pub built : IsBuiltLine bus (without_return line) stamped
+  pub frame : Option Stamped
+  pub taken : taken_by bus line ≡ Ok frame
+  pub added : new ≡ old ++ option_to_list frame
+  pub built : IfSome frame (IsBuiltStamped bus.side)

@@ -5,13 +5,14 @@ use Rattle.gw_run.specs.declared.status.Form.{Form}
 use Rattle.gw_run.specs.declared.status.Form.TheVariants.{Configuration, Line}
 use Rattle.gw_run.specs.declared.status.FileRole.{FileRole}
 use Rattle.gw_run.specs.declared.status.FileRole.TheVariants.{Config, Log, Out, Report, Say}
+use Rattle.candump_line.specs.Fault.{cause_text}
 use Rattle.gw_settings.specs.Said.{fault_text}
 use Rattle.route_check.specs.Texts.{conflict_text}
 use Rattle.gw_run.specs.declared.status.ConfigCause.TheVariants.{Fault, Conflict}
 use Rattle.gw_run.specs.declared.status.Which.{Which}
 use Rattle.gw_run.specs.declared.status.Which.TheVariants.{ConfigBytes, Lines, Ticks}
 use Rattle.gw_run.specs.declared.status.Status.{Status}
-use Rattle.gw_run.specs.declared.status.Status.TheVariants.{Ok, Accepted, Usage, ConfigRefused, Unbuilt, ReadFault, WriteFault, Memory, Limit}
+use Rattle.gw_run.specs.declared.status.Status.TheVariants.{Ok, Accepted, Usage, ConfigRefused, LogRefused, Unbuilt, ReadFault, WriteFault, Memory, Limit}
 
 -- the number that the program exits with
 abbrev pub code_of : Status → ℕ
@@ -19,6 +20,7 @@ code_of (Ok summary) = 0
 code_of Accepted = 0
 code_of Usage = 1
 code_of (ConfigRefused cause) = 2
+code_of (LogRefused bus line fault) = 3
 code_of (ReadFault role) = 4
 code_of (WriteFault role) = 5
 code_of Memory = 6
@@ -31,6 +33,7 @@ is_done (Ok summary) = true
 is_done Accepted = true
 is_done Usage = false
 is_done (ConfigRefused cause) = false
+is_done (LogRefused bus line fault) = false
 is_done (ReadFault role) = false
 is_done (WriteFault role) = false
 is_done Memory = false
@@ -68,6 +71,7 @@ status_text name Accepted = codes "accepted"
 status_text name Usage = codes "usage: gateway run CONFIG REPORT; gateway check CONFIG; gateway make SEED SIZE"
 status_text name (ConfigRefused (Fault fault)) = codes "config " ++ fault_text fault
 status_text name (ConfigRefused (Conflict conflict)) = codes "config: " ++ conflict_text conflict
+status_text name (LogRefused bus line fault) = codes "log " ++ name ++ codes " line " ++ decimal line ++ codes " byte " ++ decimal fault.at ++ codes ": " ++ cause_text fault.kind
 status_text name (ReadFault role) = codes "read " ++ role_text role
 status_text name (WriteFault role) = codes "write " ++ role_text role
 status_text name Memory = codes "memory"

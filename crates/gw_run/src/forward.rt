@@ -1,13 +1,13 @@
 //! A run of a configuration that is built: logs are read, results are planned, and then written.
 ghost use Rattle.std.specs.Prelude.{◌≡◌, ◌≢◌, ℕ, List, true, Some};
 ghost use Rattle.gw_depot.specs.Files.{IsName};
-ghost use Rattle.gw_run.specs.Causes.{IsCause, IsFault, IsSetup, LeavesFiles, log_status};
+ghost use Rattle.gw_run.specs.Causes.{IsCause, IsFault, IsSetup, LeavesFiles, line_status, log_status};
 ghost use Rattle.gw_run.specs.Forwarded.{Forwards, IfDone, IsConfigured};
 ghost use Rattle.gw_run.specs.Results.{bus_numbered};
 ghost use Rattle.gw_run.specs.Decided.{IsNameIn, IsToldOf};
 
 use crate::config::{NamedFiles, read_checked};
-use crate::log::{LineStop, LogStop, read_log};
+use crate::log::{LineRefusal, LineStop, LogStop, read_log};
 use crate::plan::plan_results;
 use crate::results::write_results;
 use crate::say::tell;
@@ -21,6 +21,16 @@ use std::alloc::Global;
 /// The most lines of all logs together.
 const MOST_LINES: u32 = 1_000_000;
 
+/// What is answered where a line of a bus's log isn't taken.
+fn refused_line(bus: BusNo, line: u32, refusal: LineRefusal) -> Status
+    ensures { result ≡ line_status bus line refusal }
+{
+    match refusal {
+        LineRefusal::Unbuilt => Status::Unbuilt(Form::Line { bus, line }),
+        LineRefusal::Bad(fault) => Status::LogRefused { bus, line, fault },
+    }
+}
+
 /// What is answered where a bus's log wasn't read to its end.
 fn refused_log(bus: BusNo, stop: LogStop) -> Status
     ensures { result ≡ log_status bus stop }
@@ -28,7 +38,7 @@ fn refused_log(bus: BusNo, stop: LogStop) -> Status
     match stop {
         LogStop::Fault => Status::ReadFault(FileRole::Log(bus)),
         LogStop::Line(LineStop::Memory) => Status::Memory,
-        LogStop::Line(LineStop::Unbuilt { line }) => Status::Unbuilt(Form::Line { bus, line }),
+        LogStop::Line(LineStop::Refused { line, refusal }) => refused_line(bus, line, refusal),
         LogStop::Line(LineStop::Limit) => Status::Limit {
             which: Which::Lines,
             value: u64::from(MOST_LINES) + 1,
@@ -51,12 +61,17 @@ fn carry_out<D: Depot>(alloc: Global, setup: &Setup<'_>, report: &str, depot: &m
         Ok(source) => source,
         Err(stop) => return refused_log(SOURCE, stop),
     };
-    let rest = MOST_LINES - source.items().len() as u32;
+    let rest = MOST_LINES - source.lines;
     let destination = match read_log(alloc, depot, setup.destination(), rest) {
         Ok(destination) => destination,
         Err(stop) => return refused_log(DESTINATION, stop),
     };
-    let plan = match plan_results(alloc, setup, source.items(), destination.items()) {
+    let plan = match plan_results(
+        alloc,
+        setup,
+        source.frames.items(),
+        destination.frames.items(),
+    ) {
         Ok(plan) => plan,
         Err(status) => return status,
     };
@@ -78,7 +93,12 @@ fn name_in<'a>(setup: &'a Setup<'_>, status: Status) -> &'a str
     ensures { IsNameIn setup.now status result.now }
 {
     match status {
-        Status::Unbuilt(Form::Line { bus, line: _ }) => name_of(setup, bus),
+        Status::Unbuilt(Form::Line { bus, line: _ })
+        | Status::LogRefused {
+            bus,
+            line: _,
+            fault: _,
+        } => name_of(setup, bus),
         _ => "",
     }
 }

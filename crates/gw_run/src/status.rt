@@ -1,6 +1,7 @@
 //! How a command ended: its status, the number that the program exits with, and what is said of it.
 ghost use Rattle.std.specs.Prelude.{◌≡◌};
 
+use candump_line::LineFault;
 use gw_base::BusNo;
 use gw_settings::ConfigFault;
 use route_check::Conflict;
@@ -81,6 +82,12 @@ pub enum Status {
     Usage,
     /// The configuration has a fault or a conflict.
     ConfigRefused(ConfigCause),
+    /// The line of the bus's log, counted from 1, has a fault.
+    LogRefused {
+        bus: BusNo,
+        line: u32,
+        fault: LineFault,
+    },
     /// What the command needs isn't built yet.
     Unbuilt(Form),
     /// A read of the file failed.
@@ -90,7 +97,10 @@ pub enum Status {
     /// Want of memory.
     Memory,
     /// The count passes its limit.
-    Limit { which: Which, value: u64 },
+    Limit {
+        which: Which,
+        value: u64,
+    },
 }
 
 impl Status {
@@ -104,6 +114,7 @@ impl Status {
             Status::Ok(_) | Status::Accepted => 0,
             Status::Usage => 1,
             Status::ConfigRefused(_) => 2,
+            Status::LogRefused { .. } => 3,
             Status::ReadFault(_) => 4,
             Status::WriteFault(_) => 5,
             Status::Memory => 6,
@@ -193,6 +204,14 @@ impl fmt::Display for Said<'_> {
             Status::ConfigRefused(ConfigCause::Fault(fault)) => write!(f, "config {fault}"),
             Status::ConfigRefused(ConfigCause::Conflict(conflict)) => {
                 write!(f, "config: {conflict}")
+            }
+            Status::LogRefused {
+                bus: _,
+                line,
+                fault,
+            } => {
+                let LineFault { kind, at } = fault;
+                write!(f, "log {name} line {line} byte {at}: {kind}")
             }
             Status::Unbuilt(Form::Configuration) => write!(f, "unbuilt configuration"),
             Status::Unbuilt(Form::Line { bus: _, line }) => {

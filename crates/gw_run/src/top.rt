@@ -21,8 +21,9 @@ use std::thread::Threads;
 ///
 /// `run CONFIG REPORT` forwards the messages in the logs that the configuration names, writes an output for each
 /// bus and then the report. A configuration that differs from the base one in more than names, files, identifiers of 11
-/// bits, the period, the linger and the timers isn't built yet, nor are lines that aren't plain, first frames of the source
-/// of more than 27 bytes, and flow controls of the destination other than those that let everything come at once.
+/// bits, the period, the linger and the timers isn't built yet, nor are first frames of the source of more
+/// than 27 bytes, and flow controls of the destination other than those that let everything come at once.
+/// A log is lines of candump's format; the first one with a fault is told as `LogRefused`, before any output is created.
 /// `check CONFIG` reads a configuration and checks it, also one whose runs aren't built. It answers `Accepted`, or
 /// `ConfigRefused` with the first fault of the text or else the first conflict. No file is created or changed.
 /// The outside is asked through `depot` and `say`; `rt` and `gate` are for workers in threads, which aren't built yet.

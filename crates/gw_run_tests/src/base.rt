@@ -52,8 +52,8 @@ pub(crate) const SAME_ADDRESS: Change = (
 /// A file that is there.
 pub(crate) const EMPTY: &[u8] = b"";
 
-/// A line that isn't plain.
-pub(crate) const NOT_PLAIN: &[u8] = b"\n";
+/// A line that has a fault.
+pub(crate) const BAD: &[u8] = b"can0 700#021122\n";
 
 /// A message of two bytes, as it comes on can0, and as it leaves on can1.
 pub(crate) const SHORT: &[u8] = b"(0000000001.000000) can0 700#021122\n";

@@ -1,8 +1,8 @@
 //! Configurations that are checked: accepted, or refused by their first cause.
 
 use crate::base::{
-    AS_IT_IS, CHECK, CONFIGURATION, Change, EMPTY, NOT_PLAIN, RUN, SAME_ADDRESS, changed,
-    depot_with, exit_code, results,
+    AS_IT_IS, BAD, CHECK, CONFIGURATION, Change, EMPTY, RUN, SAME_ADDRESS, changed, depot_with,
+    exit_code, results,
 };
 use gw_depot::{MemDepot, MemSink};
 use std::test::Fail;
@@ -72,7 +72,7 @@ fn a_configuration_is_accepted_or_its_cause_is_said(rt: HostRuntime) -> Result<(
             configuration.push('\n')?;
         }
         for words in commands {
-            let mut depot = depot_with(rt.alloc(), configuration.as_str(), [NOT_PLAIN, EMPTY])?;
+            let mut depot = depot_with(rt.alloc(), configuration.as_str(), [BAD, EMPTY])?;
             let mut say = MemSink::new(rt.alloc());
             assert_eq!(rt;
                 exit_code(&rt, rt.alloc(), words, &mut depot, &mut say)?,

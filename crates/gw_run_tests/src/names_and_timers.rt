@@ -125,14 +125,14 @@ pool 1 2 00000001
             ),
         ],
     ),
-    // An interface's name that isn't the bus's.
+    // A bad line of another interface, which is passed over, and one of the bus's.
     (
         [
-            b"(0000000001.000000) vcan0 7E0#021122\n(0000000001.000000) can0 7E0#021122\n",
+            b"(0000000001.000000) can0 7E0#02112\n(0000000001.000000) vcan0 7E0#02112\n",
             EMPTY,
         ],
-        9,
-        b"unbuilt log vcan0 line 2\n",
+        3,
+        b"log vcan0 line 2 byte 34: bad data\n",
         [None, None, None],
     ),
     // A first frame of 28 bytes, of another identifier and of the source.

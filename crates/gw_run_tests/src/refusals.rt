@@ -1,8 +1,8 @@
 //! Commands that are refused: by their words, their configuration, a line of a log or a limit.
 
 use crate::base::{
-    AS_IT_IS, CONFIGURATION, Change, EMPTY, NOT_PLAIN, RUN, SAME_ADDRESS, SHORT, changed,
-    depot_with, exit_code, results,
+    AS_IT_IS, BAD, CONFIGURATION, Change, EMPTY, RUN, SAME_ADDRESS, SHORT, changed, depot_with,
+    exit_code, results,
 };
 use gw_depot::MemSink;
 use std::test::Fail;
@@ -50,84 +50,72 @@ const FIRST_OF_CAN0: &[u8] = b"unbuilt log can0 line 1\n";
 const FIRST_OF_CAN1: &[u8] = b"unbuilt log can1 line 1\n";
 
 /// A change of the configuration, the report's name, the logs of can0 and can1, the exit code, and what is said.
-const REFUSED: [(Change, &str, [&[u8]; 2], u8, &[u8]); 29] = [
+const REFUSED: [(Change, &str, [&[u8]; 2], u8, &[u8]); 31] = [
     // A report that is a log or an output.
     (
         AS_IT_IS,
         "can0.log",
-        [NOT_PLAIN, EMPTY],
+        [BAD, EMPTY],
         2,
         b"config bus[0].log: repeated\n",
     ),
     (
         AS_IT_IS,
         "can0.out",
-        [NOT_PLAIN, EMPTY],
+        [BAD, EMPTY],
         2,
         b"config bus[0].out: repeated\n",
     ),
     (
         AS_IT_IS,
         "can1.log",
-        [NOT_PLAIN, EMPTY],
+        [BAD, EMPTY],
         2,
         b"config bus[1].log: repeated\n",
     ),
     (
         SAME_ADDRESS,
         "can1.out",
-        [NOT_PLAIN, EMPTY],
+        [BAD, EMPTY],
         2,
         b"config bus[1].out: repeated\n",
     ),
     // Accepted configurations that aren't built.
-    (("[4]", "[8]"), "gw.report", [NOT_PLAIN, EMPTY], 9, UNBUILT),
-    (
-        ("[4]", "[4, 4]"),
-        "gw.report",
-        [NOT_PLAIN, EMPTY],
-        9,
-        UNBUILT,
-    ),
-    (
-        ("", "window = 2\n"),
-        "gw.report",
-        [NOT_PLAIN, EMPTY],
-        9,
-        UNBUILT,
-    ),
+    (("[4]", "[8]"), "gw.report", [BAD, EMPTY], 9, UNBUILT),
+    (("[4]", "[4, 4]"), "gw.report", [BAD, EMPTY], 9, UNBUILT),
+    (("", "window = 2\n"), "gw.report", [BAD, EMPTY], 9, UNBUILT),
     (
         ("", "mode = \"threads\"\n"),
         "gw.report",
-        [NOT_PLAIN, EMPTY],
+        [BAD, EMPTY],
         9,
         UNBUILT,
     ),
     (
         ("\"can1.out\"\n", "\"can1.out\"\nbudget = 9\n"),
         "gw.report",
-        [NOT_PLAIN, EMPTY],
+        [BAD, EMPTY],
         9,
         UNBUILT,
     ),
     (
         ("rx = \"700\"\n", "rx = \"00000700\"\n"),
         "gw.report",
-        [NOT_PLAIN, EMPTY],
+        [BAD, EMPTY],
         9,
         UNBUILT,
     ),
     (
         ("tx = \"710\"\n", "tx = \"710\"\npad = true\n"),
         "gw.report",
-        [NOT_PLAIN, EMPTY],
+        [BAD, EMPTY],
         9,
         UNBUILT,
     ),
     (
         ("tx = \"708\"\n", "tx = \"708\"\nbs = 1\n"),
         "gw.report",
-        [NOT_PLAIN, EMPTY],
+        [BAD, EMPTY],
         9,
         UNBUILT,
     ),
@@ -137,14 +125,14 @@ const REFUSED: [(Change, &str, [&[u8]; 2], u8, &[u8]); 29] = [
             "from = \"B\"\nto = [\"A\"]\n",
         ),
         "gw.report",
-        [NOT_PLAIN, EMPTY],
+        [BAD, EMPTY],
         9,
         UNBUILT,
     ),
     (
         ("to = [\"B\"]\n", "to = [\"B\"]\nthreshold = 2\n"),
         "gw.report",
-        [NOT_PLAIN, EMPTY],
+        [BAD, EMPTY],
         9,
         UNBUILT,
     ),
@@ -185,55 +173,70 @@ const REFUSED: [(Change, &str, [&[u8]; 2], u8, &[u8]); 29] = [
         9,
         FIRST_OF_CAN1,
     ),
-    // A line that isn't plain, after two of one tick; the first in the buses' order; one of the other bus.
+    // A bad line: an id of four digits; one that ends within its stamp; after two of one tick; after a CAN FD frame, which a classic
+    // bus passes over, on the other bus; after a frame of another interface.
+    (
+        AS_IT_IS,
+        "gw.report",
+        [b"(1.000000) can0 7000#11\n", BAD],
+        3,
+        b"log can0 line 1 byte 16: bad id\n",
+    ),
+    (
+        AS_IT_IS,
+        "gw.report",
+        [b"(0000000001.0000", EMPTY],
+        3,
+        b"log can0 line 1 byte 16: bad stamp\n",
+    ),
     (
         AS_IT_IS,
         "gw.report",
         [
-            b"(0000000001.000000) can0 700#021122\n(0000000001.000000) can0 700#021122\n\n",
+            b"(0000000001.000000) can0 700#021122\n(0000000001.000000) can0 700#021122\n(0000000001.000000) can0 700#0\n",
             EMPTY,
         ],
-        9,
-        b"unbuilt log can0 line 3\n",
+        3,
+        b"log can0 line 3 byte 29: bad data\n",
     ),
     (
         AS_IT_IS,
         "gw.report",
         [
             b"(0000000001.000000) can0 700#021122\n(0000000001.000000) can0 700##0021122\n",
-            NOT_PLAIN,
+            BAD,
         ],
-        9,
-        b"unbuilt log can0 line 2\n",
+        3,
+        b"log can1 line 1 byte 0: no stamp\n",
     ),
     (
         AS_IT_IS,
         "gw.report",
         [
             EMPTY,
-            b"(0000000001.000000) can1 718#300000\n(0000000001.000000) can0 718#300000\n",
+            b"(0000000001.000000) can0 718#300000\n(0000000001.000000) can1 718#3\n",
         ],
-        9,
-        b"unbuilt log can1 line 2\n",
+        3,
+        b"log can1 line 2 byte 29: bad data\n",
     ),
-    // Two buses with one log.
+    // A frame that isn't built, before a bad line.
     (
-        ("can1.log", "can0.log"),
+        AS_IT_IS,
         "gw.report",
-        [SHORT, EMPTY],
+        [b"(0000000001.000000) can0 700#101C000102030405\nbad\n", BAD],
         9,
-        FIRST_OF_CAN1,
+        FIRST_OF_CAN0,
     ),
-    // A line that isn't plain comes before too many ticks, on the other bus too.
+    // A bad line comes before too many ticks, on the other bus too.
     (
         AS_IT_IS,
         "gw.report",
         [
             b"(0000000001.000000) can0 700#021122\n(0000010001.000000) can0 700#021122\n",
-            NOT_PLAIN,
+            BAD,
         ],
-        9,
-        FIRST_OF_CAN1,
+        3,
+        b"log can1 line 1 byte 0: no stamp\n",
     ),
     (
         AS_IT_IS,
@@ -301,12 +304,17 @@ fn a_refused_run_makes_no_output(rt: HostRuntime) -> Result<(), Fail> {
     Ok(())
 }
 
-/// Lengths of a line of zeros: the most that a line may have, that and a carriage return, and more.
-const LONG: [u32; 4] = [512, 513, 514, 10_000];
+/// What is said of a line of so many zeros: of the most bytes that a line may have, and of more.
+const LONG: [(u32, &[u8]); 4] = [
+    (512, b"log can0 line 1 byte 0: no stamp\n"),
+    (513, b"log can0 line 1 byte 512: too long\n"),
+    (514, b"log can0 line 1 byte 512: too long\n"),
+    (100_000, b"log can0 line 1 byte 512: too long\n"),
+];
 
 #[test]
-fn a_long_line_is_not_built(rt: HostRuntime) -> Result<(), Fail> {
-    for len in LONG {
+fn a_long_line_is_bad(rt: HostRuntime) -> Result<(), Fail> {
+    for (len, said) in LONG {
         let mut line = Vec::new(rt.alloc());
         for _ in 0..len {
             line.push(b'0')?;
@@ -315,24 +323,25 @@ fn a_long_line_is_not_built(rt: HostRuntime) -> Result<(), Fail> {
         let mut say = MemSink::new(rt.alloc());
         assert_eq!(rt;
             exit_code(&rt, rt.alloc(), RUN, &mut depot, &mut say)?,
-            9,
+            3,
             "{len}"
         );
-        assert_eq!(rt; say.bytes(), FIRST_OF_CAN0, "{len}");
+        assert_eq!(rt; say.bytes(), said, "{len}");
     }
     Ok(())
 }
 
 #[test]
-fn an_empty_line_comes_before_too_many_lines(rt: HostRuntime) -> Result<(), Fail> {
+fn a_line_after_a_million_is_too_many(rt: HostRuntime) -> Result<(), Fail> {
     let mut log = Vec::new(rt.alloc());
-    for _ in 0..1_000_001u32 {
+    for _ in 0..1_000_000u32 {
         log.push(b'\n')?;
     }
+    log.push(b'x')?;
     let mut depot = depot_with(rt.alloc(), CONFIGURATION, [log.as_slice(), EMPTY])?;
     let mut say = MemSink::new(rt.alloc());
-    assert_eq!(rt; exit_code(&rt, rt.alloc(), RUN, &mut depot, &mut say)?, 9);
-    assert_eq!(rt; say.bytes(), FIRST_OF_CAN0);
+    assert_eq!(rt; exit_code(&rt, rt.alloc(), RUN, &mut depot, &mut say)?, 7);
+    assert_eq!(rt; say.bytes(), b"limit lines 1000001\n".as_slice());
     assert_eq!(rt; results(&depot), [None, None, None]);
     Ok(())
 }

@@ -8,7 +8,7 @@ use gw_depot::MemSink;
 use std::test::Fail;
 
 /// A change of the configuration, the logs of can0 and can1, both outputs, the report, and what is said.
-const RUNS: [(Change, [&[u8]; 2], [&[u8]; 2], &[u8], &[u8]); 20] = [
+const RUNS: [(Change, [&[u8]; 2], [&[u8]; 2], &[u8], &[u8]); 23] = [
     // No frame, and defaults that are written out.
     (
         (
@@ -19,6 +19,33 @@ const RUNS: [(Change, [&[u8]; 2], [&[u8]; 2], &[u8], &[u8]); 20] = [
         [EMPTY, EMPTY],
         b"report 1\nclock 0 1000\npool 1 0 00000001\n",
         b"done 0 0 0 0 0\n",
+    ),
+    // Lines that give no frame: an error frame, two blank ones, one of another interface, a remote frame and a CAN FD frame. Then a
+    // first frame in the long form that has too small a length.
+    (
+        AS_IT_IS,
+        [
+            b"(1.000000) can0 20000004#0000000000000000\n\n   \r\n(1.000000) can1 700#021122\n(1.000000) can0 700#R\n(1.000000) can0 700##0021122 R",
+            EMPTY,
+        ],
+        [EMPTY, EMPTY],
+        b"report 1\nclock 0 1000\npool 1 0 00000001\n",
+        b"done 0 0 0 0 0\n",
+    ),
+    (
+        AS_IT_IS,
+        [b"(0.000000) can0 700#100000000FFFAABB", EMPTY],
+        [EMPTY, EMPTY],
+        b"report 1\nclock 0 1000\npool 1 0 00000001\n",
+        b"done 0 0 0 0 0\n",
+    ),
+    // A single frame, as python-can writes it; both buses have one log.
+    (
+        ("can1.log", "can0.log"),
+        [b"(1.000000) can0 700#021122 R\n", EMPTY],
+        [EMPTY, SHORT_SENT],
+        SHORT_REPORT,
+        DONE,
     ),
     // A single frame.
     (

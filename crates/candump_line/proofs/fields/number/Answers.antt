@@ -30,15 +30,21 @@ returns-clause-below c = (ended c).below
 pub overflow_mul-value : goal.overflow_mul-value
 overflow_mul-value c =
     let loop = c.loop-digit in
-    omega (arith, number_fits c.args.base (take c.min.result c.args.rest.now) loop.digit-index loop.value c.from-in-loop-digit.result 0 c.requires.base.1
-    (front_short c.min.result c.args.most c.args.rest.now c.min.ensures c.requires.short) c.loop-digit-test.true loop.invariant.all loop.invariant.value_is c.from-in-loop-digit.ensures (omega (arith, c.requires.base.0)))
+    omega (
+      arith,
+      number_fits c.args.base (take c.min.result c.args.rest.now) loop.digit-index loop.value c.from-in-loop-digit.result 0 c.requires.base.1
+          (front_short c.min.result c.args.most c.args.rest.now c.min.ensures c.requires.short) c.loop-digit-test.true loop.invariant.all loop.invariant.value_is c.from-in-loop-digit.ensures (omega (arith, c.requires.base.0)),
+    )
 
 pub overflow_add-value : goal.overflow_add-value
 overflow_add-value c =
     let loop = c.loop-digit in
     let digit = c.in-Some.ensures.value in
-    omega (arith, number_fits c.args.base (take c.min.result c.args.rest.now) loop.digit-index loop.value c.from-in-loop-digit.result c.from-in-loop-digit-2.result c.requires.base.1
-    (front_short c.min.result c.args.most c.args.rest.now c.min.ensures c.requires.short) c.loop-digit-test.true loop.invariant.all loop.invariant.value_is c.from-in-loop-digit.ensures (omega (arith, c.from-in-loop-digit-2.ensures, digit.0, digit.1)))
+    omega (
+      arith,
+      number_fits c.args.base (take c.min.result c.args.rest.now) loop.digit-index loop.value c.from-in-loop-digit.result c.from-in-loop-digit-2.result c.requires.base.1
+          (front_short c.min.result c.args.most c.args.rest.now c.min.ensures c.requires.short) c.loop-digit-test.true loop.invariant.all loop.invariant.value_is c.from-in-loop-digit.ensures (omega (arith, c.from-in-loop-digit-2.ensures, digit.0, digit.1)),
+    )
 
 pub loop-digit-preserved : goal.loop-digit-preserved
 loop-digit-preserved c =

@@ -8,7 +8,7 @@ invariant-loop-count g l =
     × (g.D.Depot.files l.depot ≡ g.D.Depot.files l.initial.depot)
     × (g.D.Depot.faults l.initial.depot ≤ g.D.Depot.faults l.depot)
     × (l.log.most ≡ l.most)
-    × ReadFrom (g.D.Depot.told l.initial.depot) (g.D.Depot.files l.initial.depot) l.bus l.log.taken l.log.piece.items l.log.frames
+    × ReadFrom (g.D.Depot.told l.initial.depot) (g.D.Depot.files l.initial.depot) l.bus l.log.taken l.log.piece.items l.log.lines l.log.frames
 
 abbrev pub decreases-loop-count : goal.decreases-loop-count
 decreases-loop-count g l = 514 * (l.most + 1) - l.log.taken

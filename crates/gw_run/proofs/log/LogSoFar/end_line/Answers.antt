@@ -7,9 +7,9 @@ use Rattle.gw_run.proofs.log.LogSoFar.end_line.Goals as goal
 
 pub returns-clause-read : goal.returns-clause-read
 returns-clause-read c content so_far =
-    rw c.clear.ensures (line_ended _ _ _ _ _ so_far (rw c.as_slice.ensures.value at c.in_ok-push_line.ensures.ok))
+    rw c.clear.ensures (line_ended _ _ _ _ _ _ so_far (rw c.as_slice.ensures.value at c.in_ok-push_line.ensures.ok))
 
 pub returns-in_err-push_line-clause-stops : goal.returns-in_err-push_line-clause-stops
 returns-in_err-push_line-clause-stops c =
     let p = err_from_is_err_and c.from_residual.result c.from_residual.ensures.1 in
-    rw (p.1, p.2) (λ content later so_far. stops_here _ _ _ _ (10 ∷ later) _ _ so_far (inr (later, refl)) c.requires (rw c.as_slice.ensures.value at c.in_err-push_line.ensures.refused))
+    rw (p.1, p.2) (λ content later so_far. stops_here _ _ _ _ (10 ∷ later) _ _ _ so_far (inr (later, refl)) c.requires (rw c.as_slice.ensures.value at c.in_err-push_line.ensures.refused))

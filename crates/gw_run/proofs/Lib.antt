@@ -16,6 +16,7 @@ pub mod Logs
 pub mod Lying
 pub mod Names
 pub mod Onward
+pub mod Outputs
 pub mod Pieces
 pub mod Plans
 pub mod Refused

@@ -1,8 +1,11 @@
 -- The lines of the frames that a bus sends.
-use Rattle.std.specs.Prelude.{ℕ, List, flat_map}
-use Rattle.tp_sender.specs.Runs.{Written}
+use Rattle.std.specs.Prelude.{◌≡◌, ℕ, ◌*◌, ◌^◌, ◌<◌, false, List, All, flat_map, map}
+use Rattle.can_frame.specs.Frame.{IsLawful}
 use Rattle.candump_line.specs.Line.{line_text}
 use Rattle.tick_clock.specs.Ticks.{stamp_after}
+use Rattle.tp_sender.specs.Runs.{Written}
+use Rattle.gw_run.specs.Log.{IsLog}
+use Rattle.gw_run.specs.declared.log.Stamped.{Stamped}
 
 -- the line of a frame, stamped with the end of the tick in which it left
 abbrev pub line_of : (start period : ℕ) → (interface : List ℕ) → Written → List ℕ
@@ -11,3 +14,19 @@ line_of start period interface written = line_text (stamp_after start period wri
 -- the lines of all frames
 abbrev pub output_text : (start period : ℕ) → (interface : List ℕ) → List Written → List ℕ
 output_text start period interface written = flat_map (line_of start period interface) written
+
+-- a frame whose line can be read back: its stamp is below 2^32 seconds, and it is lawful and classic
+pub record IsReadable (start period : ℕ) (written : Written) : Type 0 where
+  pub dated : stamp_after start period written.tick < 2 ^ 32 * 10 ^ 6
+  pub lawful : IsLawful written.frame
+  pub classic : written.frame.fd ≡ false
+  pub bytes : All (λ b. b < 256) written.frame.bytes
+
+-- the frames as a log has them, each with the stamp of its line
+abbrev pub stamped_of : (start period : ℕ) → List Written → List Stamped
+stamped_of start period written = map (λ (w : Written). record { at = record { 0 = stamp_after start period w.tick }; frame = w.frame }) written
+
+-- the output is a log of just these frames
+abbrev pub IsLogOf : (start period : ℕ) → (interface : List ℕ) → List Written → Type 0
+IsLogOf start period interface written =
+    (lines : List (List ℕ)) × IsLog interface (λ frame. false) (output_text start period interface written) lines (stamped_of start period written)

@@ -9,6 +9,7 @@ mod files;
 mod forward;
 mod gate;
 mod gateway;
+mod law;
 mod log;
 mod machines;
 mod notes;
@@ -25,6 +26,7 @@ mod top;
 mod words;
 
 pub use gate::{Gate, OpenGate};
+pub use law::output_law;
 pub use log::Stamped;
 pub use status::{ConfigCause, FileRole, Form, Status, Summary, Which};
 pub use top::run;

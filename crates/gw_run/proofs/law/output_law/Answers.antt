@@ -1,0 +1,5 @@
+use Rattle.gw_run.proofs.Outputs.{output-log}
+use Rattle.gw_run.proofs.law.output_law.Goals as goal
+
+pub returns : goal.returns
+returns c start period interface written name all = output-log start period interface name written all

@@ -1,4 +1,3 @@
 pub mod CellByCell
 pub mod Composing
-pub mod Playing
 pub mod Sizes

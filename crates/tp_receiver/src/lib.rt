@@ -6,8 +6,6 @@ mod putting;
 mod receiver;
 mod reception;
 mod set;
-#[cfg(test)]
-mod tests;
 
 pub use acts::RxActs;
 pub use receiver::Receiver;

@@ -9,8 +9,6 @@ mod joining;
 mod progress;
 mod sender;
 mod set;
-#[cfg(test)]
-mod tests;
 mod transmission;
 mod turn;
 

@@ -1,4 +1,4 @@
-use Rattle.tp_sender.proofs.tests.play.Goals as goal
+use Rattle.tp_sender_tests.proofs.tests.play.Goals as goal
 
 pub loop-event-preserved : goal.loop-event-preserved
 loop-event-preserved g c = (

@@ -6,11 +6,11 @@ ghost use Rattle.tp_sender.specs.State.{HasFrame, IsInBox, IsPlain, StillHasFram
 ghost use Rattle.tp_sender.specs.declared.event.TxEvent.{TxEvent as Came};
 ghost use Rattle.tp_sender.specs.declared.event.TxEvent.TheVariants.{Left as FrameLeft};
 
-use super::*;
 use can_frame::CanId;
 use gw_base::{DestNo, PathNo, Tick};
 use hub_core::{DestRecord, DestResult, End, PlainHub, Port, Take, TxWait};
 use std::test::Fail;
+use tp_sender::*;
 use tp_unit::{BoxAct, Shape};
 
 /// The bytes 00 to 13 in the cells of a first frame and two consecutive frames, and the bytes 11 22 in one cell.

@@ -1,7 +1,7 @@
 use Rattle.std.proofs.Common.{◌≡◌, ◌≤◌, true}
 use Rattle.tp_sender.specs.Port.{ActsFor, Knows}
 use Rattle.tp_sender.specs.State.{HasFrame, since_of, state_of}
-use Rattle.tp_sender.proofs.tests.play.Given as goal
+use Rattle.tp_sender_tests.proofs.tests.play.Given as goal
 
 abbrev pub invariant-loop-event : goal.invariant-loop-event
 invariant-loop-event g l =

@@ -30,4 +30,4 @@ IsLower a b next = (a < b) ⊎ ((a ≡ b) × next)
 abbrev pub ComesBefore : (first second : CanId) → Type 0
 ComesBefore first second =
     IsLower (base_of first) (base_of second)
-      (IsLower (format_of first) (format_of second) (rest_of first < rest_of second))
+    (IsLower (format_of first) (format_of second) (rest_of first < rest_of second))

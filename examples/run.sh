@@ -6,17 +6,27 @@
 # EXAMPLE is a folder beside this script; without it each is run. It has the files that the gateway reads, and in the file
 # command the words after the program's name. Its folder expected has the files that come out, what is said in said.txt,
 # and the status in status.txt. The gateway runs in a new folder, which is named at the end.
+#
+# GATEWAY=PROGRAM names a program that is there already; then nothing is proved or built.
 set -eu
 
 examples=$(CDPATH= cd -- "$(dirname -- "$0")" && pwd)
 crate=$examples/../crates/gateway
 
-# Proves and builds what has changed, and runs the program with no words: then it says how it is used.
-usage=$(cd "$crate" && rt run) || true
+if [ -n "${GATEWAY-}" ]; then
+    program=$(realpath -- "$GATEWAY")
+    usage=$("$program") || true
+else
+    # Proves and builds what has changed, and runs the program with no words.
+    program=$crate/out/gateway
+    usage=$(cd "$crate" && rt run) || true
+fi
+
+# With no words the program says how it is used.
 case $usage in
 usage:*) ;;
 *)
-    echo "examples/run.sh: the gateway was not built" >&2
+    echo "examples/run.sh: there is no gateway at $program" >&2
     exit 1
     ;;
 esac
@@ -36,7 +46,7 @@ for name in "$@"; do
 
     cd "$folder/came"
     status=0
-    "$crate/out/gateway" $(cat "$example/command") >said.txt || status=$?
+    "$program" $(cat "$example/command") >said.txt || status=$?
     echo "$status" >status.txt
 
     echo "== ${name%/}: gateway $(cat "$example/command")"

@@ -2,13 +2,13 @@
 
 from __future__ import annotations
 
-from collections.abc import Sequence
+from collections.abc import Iterator, Sequence
 from dataclasses import dataclass
 from pathlib import Path
 
 from . import wireshark
-from .command import Refusal, words
-from .configuration import Address, Channel, Configuration, Route, read_configuration
+from .command import words
+from .configuration import Address, Channel, Configuration, Route, check_belongs, read_configuration
 from .logs import frames_of, read_log, read_output
 from .reassembly import Message, messages
 from .records import Destination, Report, Session
@@ -103,7 +103,9 @@ def difference(record: Destination, source: Seen, at: int, target: Seen, to: int
     return found, programs
 
 
-def compare_destination(route: Route, records: list[Destination], source: Seen, opened: dict[int, int], target: Seen):
+def compare_destination(
+    route: Route, records: list[Destination], source: Seen, opened: dict[int, int], target: Seen
+) -> Iterator[Finding]:
     """The findings on one destination of a path. `opened` has the source's message of each of the path's units."""
     unsent = iter(range(len(target.by_scapy)))
     for record in records:
@@ -124,7 +126,7 @@ def compare_destination(route: Route, records: list[Destination], source: Seen, 
         yield Finding(f"channel {target.channel.name}: no record names the message of {target.file.name} line {line}", True)
 
 
-def compare_path(configuration: Configuration, report: Report, number: int, tshark: bool):
+def compare_path(configuration: Configuration, report: Report, number: int, tshark: bool) -> Iterator[Finding]:
     """The findings on the path with this number."""
     route = configuration.paths[number]
     channel = configuration.channel(route.source)
@@ -145,8 +147,7 @@ def compare_path(configuration: Configuration, report: Report, number: int, tsha
 
 def compare(configuration: Configuration, report: Report, tshark: bool) -> list[Finding]:
     """All findings, path by path."""
-    if any(record.path >= len(configuration.paths) for record in report.destinations):
-        raise Refusal("the report has more paths than the configuration: give the configuration of that run")
+    check_belongs(configuration, report)
     return [finding for number in range(len(configuration.paths))
             for finding in compare_path(configuration, report, number, tshark)]
 

@@ -1,4 +1,4 @@
-"""The parts of a gateway's configuration that the tools need: buses, channels, paths and interface paths."""
+"""The parts of a gateway's configuration that the tools need: buses, channels and paths."""
 
 from __future__ import annotations
 
@@ -6,9 +6,10 @@ import tomllib
 from collections.abc import Iterable
 from dataclasses import dataclass
 from pathlib import Path
-from typing import Any
+from typing import Any, TypeVar
 
 from .command import Refusal, text_of
+from .records import Report
 
 
 @dataclass(frozen=True)
@@ -51,13 +52,6 @@ class Route:
 
 
 @dataclass(frozen=True)
-class Interface:
-    """An interface path, which forwards plain frames."""
-
-    name: str
-
-
-@dataclass(frozen=True)
 class Configuration:
     """A configuration. `period` is the length of a tick in microseconds."""
 
@@ -65,7 +59,6 @@ class Configuration:
     buses: tuple[Bus, ...]
     channels: tuple[Channel, ...]
     paths: tuple[Route, ...]
-    interfaces: tuple[Interface, ...]
 
     def bus(self, name: str) -> Bus:
         """The bus with this name."""
@@ -76,12 +69,28 @@ class Configuration:
         return named("channel", self.channels, name)
 
 
-def named(table: str, entries: Iterable[Any], name: str) -> Any:
+Entry = TypeVar("Entry", Bus, Channel)
+
+
+def named(table: str, entries: Iterable[Entry], name: str) -> Entry:
     """The entry with this name."""
     for entry in entries:
         if entry.name == name:
             return entry
     raise Refusal(f"the configuration has no {table} {name}: see `gateway check`")
+
+
+def check_belongs(configuration: Configuration, report: Report) -> None:
+    """Refuse a report that another configuration gave, as far as that shows."""
+    counts = [len(route.destinations) for route in configuration.paths]
+    places = [(record.path, record.destination) for record in report.destinations]
+    is_other = (
+        report.period != configuration.period
+        or any(path >= len(counts) or destination >= counts[path] for path, destination in places)
+        or any(session.channel >= len(configuration.channels) for session in report.sessions)
+    )
+    if is_other:
+        raise Refusal("the report is of another configuration: give the one that `gateway run` was given")
 
 
 def address_of(table: dict[str, Any], side: str) -> Address:
@@ -111,7 +120,6 @@ def read_configuration(path: Path) -> Configuration:
                 for channel in table.get("channel", ())
             ),
             paths=tuple(Route(route["name"], route["from"], tuple(route["to"])) for route in table.get("path", ())),
-            interfaces=tuple(Interface(interface["name"]) for interface in table.get("interface", ())),
         )
     except tomllib.TOMLDecodeError as fault:
         raise Refusal(f"{path} is no TOML ({fault}): see `gateway check`") from fault

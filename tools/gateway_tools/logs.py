@@ -9,7 +9,8 @@ from dataclasses import dataclass
 from functools import cache
 from pathlib import Path
 
-from can import CanutilsLogReader, Message
+from can.io.canutils import CanutilsLogReader
+from can.message import Message
 
 from .command import Refusal, text_of
 from .configuration import Address, Bus

@@ -90,16 +90,19 @@ class Reader:
     def take_session(self, values: list[str], result: Result | None) -> bool:
         opened = None if values[6] == "-" else Opened(*map(int, values[6].split("/")))
         assert result is not None
-        self.sessions.append(Session(*map(int, values[:6]), opened, result))
+        channel, number, length, begin, received, end = map(int, values[:6])
+        self.sessions.append(Session(channel, number, length, begin, received, end, opened, result))
         return rises([(line.channel, line.number) for line in self.sessions[-2:]])
 
     def take_dest(self, values: list[str], result: Result | None) -> bool:
         assert result is not None
-        self.destinations.append(Destination(*map(int, values), result))
+        path, destination, unit, begin, sent, end = map(int, values)
+        self.destinations.append(Destination(path, destination, unit, begin, sent, end, result))
         return rises([(line.path, line.destination, line.unit) for line in self.destinations[-2:]])
 
     def take_iface(self, values: list[str], _: Result | None) -> bool:
-        units = InterfaceUnits(*map(int, values[:3]), values[3])
+        path, first, last = map(int, values[:3])
+        units = InterfaceUnits(path, first, last, values[3])
         before = self.interfaces[-1] if self.interfaces else None
         self.interfaces.append(units)
         return units.first <= units.last and (not before or (before.path, before.last) < (units.path, units.first))

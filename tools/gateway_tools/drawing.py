@@ -13,7 +13,7 @@ matplotlib.rcParams["svg.hashsalt"] = "gateway"  # one run gives one and the sam
 from matplotlib import pyplot  # noqa: E402
 from matplotlib.axes import Axes  # noqa: E402
 from matplotlib.lines import Line2D  # noqa: E402
-from matplotlib.patches import Patch  # noqa: E402
+from matplotlib.patches import Patch, Rectangle  # noqa: E402
 
 from .events import Bar, Mark, Run  # noqa: E402
 from .frames import Kind  # noqa: E402
@@ -69,8 +69,11 @@ class Picture:
     def bar(self, axes: Axes, bar: Bar, bottom: float, height: float, kind: str) -> None:
         """Draw a bar, with its label at its beginning."""
         begin, width = bar.begin / 1000, (bar.end - bar.begin) / 1000
-        look = {"facecolor": COLOURS[bar.word], "edgecolor": "white", "linewidth": 0.5}
-        axes.broken_barh([(begin, width)], (bottom, height), gid=self.tip(kind, bar.tip), **look)
+        patch = Rectangle(
+            (begin, bottom), width, height, facecolor=COLOURS[bar.word], edgecolor="white", linewidth=0.5,
+            gid=self.tip(kind, bar.tip),
+        )  # fmt: skip
+        axes.add_patch(patch)
         self.label(axes, bar, bottom, height)
 
     def label(self, axes: Axes, bar: Bar, bottom: float, height: float) -> None:
@@ -86,15 +89,16 @@ class Picture:
             if self.labelled.get(place, begin) <= begin:
                 text = texts[0] if texts else reason
                 self.labelled[place] = begin + len(text) * letter
-                axes.text(begin / 1000, place, " " + text, va="center", fontsize=7, clip_on=True)
+                axes.text(begin / 1000, place, "\u00a0" + text, va="center", fontsize=7, clip_on=True)
                 return
 
     def mark(self, axes: Axes, mark: Mark) -> None:
         """Draw a frame: filled where it was received, hollow where it was sent."""
-        axes.plot(
+        line = Line2D(
             [mark.time / 1000], [0.3 - mark.channel], marker=SHAPES[mark.kind], markersize=7, linestyle="none",
             color="black", markerfacecolor="white" if mark.is_sent else "black", gid=self.tip("frame", mark.tip),
         )  # fmt: skip
+        axes.add_line(line)
 
     def lanes(self, axes: Axes, run: Run) -> None:
         """Draw each channel's lane: frames above, waits and gaps below them, then sessions, then destinations."""
@@ -138,12 +142,12 @@ def drawing(run: Run, span: Span) -> tuple[str, dict[str, str]]:
     figure, (upper, lower) = pyplot.subplots(
         2, 1, sharex=True, figsize=(12, 1.2 + sum(heights)), layout="constrained", height_ratios=heights
     )
+    margin = (span.end - span.begin) / 40
+    lower.set_xlim((span.begin - margin) / 1000, (span.end + margin) / 1000)
     picture = Picture(span)
     picture.lanes(upper, run)
     picture.pool(lower, run.buffers)
     legend(upper)
-    margin = (span.end - span.begin) / 40
-    lower.set_xlim((span.begin - margin) / 1000, (span.end + margin) / 1000)
     lower.set_xlabel(f"milliseconds after the run's start at {run.start / 1e6:.6f} s")
     text = io.StringIO()
     figure.savefig(text, format="svg", metadata={"Date": None})

@@ -12,10 +12,12 @@ from collections.abc import Callable
 from pathlib import Path
 
 import pytest
+from conftest import BASE
 from gateway_tools.configuration import read_configuration
+from gateway_tools.drawing import COLOURS
 from gateway_tools.events import Run, run_of
 from gateway_tools.frames import Kind, words_of
-from gateway_tools.report import read_report
+from gateway_tools.report import DESTINATION_RESULTS, SESSION_RESULTS, read_report
 from gateway_tools.timeline import main
 
 S, F, C, FC = Kind.SINGLE, Kind.FIRST, Kind.CONSECUTIVE, Kind.FLOW_CONTROL
@@ -187,7 +189,45 @@ def test_in_chromium(name: str, example: Callable[[str], Path], capsys: pytest.C
     assert found["released"] == pytest.approx(moved) and found["last"] == pytest.approx(first)
 
 
+TWO = BASE.replace('to = ["engine"]', 'to = ["engine", "gearbox"]').replace(
+    "[[path]]", '[[channel]]\nname = "gearbox"\nbus = "can1"\nrx = "64A"\ntx = "642"\n[[path]]'
+)
 HEAD = "report 1\nclock 1000000 1000\n"
+# A message of 20 bytes to two destinations, of which the second gets no flow control for 30 ticks, and one that breaks off.
+TWO_REPORT = HEAD + """session 0 0 20 0 20 3 0/0/1 whole
+session 0 1 20 50 6 52 1/1/2 wrong-sn 1 3
+dest 0 0 0 0 20 3 sent
+dest 0 0 1 50 6 52 source-ended
+dest 0 1 0 0 6 60 bs-timeout
+dest 0 1 1 61 6 61 source-ended
+move 1 take 0
+move 2 take 1
+move 3 free 0
+move 4 free 1
+pool 2 4 00000003
+"""
+
+
+def test_two_destinations(made: Callable[..., list[str]], capsys: pytest.CaptureFixture[str]) -> None:
+    """Each destination has its lane, a buffer is taken up to the last end, and the reasons stand on the bars."""
+    out = [(1, "641#101462F190574456"), (1, "642#101462F190574456")]
+    words = made(TWO_REPORT, TWO, can0_log=[(0, "7E0#101462F190574456")], can1_out=out)
+    found = run(*words)
+    assert found.lanes == ["tester\n(can0)", "engine\n(can1)", "gearbox\n(can1)"]
+    assert [(item.row, item.begin, item.end, item.word) for item in found.destinations] == [
+        *[(1, 0, 4000, "sent"), (1, 50000, 53000, "source-ended")],
+        *[(2, 0, 61000, "bs-timeout"), (2, 61000, 62000, "source-ended")],
+    ]
+    assert [(item.row, item.begin, item.end) for item in found.buffers] == [(0, 0, 61000), (1, 50000, 62000)]
+    assert main(words) == 0
+    page = Path(f"{words[1]}.html").read_text()
+    for label in ("1: wrong-sn 1 3", "1: source-ended", "unit 0: bs-timeout", "tester session 1", "buffer 1"):
+        assert f"{label}</text>" in page, label
+
+
+def test_colours() -> None:
+    """Each result has its colour."""
+    assert {*SESSION_RESULTS, *DESTINATION_RESULTS} <= set(COLOURS)
 
 
 def test_times(made: Callable[..., list[str]], capsys: pytest.CaptureFixture[str]) -> None:

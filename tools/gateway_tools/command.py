@@ -3,6 +3,7 @@
 from __future__ import annotations
 
 import argparse
+import importlib
 import os
 import sys
 from collections.abc import Callable, Sequence
@@ -42,14 +43,26 @@ def text_of(path: Path) -> str:
         raise Refusal(f"{path} is no text: see that it is the right file") from fault
 
 
-def start(main: Callable[[Sequence[str]], int]) -> NoReturn:
-    """Run the command `main` on the program's words and exit with its status; 2 where it refuses."""
+def main_of(name: str) -> Callable[[Sequence[str]], int]:
+    """The command `name`; it needs packages that may not be there."""
     try:
-        status = main(sys.argv[1:])
+        main: Callable[[Sequence[str]], int] = importlib.import_module(f"gateway_tools.{name}").main
+        return main
+    except ModuleNotFoundError as fault:
+        package = f"python3-{str(fault.name).partition('.')[0]}"
+        raise Refusal(f"{package} isn't installed: run apt install --no-install-recommends {package}") from fault
+
+
+def start(name: str) -> NoReturn:
+    """Run the command `name` on the program's words and exit with its status; 2 where it refuses."""
+    try:
+        status = main_of(name)(sys.argv[1:])
         sys.stdout.flush()
     except Refusal as refusal:
-        print(f"{Path(sys.argv[0]).name}: {refusal}", file=sys.stderr)
+        print(f"{name}: {refusal}", file=sys.stderr)
         status = 2
+    except KeyboardInterrupt:
+        status = 130
     except BrokenPipeError:
         # The reader of our output went away, as `head` does; nothing is left to say.
         os.dup2(os.open(os.devnull, os.O_WRONLY), sys.stdout.fileno())

@@ -2,6 +2,7 @@
 
 from __future__ import annotations
 
+from collections import deque
 from collections.abc import Iterator, Sequence
 from dataclasses import dataclass
 from pathlib import Path
@@ -58,14 +59,28 @@ def sent(configuration: Configuration, channel: Channel, report: Report, tshark:
 
 def named_starts(source: Seen, sessions: list[Session]) -> tuple[dict[int, int], list[int]]:
     """For each session's number the place of the message with its tick and length, and the places that are left."""
+    starts: dict[tuple[int, int], deque[int]] = {}
+    for place, message in enumerate(source.by_scapy):
+        starts.setdefault((message.start.tick, message.length), deque()).append(place)
+    places: dict[int, int] = {}
+    last = -1
+    for session in sessions:
+        same = starts.get((session.begin, session.length), deque())
+        if same and same[0] > last:
+            last = places[session.number] = same.popleft()
+    return places, sorted(place for same in starts.values() for place in same)
+
+
+def named_copies(target: Seen, records: list[Destination]) -> tuple[dict[int, int], list[int]]:
+    """For each record's unit the place of the message that began to leave in the record's ticks, and the rest."""
     places: dict[int, int] = {}
     left: list[int] = []
-    due = iter(sessions)
-    session = next(due, None)
-    for place, message in enumerate(source.by_scapy):
-        if session and (message.start.tick, message.length) == (session.begin, session.length):
-            places[session.number] = place
-            session = next(due, None)
+    due = deque(record for record in records if record.sent)
+    for place, message in enumerate(target.by_scapy):
+        while due and due[0].end < message.start.tick:
+            due.popleft()
+        if due and due[0].begin <= message.start.tick:
+            places[due.popleft().unit] = place
         else:
             left.append(place)
     return places, left
@@ -107,10 +122,10 @@ def compare_destination(
     route: Route, records: list[Destination], source: Seen, opened: dict[int, int], target: Seen
 ) -> Iterator[Finding]:
     """The findings on one destination of a path. `opened` has the source's message of each of the path's units."""
-    unsent = iter(range(len(target.by_scapy)))
+    copies, unnamed = named_copies(target, records)
     for record in records:
         name = f"path {route.name} to {target.channel.name} unit {record.unit}"
-        to = next(unsent, None) if record.sent else None
+        to = copies.get(record.unit)
         if record.unit not in opened:
             yield Finding(f"{name}: no start in {source.file.name} is that of its session", True)
             continue
@@ -121,7 +136,7 @@ def compare_destination(
             yield Finding(f"{said}: not compared, since scapy knows no single frames of CAN FD; install tshark", True)
         else:
             yield Finding(f"{said}: {found or 'the same'} ({', '.join(programs)})", bool(found))
-    for place in unsent:
+    for place in unnamed:
         line = target.by_scapy[place].start.line
         yield Finding(f"channel {target.channel.name}: no record names the message of {target.file.name} line {line}", True)
 
@@ -166,5 +181,5 @@ def main(arguments: Sequence[str]) -> int:
     for finding in findings:
         print(finding.text)
     differing = sum(finding.differs for finding in findings)
-    print(f"{len(report.destinations)} destination records, {differing} differences")
+    print(f"destination records {len(report.destinations)}, differences {differing}")
     return 1 if differing else 0

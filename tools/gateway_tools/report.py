@@ -9,7 +9,7 @@ from .command import Refusal, text_of
 from .records import Destination, InterfaceUnits, Move, Opened, Pool, Report, Result, Session
 
 
-NUMBER = "0|[1-9][0-9]*"
+NUMBER = "0|[1-9][0-9]{0,19}"
 FREE = "[0-9A-F]{8}"
 
 SESSION_RESULTS: dict[str, tuple[str, ...]] = {

@@ -38,9 +38,10 @@ def rows(frames: list[LoggedFrame], has_address: bool) -> list[list[str]]:
         command += ["-o", f"iso15765.addressing:{addressing} addressing"]
         command += [word for name in FIELDS for word in ("-e", name)]
         answer = subprocess.run(command, capture_output=True, text=True, check=False)
-    if answer.returncode:
-        raise Refusal("tshark can't read the frames: try the command with --without-tshark")
-    return [line.split("\t") for line in answer.stdout.splitlines()]
+    printed = [line.split("\t") for line in answer.stdout.splitlines()]
+    if answer.returncode or len(printed) != len(frames):
+        raise Refusal("tshark can't read the frames: give the option --without-tshark")
+    return printed
 
 
 def whole_messages(found: list[Message], has_address: bool) -> list[bytes | None]:

@@ -3,9 +3,11 @@
 from __future__ import annotations
 
 import subprocess
+import sys
 
 import pytest
 from conftest import EXAMPLES, TOOLS
+from gateway_tools.command import start
 
 COMMANDS = ["summary", "compare", "timeline"]
 CONFIG = str(EXAMPLES / "segmented" / "gw.toml")
@@ -45,3 +47,22 @@ def test_refused(command: str, words: list[str], said: str) -> None:
     answer = run(command, words)
     assert (answer.returncode, answer.stdout) == (2, "")
     assert answer.stderr.startswith(f"{command}: ") and answer.stderr.count("\n") == 1 and said in answer.stderr
+
+
+# A command, the module that isn't there, and the package that is asked for.
+LACKING = [("compare", "can", "python3-can"), ("compare", "scapy", "python3-scapy"),
+           ("timeline", "matplotlib", "python3-matplotlib")]  # fmt: skip
+
+
+@pytest.mark.parametrize(("command", "module", "package"), LACKING)
+def test_lacking(
+    command: str, module: str, package: str, monkeypatch: pytest.MonkeyPatch, capsys: pytest.CaptureFixture[str]
+) -> None:
+    """A package that isn't installed is asked for in one line."""
+    for name in [name for name in sys.modules if name.partition(".")[0] in ("gateway_tools", module)]:
+        monkeypatch.delitem(sys.modules, name)
+    monkeypatch.setitem(sys.modules, module, None)
+    with pytest.raises(SystemExit) as ended:
+        start(command)
+    said = f"{command}: {package} isn't installed: run apt install --no-install-recommends {package}\n"
+    assert (ended.value.code, capsys.readouterr().err) == (2, said)

@@ -35,7 +35,7 @@ def test_examples(
     words = [str(folder / config), str(folder / report)]
     assert main(words if tshark else [*words, "--without-tshark"]) == 0
     found = found if tshark else found.replace(", tshark)", ")")
-    assert capsys.readouterr().out == f"{found}\n1 destination records, 0 differences\n"
+    assert capsys.readouterr().out == f"{found}\ndestination records 1, differences 0\n"
 
 
 # ReadDataByIdentifier of the identification number: an answer of 20 bytes.
@@ -107,6 +107,13 @@ WRONG = {
             f"{NAME}20 of 20 bytes, sent: the same (scapy)",
         ],
     ),
+    "another tick": (
+        *(RIGHT, SENT, [(at + 9, frame) for at, frame in LEFT]),
+        [
+            f"{NAME}20 of 20 bytes, sent: the report says 20 bytes, and nothing was sent (scapy)",
+            "channel engine: no record names the message of can1.out line 1",
+        ],
+    ),
     "a session without a start": (
         *(RIGHT.replace("session 0 0 20 0 20 3", "session 0 0 20 1 20 3"), SENT, LEFT),
         [
@@ -123,7 +130,7 @@ def test_wrong(name: str, made: Callable[..., list[str]], capsys: pytest.Capture
     report, log, out, lines = WRONG[name]
     differing = sum("the same" not in line for line in lines)
     assert main([*made(report, can0_log=log, can1_out=out), "--without-tshark"]) == (1 if differing else 0)
-    assert capsys.readouterr().out.splitlines() == [*lines, f"1 destination records, {differing} differences"]
+    assert capsys.readouterr().out.splitlines() == [*lines, f"destination records 1, differences {differing}"]
 
 
 @needs_tshark
@@ -160,7 +167,7 @@ def test_several(made: Callable[..., list[str]], capsys: pytest.CaptureFixture[s
         "path requests to engine unit 0: 6 of 20 bytes, source-ended: the same (scapy)",
         "path requests to engine unit 1: 13 of 20 bytes, source-ended: the same (scapy)",
         "path requests to engine unit 2: 2 of 2 bytes, sent: the same (scapy)",
-        "3 destination records, 0 differences",
+        "destination records 3, differences 0",
     ]
 
 

@@ -49,7 +49,7 @@ def main_of(name: str) -> Callable[[Sequence[str]], int]:
         main: Callable[[Sequence[str]], int] = importlib.import_module(f"gateway_tools.{name}").main
         return main
     except ModuleNotFoundError as fault:
-        package = f"python3-{str(fault.name).partition('.')[0]}"
+        package = f"python3-{str(fault.name).partition('.')[0].replace('_', '-')}"
         raise Refusal(f"{package} isn't installed: run apt install --no-install-recommends {package}") from fault
 
 

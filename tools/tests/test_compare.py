@@ -124,6 +124,49 @@ WRONG = {
 }
 
 
+# Two single frames in one tick, the second with an earlier stamp, and their sessions in two orders.
+TWO_SENT = [(5, "7E0#023E00"), (1, "7E0#0322F190")]
+TWO_LEFT = [(6, "641#023E00"), (7, "641#0322F190")]
+TWO_DESTS = "dest 0 0 0 5 {} 5 sent\ndest 0 0 1 6 {} 6 sent\n"
+TWO_TAIL = "move 1 take 0\nmove 2 take 1\nmove 3 free 0\nmove 4 free 1\npool 2 4 00000003\n"
+
+
+def two(first: int, second: int) -> str:
+    """A report of two whole messages of these lengths, both of tick 5."""
+    sessions = f"session 0 0 {first} 5 {first} 5 0/0/1 whole\nsession 0 1 {second} 5 {second} 5 1/1/2 whole\n"
+    return HEAD + sessions + TWO_DESTS.format(first, second) + TWO_TAIL
+
+
+@pytest.mark.parametrize(
+    ("report", "lines"),
+    [
+        (
+            two(2, 3),
+            [
+                "path requests to engine unit 0: 2 of 2 bytes, sent: the same (scapy)",
+                "path requests to engine unit 1: 3 of 3 bytes, sent: the same (scapy)",
+                "destination records 2, differences 0",
+            ],
+        ),
+        (
+            two(3, 2),
+            [
+                "channel tester: no session is that of the start in can0.log line 1",
+                "path requests to engine unit 0: 3 of 3 bytes, sent: the source announced 3 bytes, and the destination 2 (scapy)",
+                "path requests to engine unit 1: no start in can0.log is that of its session",
+                "destination records 2, differences 3",
+            ],
+        ),
+    ],
+)
+def test_order(
+    report: str, lines: list[str], made: Callable[..., list[str]], capsys: pytest.CaptureFixture[str]
+) -> None:
+    """A log's ticks never fall, and its sessions come in the order of their starts."""
+    assert main([*made(report, can0_log=TWO_SENT, can1_out=TWO_LEFT), "--without-tshark"]) == (len(lines) > 3)
+    assert capsys.readouterr().out.splitlines() == lines
+
+
 @pytest.mark.parametrize("name", WRONG)
 def test_wrong(name: str, made: Callable[..., list[str]], capsys: pytest.CaptureFixture[str]) -> None:
     """Each wrong place is told, and makes the status 1."""

@@ -49,73 +49,44 @@ const FIRST_OF_CAN0: &[u8] = b"unbuilt log can0 line 1\n";
 
 const FIRST_OF_CAN1: &[u8] = b"unbuilt log can1 line 1\n";
 
-/// A change of the configuration, the report's name, the logs of can0 and can1, the exit code, and what is said.
-const REFUSED: [(Change, &str, [&[u8]; 2], u8, &[u8]); 31] = [
+/// A change of the configuration, the report's name, the exit code, and what is said. The log of can0 is bad.
+const REFUSED_CONFIGURATIONS: [(Change, &str, u8, &[u8]); 14] = [
     // A report that is a log or an output.
-    (
-        AS_IT_IS,
-        "can0.log",
-        [BAD, EMPTY],
-        2,
-        b"config bus[0].log: repeated\n",
-    ),
-    (
-        AS_IT_IS,
-        "can0.out",
-        [BAD, EMPTY],
-        2,
-        b"config bus[0].out: repeated\n",
-    ),
-    (
-        AS_IT_IS,
-        "can1.log",
-        [BAD, EMPTY],
-        2,
-        b"config bus[1].log: repeated\n",
-    ),
+    (AS_IT_IS, "can0.log", 2, b"config bus[0].log: repeated\n"),
+    (AS_IT_IS, "can0.out", 2, b"config bus[0].out: repeated\n"),
+    (AS_IT_IS, "can1.log", 2, b"config bus[1].log: repeated\n"),
     (
         SAME_ADDRESS,
         "can1.out",
-        [BAD, EMPTY],
         2,
         b"config bus[1].out: repeated\n",
     ),
     // Accepted configurations that aren't built.
-    (("[4]", "[8]"), "gw.report", [BAD, EMPTY], 9, UNBUILT),
-    (("[4]", "[4, 4]"), "gw.report", [BAD, EMPTY], 9, UNBUILT),
-    (("", "window = 2\n"), "gw.report", [BAD, EMPTY], 9, UNBUILT),
-    (
-        ("", "mode = \"threads\"\n"),
-        "gw.report",
-        [BAD, EMPTY],
-        9,
-        UNBUILT,
-    ),
+    (("[4]", "[8]"), "gw.report", 9, UNBUILT),
+    (("[4]", "[4, 4]"), "gw.report", 9, UNBUILT),
+    (("", "window = 2\n"), "gw.report", 9, UNBUILT),
+    (("", "mode = \"threads\"\n"), "gw.report", 9, UNBUILT),
     (
         ("\"can1.out\"\n", "\"can1.out\"\nbudget = 9\n"),
         "gw.report",
-        [BAD, EMPTY],
         9,
         UNBUILT,
     ),
     (
         ("rx = \"700\"\n", "rx = \"00000700\"\n"),
         "gw.report",
-        [BAD, EMPTY],
         9,
         UNBUILT,
     ),
     (
         ("tx = \"710\"\n", "tx = \"710\"\npad = true\n"),
         "gw.report",
-        [BAD, EMPTY],
         9,
         UNBUILT,
     ),
     (
         ("tx = \"708\"\n", "tx = \"708\"\nbs = 1\n"),
         "gw.report",
-        [BAD, EMPTY],
         9,
         UNBUILT,
     ),
@@ -125,28 +96,45 @@ const REFUSED: [(Change, &str, [&[u8]; 2], u8, &[u8]); 31] = [
             "from = \"B\"\nto = [\"A\"]\n",
         ),
         "gw.report",
-        [BAD, EMPTY],
         9,
         UNBUILT,
     ),
     (
         ("to = [\"B\"]\n", "to = [\"B\"]\nthreshold = 2\n"),
         "gw.report",
-        [BAD, EMPTY],
         9,
         UNBUILT,
     ),
+];
+
+#[test]
+fn a_refused_configuration_makes_no_output(rt: HostRuntime) -> Result<(), Fail> {
+    for (change, report, code, said) in REFUSED_CONFIGURATIONS {
+        let configuration = changed(rt.alloc(), change)?;
+        let mut depot = depot_with(rt.alloc(), configuration.as_str(), [BAD, EMPTY])?;
+        let mut say = MemSink::new(rt.alloc());
+        let words = ["run", "gw.toml", report];
+        assert_eq!(rt;
+            exit_code(&rt, rt.alloc(), &words, &mut depot, &mut say)?,
+            code
+        );
+        assert_eq!(rt; say.bytes(), said);
+        assert_eq!(rt; results(&depot), [None, None, None]);
+    }
+    Ok(())
+}
+
+/// A change of the configuration, the logs of can0 and can1, the exit code, and what is said.
+const REFUSED_LOGS: [(Change, [&[u8]; 2], u8, &[u8]); 17] = [
     // First frames of more bytes than the buffer's cells carry.
     (
         AS_IT_IS,
-        "gw.report",
         [b"(0000000001.000000) can0 700#101C000102030405\n", EMPTY],
         9,
         FIRST_OF_CAN0,
     ),
     (
         AS_IT_IS,
-        "gw.report",
         [b"(0000000001.000000) can0 700#100000001000AABB", EMPTY],
         9,
         FIRST_OF_CAN0,
@@ -154,21 +142,18 @@ const REFUSED: [(Change, &str, [&[u8]; 2], u8, &[u8]); 31] = [
     // Flow controls with another status, block size and separation time.
     (
         AS_IT_IS,
-        "gw.report",
         [EMPTY, b"(0000000001.000000) can1 718#310000\n"],
         9,
         FIRST_OF_CAN1,
     ),
     (
         AS_IT_IS,
-        "gw.report",
         [EMPTY, b"(0000000001.000000) can1 718#300100\n"],
         9,
         FIRST_OF_CAN1,
     ),
     (
         AS_IT_IS,
-        "gw.report",
         [EMPTY, b"(0000000001.000000) can1 718#300001\n"],
         9,
         FIRST_OF_CAN1,
@@ -177,21 +162,18 @@ const REFUSED: [(Change, &str, [&[u8]; 2], u8, &[u8]); 31] = [
     // bus passes over, on the other bus; after a frame of another interface.
     (
         AS_IT_IS,
-        "gw.report",
         [b"(1.000000) can0 7000#11\n", BAD],
         3,
         b"log can0 line 1 byte 16: bad id\n",
     ),
     (
         AS_IT_IS,
-        "gw.report",
         [b"(0000000001.0000", EMPTY],
         3,
         b"log can0 line 1 byte 16: bad stamp\n",
     ),
     (
         AS_IT_IS,
-        "gw.report",
         [
             b"(0000000001.000000) can0 700#021122\n(0000000001.000000) can0 700#021122\n(0000000001.000000) can0 700#0\n",
             EMPTY,
@@ -201,7 +183,6 @@ const REFUSED: [(Change, &str, [&[u8]; 2], u8, &[u8]); 31] = [
     ),
     (
         AS_IT_IS,
-        "gw.report",
         [
             b"(0000000001.000000) can0 700#021122\n(0000000001.000000) can0 700##0021122\n",
             BAD,
@@ -211,7 +192,6 @@ const REFUSED: [(Change, &str, [&[u8]; 2], u8, &[u8]); 31] = [
     ),
     (
         AS_IT_IS,
-        "gw.report",
         [
             EMPTY,
             b"(0000000001.000000) can0 718#300000\n(0000000001.000000) can1 718#3\n",
@@ -222,7 +202,6 @@ const REFUSED: [(Change, &str, [&[u8]; 2], u8, &[u8]); 31] = [
     // A frame that isn't built, before a bad line.
     (
         AS_IT_IS,
-        "gw.report",
         [b"(0000000001.000000) can0 700#101C000102030405\nbad\n", BAD],
         9,
         FIRST_OF_CAN0,
@@ -230,7 +209,6 @@ const REFUSED: [(Change, &str, [&[u8]; 2], u8, &[u8]); 31] = [
     // A bad line comes before too many ticks, on the other bus too.
     (
         AS_IT_IS,
-        "gw.report",
         [
             b"(0000000001.000000) can0 700#021122\n(0000010001.000000) can0 700#021122\n",
             BAD,
@@ -240,7 +218,6 @@ const REFUSED: [(Change, &str, [&[u8]; 2], u8, &[u8]); 31] = [
     ),
     (
         AS_IT_IS,
-        "gw.report",
         [
             b"(0000000001.000000) can0 700#021122\n(0000010001.000000) can0 700#021122\n",
             EMPTY,
@@ -250,7 +227,6 @@ const REFUSED: [(Change, &str, [&[u8]; 2], u8, &[u8]); 31] = [
     ),
     (
         AS_IT_IS,
-        "gw.report",
         [
             b"(0000000001.000000) can0 700#021122\n(0000009998.000000) can0 7E0#01BB\n",
             EMPTY,
@@ -260,14 +236,12 @@ const REFUSED: [(Change, &str, [&[u8]; 2], u8, &[u8]); 31] = [
     ),
     (
         ("", "linger = 0\n"),
-        "gw.report",
         [SHORT, b"(0000010001.000000) can1 718#300000\n"],
         7,
         b"limit ticks 10000001\n",
     ),
     (
         ("", "linger = 1000000\n"),
-        "gw.report",
         [
             b"(0000000001.000000) can0 700#021122\n(0000009001.000000) can0 700#021122\n",
             EMPTY,
@@ -277,7 +251,6 @@ const REFUSED: [(Change, &str, [&[u8]; 2], u8, &[u8]); 31] = [
     ),
     (
         ("", "period = 1\n"),
-        "gw.report",
         [
             b"(0000000001.000000) can0 700#021122\n(0000000011.000000) can0 700#021122\n",
             EMPTY,
@@ -288,14 +261,13 @@ const REFUSED: [(Change, &str, [&[u8]; 2], u8, &[u8]); 31] = [
 ];
 
 #[test]
-fn a_refused_run_makes_no_output(rt: HostRuntime) -> Result<(), Fail> {
-    for (change, report, logs, code, said) in REFUSED {
+fn a_refused_log_makes_no_output(rt: HostRuntime) -> Result<(), Fail> {
+    for (change, logs, code, said) in REFUSED_LOGS {
         let configuration = changed(rt.alloc(), change)?;
         let mut depot = depot_with(rt.alloc(), configuration.as_str(), logs)?;
         let mut say = MemSink::new(rt.alloc());
-        let words = ["run", "gw.toml", report];
         assert_eq!(rt;
-            exit_code(&rt, rt.alloc(), &words, &mut depot, &mut say)?,
+            exit_code(&rt, rt.alloc(), RUN, &mut depot, &mut say)?,
             code
         );
         assert_eq!(rt; say.bytes(), said);

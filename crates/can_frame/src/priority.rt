@@ -1,3 +1,4 @@
+//! What decides arbitration between frames: the bits of their identifiers.
 ghost use Rattle.std.specs.Prelude.{◌≡◌, ◌↔◌, ◌<◌};
 ghost use Rattle.can_frame.specs.Priority.{priority_of, ComesBefore};
 ghost use Rattle.can_frame.specs.declared.id.CanId.{CanId};

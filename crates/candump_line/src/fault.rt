@@ -1,3 +1,4 @@
+//! The faults of a line: what is wrong, and at which byte.
 use std::fmt;
 
 /// What is wrong with a line.

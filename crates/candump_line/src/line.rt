@@ -1,3 +1,4 @@
+//! What a line of a log says.
 use can_frame::Frame;
 use gw_base::Micros;
 

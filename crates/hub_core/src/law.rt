@@ -1,3 +1,4 @@
+//! The laws of all hubs: functions that do nothing, whose contracts are what they are for.
 ghost use Rattle.hub_core.specs.Core.{CoreLaw, LeadingLaw, LedLaw, OneGroupLaw};
 ghost use Rattle.hub_core.specs.Parts.{AgainLaw, JoinLaw, MergingLaw};
 

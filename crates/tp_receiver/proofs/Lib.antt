@@ -1,3 +1,4 @@
 pub mod CellByCell
 pub mod Composing
+pub mod Made
 pub mod Sizes

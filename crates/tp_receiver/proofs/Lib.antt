@@ -1,4 +1,5 @@
 pub mod CellByCell
 pub mod Composing
 pub mod Made
+pub mod OwnSteps
 pub mod Sizes

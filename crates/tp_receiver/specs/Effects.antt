@@ -1,8 +1,9 @@
 -- The few kinds of effects that a receiver's steps are made of, whatever the row of the table: each leads from one stage of a step to the next.
 use Rattle.std.specs.Prelude.{◌≡◌, ◌≢◌, ◌⊎◌, ℕ, ◌+◌, ◌<◌, ◌≤◌, Bool, true, false, Option, Some, None, List, [], ◌∷◌, ◌++◌, length, take}
+use Rattle.std.specs.List.{AllByRecursion}
 use Rattle.cell_stream.specs.Packing.{IsPacked}
 use Rattle.hub_core.specs.Calls.{freed_by}
-use Rattle.hub_core.specs.View.{Event, Refused, Closed}
+use Rattle.hub_core.specs.View.{Event, Took, Refused, Entered, Asked, Put, Published, Joining, Missed, Saw, Read, Closed, Parted}
 use Rattle.hub_core.specs.declared.port.Left.{Left}
 use Rattle.hub_core.specs.declared.port.Room.{Room}
 use Rattle.hub_core.specs.declared.record.OpenedAt.{OpenedAt}
@@ -15,7 +16,7 @@ use Rattle.tp_attempts.specs.Seen.{bytes_of, is_start, len_of}
 use Rattle.tp_receiver.specs.declared.set.RxSet.{RxSet}
 use Rattle.tp_receiver.specs.State.{Reception, RxDid, RxEvent, RxState, Came, Timer, FcLeft, RunEnd, busy_with, idle}
 use Rattle.tp_receiver.specs.Table.{IsLookedAt, Opens as OpensSession, asks, begun, cells_of, continue_to_send, due, ended, gone_on, later_act, overflow, puts, refused, revoking}
-use Rattle.tp_unit.specs.Unit.{Meaning, SingleFrame, FirstFrame, ConsecutiveFrame, FlowControl, NoUnit, BoxMeaning, Keeps, Offers}
+use Rattle.tp_unit.specs.Unit.{Meaning, SingleFrame, FirstFrame, ConsecutiveFrame, FlowControl, NoUnit, BoxMeaning, Keeps, Offers, Revokes}
 
 -- where a step stands between two of its effects
 pub record RxStage : Type 0 where
@@ -222,3 +223,34 @@ pub record IsMade (set : RxSet) (event : RxEvent) (old : RxStage) (m : RxDid) : 
   pub unused : last.used ≡ false → IsUnused set event last.state
   -- what was begun or put in this step and goes on has bytes to come
   pub more : (busy : Reception) → last.used ≡ true → last.state.busy ≡ Some busy → busy.bytes < busy.len
+
+-- a call of a path's writer, or its use of the pool
+abbrev pub OfWriter : ℕ → Event → Type 0
+OfWriter path (Took number buf size need) = Unit {0}
+OfWriter path (Refused number free need) = Unit {0}
+OfWriter path (Entered p seq buf number size len readers) = p ≡ path
+OfWriter path (Asked p seq cells readers) = p ≡ path
+OfWriter path (Put p seq cell) = p ≡ path
+OfWriter path (Published p seq bytes) = p ≡ path
+OfWriter path (Joining p dest seq buf len) = ⊥
+OfWriter path (Missed p dest seq) = ⊥
+OfWriter path (Saw p dest seq cells bytes writer) = ⊥
+OfWriter path (Read p dest seq cell) = ⊥
+OfWriter path (Closed p seq freed) = p ≡ path
+OfWriter path (Parted p dest seq freed) = ⊥
+
+-- one of the flow controls that a receiver sends
+abbrev pub IsControl : RxSet → Meaning → Type 0
+IsControl set meaning = (meaning ≡ continue_to_send set) ⊎ (meaning ≡ overflow)
+
+-- an act offers no other
+abbrev pub IsControlAct : RxSet → BoxMeaning → Type 0
+IsControlAct set Keeps = Unit {0}
+IsControlAct set (Offers meaning) = IsControl set meaning
+IsControlAct set Revokes = Unit {0}
+
+-- whatever a step does: its calls are the path's writer's own, its records end in its tick, and it offers its own flow controls alone
+pub record IsOwnStep (set : RxSet) (m : RxDid) : Type 0 where
+  pub writes : AllByRecursion (OfWriter set.path.0) m.calls
+  pub ends : AllByRecursion (λ (told : SessionRecord). told.end.0 ≡ m.tick) m.records
+  pub control : IsControlAct set m.act

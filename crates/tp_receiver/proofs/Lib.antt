@@ -3,3 +3,4 @@ pub mod Composing
 pub mod Made
 pub mod OwnSteps
 pub mod Sizes
+pub mod Through

@@ -73,11 +73,12 @@ looks set event next seq busy before used room readers m rest calls later =
     (Looks (record { busy = busy; was = refl; look = look; calls = refl; act = refl; records = refl; new = refl })) later refl calls (sym (later-keeps m.act)) refl refl
 
 -- what is granted
-grants : (set : RxSet) (event : RxEvent) (next seq : ℕ) (busy : Reception) (m : RxDid) → busy.wait ≡ Cf → busy.bytes < busy.len → Grants set next seq busy m → IsMade set event (at_stage (busy_with next seq busy) None true) m
-grants set event next seq busy m cf more (NoneReads room readers none row) =
-    looks set event next seq busy None true room readers m row.rest row.calls
-    (ends set event next seq busy (Some (record { cells = room; readers = readers })) true NoReaders (record m { calls = row.rest }) (record { cells = room; readers = readers }, refl, none) (λ is other. more) (λ is. cc) row.row)
-grants set event next seq busy m cf more (All room readers some row) =
+grants : (set : RxSet) (size : ℕ) (meaning : Meaning) (next seq : ℕ) (busy : Reception) (m : RxDid) → busy.wait ≡ Cf → busy.bytes < busy.len → Grants set next seq busy m → IsMade set (Came size meaning) (at_stage (busy_with next seq busy) None true) m
+grants set size meaning next seq busy m cf more (NoneReads room readers none row) =
+    looks set (Came size meaning) next seq busy None true room readers m row.rest row.calls
+    (ends set (Came size meaning) next seq busy (Some (record { cells = room; readers = readers })) true NoReaders (record m { calls = row.rest }) (record { cells = room; readers = readers }, refl, none, (λ is. cc)) (λ is other. more) (λ is. cc) row.row)
+grants set size meaning next seq busy m cf more (All room readers some row) =
+    let event : RxEvent = Came size meaning in
     let look : Room = record { cells = room; readers = readers } in
     let new : RxStage = at_stage (busy_with next seq (record busy { wait = Box; since = m.tick })) None true in
     looks set event next seq busy None true room readers m row.rest row.calls
@@ -124,7 +125,7 @@ begins set size (SingleFrame bytes) next seq m start row = begins-single set siz
 begins set size (FirstFrame len bytes) next seq m start (NoBufferFirst more row) = refuses set size (FirstFrame len bytes) next seq (Offers overflow) m start refl row
 begins set size (FirstFrame len bytes) next seq m start (Opened more opened opening row rest) =
     opens set size (FirstFrame len bytes) next seq opened opening m rest.rest start (omega (arith, more)) row rest.calls
-    (grants set (Came size (FirstFrame len bytes)) (next + 1) (seq + 1) (begun next len size (length bytes) m.tick opened) (record m { calls = rest.rest }) refl more rest.row)
+    (grants set size (FirstFrame len bytes) (next + 1) (seq + 1) (begun next len size (length bytes) m.tick opened) (record m { calls = rest.rest }) refl more rest.row)
 begins set size (ConsecutiveFrame number bytes) next seq m start row = absurd row
 begins set size (FlowControl status block_size separation) next seq m start row = absurd row
 begins set size (NoUnit why) next seq m start row = absurd row
@@ -193,7 +194,7 @@ carries set size bytes next seq busy m looked (NoneReadsOn room readers none row
     let event : RxEvent = Came size (ConsecutiveFrame busy.number bytes) in
     let look : Room = record { cells = room; readers = readers } in
     looks set event next seq busy None false room readers m row.rest row.calls
-    (ends set event next seq busy (Some look) false NoReaders (record m { calls = row.rest }) (look, refl, none) (λ is. cc) (λ is. (refl, λ going none. cc)) row.row)
+    (ends set event next seq busy (Some look) false NoReaders (record m { calls = row.rest }) (look, refl, none, (λ is. cc)) (λ is. cc) (λ is. (refl, λ going none. cc)) row.row)
 carries set size bytes next seq busy m looked (TooLittleRoom room readers need some need_is little row) =
     let event : RxEvent = Came size (ConsecutiveFrame busy.number bytes) in
     let look : Room = record { cells = room; readers = readers } in

@@ -10,17 +10,14 @@ use Rattle.hub_core.specs.declared.record.SessionRecord.{SessionRecord}
 use Rattle.tp_receiver.specs.declared.set.RxSet.{RxSet}
 use Rattle.tp_receiver.specs.State.{Reception, RxDid, RxEvent, RxState}
 use Rattle.tp_receiver.specs.Table.{Opens as OpensSession, RxStep, continue_to_send, later_act, overflow, puts, revoking}
-use Rattle.tp_receiver.specs.Effects.{AreEffects, Because, IsControl, IsControlAct, IsOwnStep, IsRefusal, IsOpening, IsLook, IsPut, IsWait, IsEnd, IsMade, OfWriter, RxDone, RxEffect, RxStage, act_of, calls_of, first_stage, records_of, refusal_act, Ends, Looks, Opens, Puts, Refuses, Waits}
+use Rattle.tp_receiver.specs.Effects.{AreEffects, Because, IsControl, IsControlAct, IsOwnStep, IsRefusal, IsOpening, IsLook, IsPut, IsWait, IsEnd, IsMade, IsMadeNow, OfWriter, RxDone, RxEffect, RxStage, act_of, calls_of, first_stage, records_of, refusal_act, Ends, Looks, Opens, Puts, Refuses, Waits}
 use Rattle.tp_unit.specs.Unit.{BoxMeaning, Keeps, Offers, Revokes, Meaning, SingleFrame, FirstFrame, ConsecutiveFrame, FlowControl, NoUnit}
 use Rattle.tp_receiver.proofs.Made.{made}
-
-abbrev EndsIn : ℕ → List SessionRecord → Type 0
-EndsIn tick records = AllByRecursion (λ (told : SessionRecord). told.end.0 ≡ tick) records
 
 -- what holds of an effect
 record IsOwn (set : RxSet) (tick : ℕ) (calls : List Event) (act : BoxMeaning) (records : List SessionRecord) : Type 0 where
   writes : AllByRecursion (OfWriter set.path.0) calls
-  ends : EndsIn tick records
+  ends : AllByRecursion (IsMadeNow set tick) records
   control : IsControlAct set act
 
 put : (path seq count : ℕ) (cells : List ℕ) → AllByRecursion (OfWriter path) (map (λ cell. Put path seq cell) cells ++ Published path seq count ∷ [])
@@ -49,12 +46,12 @@ opens set seq len bytes opened calls row = rw row.calls_are (tt, (refl, put set.
 
 -- each effect
 own-effect : (set : RxSet) (event : RxEvent) (tick : ℕ) (old : RxStage) (done : RxDone) → RxEffect set event tick old done → IsOwn set tick done.calls done.act done.records
-own-effect set event tick old done (Refuses e) = record { writes = rw e.calls (tt, tt); ends = rw e.records (refl, tt); control = rw e.act (refuses set e.meaning) }
+own-effect set event tick old done (Refuses e) = record { writes = rw e.calls (tt, tt); ends = rw e.records ((refl, refl), tt); control = rw e.act (refuses set e.meaning) }
 own-effect set event tick old done (Opens e) = record { writes = opens set _ _ _ e.opened done.calls e.opens; ends = rw e.records tt; control = rw e.act tt }
 own-effect set event tick old done (Looks e) = record { writes = rw e.calls (refl, tt); ends = rw e.records tt; control = rw e.act tt }
 own-effect set event tick old done (Puts e) = record { writes = rw e.calls (put set.path.0 e.busy.opened.seq _ e.cells); ends = rw e.records tt; control = rw e.act tt }
 own-effect set event tick old done (Waits e) = record { writes = rw e.calls tt; ends = rw e.records tt; control = waits set event old e.busy done.act e.wait e.because }
-own-effect set event tick old done (Ends e) = record { writes = rw e.calls (refl, tt); ends = rw e.records (refl, tt); control = rw e.act (revokes set e.busy.wait) }
+own-effect set event tick old done (Ends e) = record { writes = rw e.calls (refl, tt); ends = rw e.records ((refl, refl), tt); control = rw e.act (revokes set e.busy.wait) }
 
 later-control : (set : RxSet) (earlier later : BoxMeaning) → IsControlAct set earlier → IsControlAct set later → IsControlAct set (later_act earlier later)
 later-control set earlier Keeps one two = one
@@ -68,7 +65,7 @@ own-effects set event tick old last (done ∷ rest) are =
     let more : IsOwn set tick (calls_of rest) (act_of rest) (records_of rest) = own-effects set event tick done.new last rest are.1 in
     record {
       writes = all-join (OfWriter set.path.0) done.calls (calls_of rest) one.writes more.writes;
-      ends = all-join (λ (told : SessionRecord). told.end.0 ≡ tick) done.records (records_of rest) one.ends more.ends;
+      ends = all-join (IsMadeNow set tick) done.records (records_of rest) one.ends more.ends;
       control = later-control set done.act (act_of rest) one.control more.control;
     }
 
@@ -79,6 +76,6 @@ own-step set old event m row =
     let all : IsOwn set m.tick (calls_of so.effects) (act_of so.effects) (records_of so.effects) = own-effects set event m.tick (first_stage old) so.last so.effects so.are in
     record {
       writes = subst (λ (c : List Event). AllByRecursion (OfWriter set.path.0) c) (sym so.calls) all.writes;
-      ends = subst (λ (r : List SessionRecord). EndsIn m.tick r) (sym so.records) all.ends;
+      ends = subst (λ (r : List SessionRecord). AllByRecursion (IsMadeNow set m.tick) r) (sym so.records) all.ends;
       control = subst (IsControlAct set) (sym so.act) all.control;
     }

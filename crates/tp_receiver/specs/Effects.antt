@@ -138,7 +138,7 @@ EndsAt set event old busy (RxTimeout limit) = event ≡ Timer
 EndsAt set event old busy Restarted = (size : ℕ) × (meaning : Meaning) × (event ≡ Came size meaning) × (is_start set.functional meaning ≡ true)
 EndsAt set event old busy (NoRoom room need) = (look : Room) × (old.look ≡ Some look) × (0 < look.readers) × (look.cells ≡ room) × (room < need)
 EndsAt set event old busy WaitOver = ⊥
-EndsAt set event old busy NoReaders = (look : Room) × (old.look ≡ Some look) × (look.readers ≡ 0)
+EndsAt set event old busy NoReaders = (look : Room) × (old.look ≡ Some look) × (look.readers ≡ 0) × (event ≡ RunEnd → ⊥)
 EndsAt set event old busy Cancelled = ⊥
 EndsAt set event old busy (EndOfRun wait since) = (event ≡ RunEnd) × (wait ≡ busy.wait) × (since.0 ≡ busy.since)
 
@@ -249,8 +249,12 @@ IsControlAct set Keeps = Unit {0}
 IsControlAct set (Offers meaning) = IsControl set meaning
 IsControlAct set Revokes = Unit {0}
 
--- whatever a step does: its calls are the path's writer's own, its records end in its tick, and it offers its own flow controls alone
+-- a record is of the receiver's channel, and its end is the tick of the step that made it
+abbrev pub IsMadeNow : RxSet → ℕ → SessionRecord → Type 0
+IsMadeNow set tick told = (told.chan ≡ set.chan) × (told.end.0 ≡ tick)
+
+-- whatever a step does: its calls are the path's writer's own, its records are its channel's and end in its tick, and it offers its own flow controls alone
 pub record IsOwnStep (set : RxSet) (m : RxDid) : Type 0 where
   pub writes : AllByRecursion (OfWriter set.path.0) m.calls
-  pub ends : AllByRecursion (λ (told : SessionRecord). told.end.0 ≡ m.tick) m.records
+  pub ends : AllByRecursion (IsMadeNow set m.tick) m.records
   pub control : IsControlAct set m.act

@@ -21,7 +21,9 @@ use Rattle.tp_unit.specs.Box.{left_in}
 use Rattle.tp_unit.proofs.Rises.{Rise, all-by, at-most-once, never-fall, rise-later, rise-written}
 use Rattle.tp_receiver.specs.Runs.{control_after, control_at, control_once, controls_by}
 use Rattle.sender_law.proofs.DataFrames.{AreSteps, are-data}
-use Rattle.receiver_law.proofs.Offers.{IsControl, IsControlAct, control-act, control-fits}
+use Rattle.receiver_law.proofs.Offers.{control-fits}
+use Rattle.tp_receiver.specs.Effects.{IsControl, IsControlAct}
+use Rattle.tp_receiver.proofs.OwnSteps.{own-step}
 use Rattle.gw_base.proofs.Lists.{all-join}
 use Rattle.gw_law.proofs.WholeRun.{WholeRun, route, works_of}
 
@@ -129,7 +131,7 @@ lies-once set RunEnd lies so = so
 pub lies-control : (set : RxSet) (turns : List RxTurn) → HasReceived set turns → IsControlIn set (control_after turns)
 lies-control set [] happened = tt
 lies-control set (turn ∷ earlier) happened =
-    lies-then set turn.did.act (control_once turn.event (control_after earlier)) (control-act set (state_after rx_new earlier) turn.event turn.did happened.1) (lies-once set turn.event (control_after earlier) (lies-control set earlier happened.2))
+    lies-then set turn.did.act (control_once turn.event (control_after earlier)) (own-step set (state_after rx_new earlier) turn.event turn.did happened.1).control (lies-once set turn.event (control_after earlier) (lies-control set earlier happened.2))
 
 written-control : (set : RxSet) (shape : Shape) (event : RxEvent) (tick : ℕ) (lies : Option Meaning) → IsControlIn set lies → AllByRecursion (WritesControl set shape) (control_at shape event tick lies)
 written-control set shape (Came size meaning) tick lies so = tt

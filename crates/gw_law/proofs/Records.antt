@@ -17,7 +17,8 @@ use Rattle.gw_law.specs.Run.{Route, Work, moments_of, turns_of}
 use Rattle.receiver_law.proofs.FlowControls.{IsKnown, begins-at, start-at}
 use Rattle.gw_law.proofs.FlowControls.{known-of-run}
 use Rattle.gw_law.proofs.Fronts.{IsTimed, TurnIn, WorkIn, moments-in, rises-below, run-rising, run-timed, turns-in}
-use Rattle.gw_law.proofs.JointTicks.{EndsAt, tells-now}
+use Rattle.tp_receiver.specs.Effects.{IsMadeNow}
+use Rattle.tp_receiver.proofs.OwnSteps.{own-step}
 use Rattle.gw_base.proofs.Lists.{all-at, all-join, all-push, all-weaker, at-next}
 use Rattle.sender_law.proofs.Origins.{InTicks, IsToldBy, OfLive, row-by, told-by}
 use Rattle.gw_law.proofs.WholeRun.{WholeRun, route, works_of}
@@ -27,8 +28,8 @@ sessions-of : (set : RxSet) (last : ℕ) (turns : List RxTurn) → HasReceived s
 sessions-of set last [] happened all = tt
 sessions-of set last (turn ∷ earlier) happened all =
     all-join (λ (told : SessionRecord). (told.chan ≡ set.chan) × (told.end.0 ≤ last)) (records_by earlier) turn.did.records (sessions-of set last earlier happened.2 all.1)
-    (all-weaker (EndsAt set turn.did.tick) (λ (told : SessionRecord). (told.chan ≡ set.chan) × (told.end.0 ≤ last)) turn.did.records (λ told is. (is.0, omega (arith, is.1, all.0)))
-    (tells-now set (state_after rx_new earlier).next (state_after rx_new earlier).seq (state_after rx_new earlier).busy turn.event turn.did happened.1))
+    (all-weaker (IsMadeNow set turn.did.tick) (λ (told : SessionRecord). (told.chan ≡ set.chan) × (told.end.0 ≤ last)) turn.did.records (λ told is. (is.0, omega (arith, is.1, all.0)))
+    (own-step set (state_after rx_new earlier) turn.event turn.did happened.1).ends)
 
 -- the destination's records, in moments up to a tick
 abbrev IsSent : TxSet → ℕ → DestRecord → Type 0

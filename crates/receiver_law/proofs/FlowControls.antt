@@ -1,5 +1,5 @@
 -- The law of a source channel's flow controls, by the records of its units.
-use Rattle.std.proofs.Common.{◌≡◌, ◌⊎◌, inl, inr, ℕ, zero, suc, ◌+◌, ◌<◌, ◌≤◌, true, false, None, Some, List, [], ◌∷◌, ◌++◌, length, refl, ap, sym, ◌∙◌, subst, arith}
+use Rattle.std.proofs.Common.{◌≡◌, ◌⊎◌, inl, inr, ℕ, zero, suc, ◌+◌, ◌<◌, ◌≤◌, Bool, true, false, None, Some, List, [], ◌∷◌, ◌++◌, length, refl, ap, sym, ◌∙◌, subst, arith}
 use Rattle.tp_unit.specs.Box.{Written}
 use Rattle.tp_receiver.specs.Table.{continue_to_send, overflow}
 use Rattle.std.specs.Prelude.{slice_get}
@@ -238,8 +238,8 @@ owes-no-room r place tick told known is from none gone =
     (omega (arith, left.at)) in
     omega (arith, above, left.at, from)
 
-pub law-known : (r : SourceChannel) → 1 ≤ r.rx.n_ar → IsKnown r → FlowControlLaw r
-law-known r some known = record {
+pub law-known : (full : ℕ → Bool) (r : SourceChannel) → 1 ≤ r.rx.n_ar → IsKnown r → FlowControlLaw full r
+law-known full r some known = record {
   lets_come = all-weaker (Answers r.rx r.shape (starts_in r.rx r.seen) r.sessions) (λ (w : Written). HasStatus r 0 w → LetsCome r w) r.controls (λ w answers status. lets-by r w known answers status) known.facts.answers;
   no_room = record {
     place_of = place_at r r.controls known.facts.answers;

@@ -10,7 +10,9 @@ pub mod Owed
 pub mod Places
 pub mod ReceptionCauses
 pub mod RxCauses
+pub mod RxLaws
 pub mod RxRooms
+pub mod RxRuns
 pub mod RxSettled
 pub mod RxTicks
 pub mod Sessions

@@ -251,3 +251,11 @@ rows set RunEnd next seq (Some busy) m row = ends set RunEnd next seq busy None 
 -- each step is made of effects
 pub made : (set : RxSet) (old : RxState) (event : RxEvent) (m : RxDid) → RxStep set old event m → IsMade set event (first_stage old) m
 made set old event m row = rows set event old.next old.seq old.busy m row
+
+-- after the run's end no reception is in progress
+idle-by : (set : RxSet) (next seq : ℕ) (busy : Option Reception) (m : RxDid) → RxStep set (record { next = next; seq = seq; busy = busy }) RunEnd m → m.new.busy ≡ None
+idle-by set next seq None m row = ap (λ (s : RxState). s.busy) row.new
+idle-by set next seq (Some busy) m row = ap (λ (s : RxState). s.busy) row.new
+
+pub idle-ended : (set : RxSet) (old : RxState) (m : RxDid) → RxStep set old RunEnd m → m.new.busy ≡ None
+idle-ended set old m row = idle-by set old.next old.seq old.busy m row

@@ -15,7 +15,7 @@ use Rattle.tp_sender.specs.declared.set.TxSet.{TxSet}
 use Rattle.gw_law.specs.Records.{IsOfDestination, IsOfSource, RecordsLaw}
 use Rattle.gw_law.specs.Run.{Route, Work, moments_of, turns_of}
 use Rattle.receiver_law.proofs.FlowControls.{IsKnown, begins-at, start-at}
-use Rattle.gw_law.proofs.FlowControls.{known-of-run}
+use Rattle.gw_law.proofs.RxOfRun.{known_of}
 use Rattle.gw_law.proofs.Fronts.{IsTimed, TurnIn, WorkIn, moments-in, rises-below, run-rising, run-timed, turns-in}
 use Rattle.tp_receiver.specs.Effects.{IsMadeNow}
 use Rattle.tp_receiver.proofs.OwnSteps.{own-step}
@@ -99,6 +99,6 @@ records_law_of o =
     record {
       sessions = all-weaker (λ (told : SessionRecord). (told.chan ≡ o.rx.chan) × (told.end.0 ≤ o.last)) (IsOfSource r) r.source.sessions (λ told is. record { chan = is.0; end = is.1 }) (sessions-of o.rx o.last (turns_of works) o.run.received (turns-in (λ (t : ℕ). t ≤ o.last) works timed within));
       dests = all-weaker (IsSent o.tx o.last) (IsOfDestination r) r.leg.dests (λ told is. record { path = is.0; dest = is.1; end = is.2 }) (dests-of o.tx o.last (moments_of works) o.run.sent (moments-in (λ (t : ℕ). t ≤ o.last) works timed within));
-      sessions_follow = sessions-apart r (known-of-run o);
+      sessions_follow = sessions-apart r (known_of o);
       dests_follow = (dests-apart o.tx (moments_of works) o.run.sent).follow;
     }

@@ -255,3 +255,13 @@ law-known full r some known = record {
   owes = λ place tick told is from below none. absurd (owes r place tick told known is from below none);
   owes_no_room = λ place tick told is from below by none gone. absurd (owes-no-room r place tick told known is from none gone);
 }
+
+-- the same, where the bus is said to be full in more ticks
+pub law-fuller : (full other : ℕ → Bool) (r : SourceChannel) → ((tick : ℕ) → full tick ≡ true → other tick ≡ true) → FlowControlLaw full r → FlowControlLaw other r
+law-fuller full other r more law = record {
+  lets_come = law.lets_come;
+  no_room = law.no_room;
+  last = law.last;
+  owes = λ place tick told is from below none. more tick (law.owes place tick told is from below none);
+  owes_no_room = λ place tick told is from below by none gone. more tick (law.owes_no_room place tick told is from below by none gone);
+}

@@ -15,6 +15,7 @@ pub mod RxRooms
 pub mod RxRuns
 pub mod RxSettled
 pub mod RxTicks
+pub mod RxWritten
 pub mod Sessions
 pub mod ShortStarts
 pub mod SoFars

@@ -1,5 +1,5 @@
 -- Each record of the source channel's receptions comes of its cause, in every run.
-use Rattle.std.proofs.Common.{◌≡◌, ℕ, ◌+◌, ◌≤◌, Bool, inl, inr, Option, Some, None, List, [], ◌∷◌, ◌++◌, zero, suc, refl, ap, sym, ◌∙◌, subst, arith, append-nil}
+use Rattle.std.proofs.Common.{◌≡◌, ℕ, ◌+◌, ◌≤◌, Bool, true, inl, inr, Option, Some, None, List, [], ◌∷◌, ◌++◌, zero, suc, refl, ap, sym, ◌∙◌, subst, arith, append-nil}
 use Rattle.tp_unit.specs.Box.{Written}
 use Rattle.tp_receiver.specs.State.{Reception, RxDid, RunEnd}
 use Rattle.tp_receiver.specs.Table.{ended, EndRow, continue_to_send}
@@ -20,12 +20,12 @@ use Rattle.tp_attempts.proofs.Walks.{last_place-more}
 use Rattle.tp_receiver.specs.declared.set.RxSet.{RxSet}
 use Rattle.tp_unit.specs.Shape.{address_size}
 use Rattle.tp_unit.specs.Unit.{Meaning}
-use Rattle.receiver_law.specs.ReceptionCauses.{HasCause, HasRoom, IsCaused, IsNeverBoxed, LetGoIn, StillWaits}
+use Rattle.receiver_law.specs.ReceptionCauses.{AreCaused, HasCause, HasRoom, IsCaused, IsNeverBoxed, LetGoIn, StillWaits}
 use Rattle.receiver_law.specs.Channel.{SourceChannel}
 use Rattle.receiver_law.specs.Source.{Tells}
 use Rattle.receiver_law.proofs.RxCauses.{IsGoing, all-late, SoBy, WaitsSo}
 use Rattle.receiver_law.proofs.RxSettled.{AreSettled, Comes, IsLast, IsSettled, starts_of}
-use Rattle.gw_base.proofs.Lists.{zip-push}
+use Rattle.gw_base.proofs.Lists.{zip-push, zip-weaker}
 
 last-is : (begin at : ℕ) (pieces : List Piece) → IsLast at pieces → last_place begin pieces ≡ at
 last-is begin at pieces last = ap (last_place begin) last.are ∙ last_place-more begin last.front last.piece ∙ last.at_is
@@ -140,3 +140,23 @@ said-ended full r next seq now over (Some busy) lies m records tells roomy so em
     subst P (sym (row.records ∙ ap (λ t. ended r.rx busy (RunEnd busy.wait (record { 0 = busy.since })) t ∷ []) at))
     (subst Q (sym so.cut) (zip-push (IsSaid full r) so.earlier records so.attempt told (said-all full r over tells so.earlier records roomy so.told)
     (said-last full r lies now over busy so.attempt empty (past busy refl) (omega (arith, later, at)) so.going)))
+
+-- the same causes, where the bus is said to be full in more ticks
+cause-fuller : (full other : ℕ → Bool) (r : SourceChannel) (attempt : Cut Seen) (told : SessionRecord) (how : SessionResult) → ((tick : ℕ) → full tick ≡ true → other tick ≡ true) → HasCause full r attempt told how → HasCause other r attempt told how
+cause-fuller full other r attempt told Whole more cause = cause
+cause-fuller full other r attempt told (Overflow change free need) more cause = tt
+cause-fuller full other r attempt told (WrongSn want got) more cause = tt
+cause-fuller full other r attempt told (RxTimeout BoxLimit) more cause = λ tick from below. more tick (cause tick from below)
+cause-fuller full other r attempt told (RxTimeout CfLimit) more cause = cause
+cause-fuller full other r attempt told Restarted more cause = cause
+cause-fuller full other r attempt told (NoRoom room need) more cause = absurd cause
+cause-fuller full other r attempt told WaitOver more cause = absurd cause
+cause-fuller full other r attempt told NoReaders more cause = cause
+cause-fuller full other r attempt told Cancelled more cause = absurd cause
+cause-fuller full other r attempt told (RunEnd Box since) more cause = (cause.0, cause.1, λ tick from by. more tick (cause.2 tick from by))
+cause-fuller full other r attempt told (RunEnd Room since) more cause = absurd cause.2
+cause-fuller full other r attempt told (RunEnd Cf since) more cause = cause
+
+pub caused-fuller : (full other : ℕ → Bool) (r : SourceChannel) → ((tick : ℕ) → full tick ≡ true → other tick ≡ true) → AreCaused full r → AreCaused other r
+caused-fuller full other r more all =
+    zip-weaker (IsCaused full r) (IsCaused other r) (attempts_in r.rx.functional r.seen) r.sessions (λ attempt told one. record { cause = cause-fuller full other r attempt told told.result more one.cause; none_passed = one.none_passed }) all

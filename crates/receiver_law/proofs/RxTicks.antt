@@ -60,7 +60,7 @@ came-ordered tick (turn ∷ came) turns all ready ordered =
     ((this.0, below.0), this.1)
 
 -- what left is gone
-left-keeps : (set : RxSet) (old : RxState) (busy : Option Reception) (m : RxDid) → old.busy ≡ busy → RxStep set old FcLeft m → m.act ≡ Keeps
+pub left-keeps : (set : RxSet) (old : RxState) (busy : Option Reception) (m : RxDid) → old.busy ≡ busy → RxStep set old FcLeft m → m.act ≡ Keeps
 left-keeps set old busy m is row = left-by set old.next old.seq old.busy m row
   where
     left-by : (set : RxSet) (next seq : ℕ) (busy : Option Reception) (m : RxDid) → RxStep set (record { next = next; seq = seq; busy = busy }) FcLeft m → m.act ≡ Keeps

@@ -14,7 +14,7 @@ use Rattle.tp_receiver.specs.declared.set.RxSet.{RxSet}
 use Rattle.tp_receiver.specs.State.{Reception, RxDid, RxEvent, RxState, Came, Timer, FcLeft, RunEnd, busy_with, idle}
 use Rattle.tp_receiver.specs.Table.{After, Begins, BeginsFirst, BeginsSingle, Carries, ConsecutiveRow, Continues, FirstRow, Grants, Interrupts, IsLookedAt, LetsGo, Overflows, Quiet, RxStep, Starts, asks, begun, due, gone_on, later_act, overflow, puts, refused}
 use Rattle.tp_receiver.specs.Table.{Ends as EndsRow, Opens as OpensRow, NoneReads, All, NoBuffer, Completes, NoBufferFirst, Opened, NoneReadsOn, TooLittleRoom, Adds, Fills, TooLong, TooShort, WrongNumber, RightNumber, InTime, TooLate, FromBox, NotAwaited}
-use Rattle.tp_receiver.specs.Effects.{AreEffects, EndsAt, HasStart, IsMade, IsUnused, RxDone, RxEffect, RxStage, act_of, at_stage, calls_of, first_stage, records_of, refusal_act, used_after, Ends, Looks, Opens, Puts, Refuses, Waits}
+use Rattle.tp_receiver.specs.Effects.{AreEffects, EndsAt, HasAsked, HasStart, IsMade, IsUnused, RxDone, RxEffect, RxStage, act_of, at_stage, calls_of, first_stage, records_of, refusal_act, used_after, Ends, Looks, Opens, Puts, Refuses, Waits}
 use Rattle.tp_unit.specs.Unit.{BoxMeaning, Keeps, Offers, Meaning, SingleFrame, FirstFrame, ConsecutiveFrame, FlowControl, NoUnit}
 use Rattle.tp_receiver.proofs.Composing.{later-keeps}
 
@@ -23,8 +23,8 @@ abbrev pub done_by : RxDid → RxStage → RxDone
 done_by m new = record { calls = m.calls; act = m.act; records = m.records; new = new }
 
 -- no effect
-made-none : (set : RxSet) (event : RxEvent) (old : RxStage) (m : RxDid) → m.calls ≡ [] → m.act ≡ Keeps → m.records ≡ [] → m.new ≡ old.state → (old.used ≡ false → IsUnused set event old.state) → ((busy : Reception) → old.used ≡ true → old.state.busy ≡ Some busy → busy.bytes < busy.len) → IsMade set event old m
-made-none set event old m calls act records new unused more = record { effects = []; last = old; are = refl; state = new; calls = calls; act = act; records = records; unused = unused; more = more }
+made-none : (set : RxSet) (event : RxEvent) (old : RxStage) (m : RxDid) → m.calls ≡ [] → m.act ≡ Keeps → m.records ≡ [] → m.new ≡ old.state → (old.used ≡ false → IsUnused set event old.state) → ((busy : Reception) → old.used ≡ true → old.state.busy ≡ Some busy → busy.bytes < busy.len) → HasAsked set event old → IsMade set event old m
+made-none set event old m calls act records new unused more asked = record { effects = []; last = old; are = refl; state = new; calls = calls; act = act; records = records; unused = unused; more = more; asked = asked }
 
 -- an effect, and then others
 made-then : (set : RxSet) (event : RxEvent) (old : RxStage) (m : RxDid) (done : RxDone) (rest : RxDid) → RxEffect set event m.tick old done → IsMade set event done.new rest → rest.tick ≡ m.tick → m.calls ≡ done.calls ++ rest.calls → m.act ≡ later_act done.act rest.act →
@@ -39,20 +39,21 @@ made-then set event old m done rest effect later tick calls act records new = re
   records = records ∙ ap (λ r. done.records ++ r) later.records;
   unused = later.unused;
   more = later.more;
+  asked = later.asked;
 }
 
 later-nothing : (act : BoxMeaning) → act ≡ later_act act Keeps
 later-nothing act = refl
 
 -- one effect
-made-one : (set : RxSet) (event : RxEvent) (old new : RxStage) (m : RxDid) → m.new ≡ new.state → RxEffect set event m.tick old (done_by m new) → (new.used ≡ false → IsUnused set event new.state) → ((busy : Reception) → new.used ≡ true → new.state.busy ≡ Some busy → busy.bytes < busy.len) → IsMade set event old m
-made-one set event old new m is effect unused more =
+made-one : (set : RxSet) (event : RxEvent) (old new : RxStage) (m : RxDid) → m.new ≡ new.state → RxEffect set event m.tick old (done_by m new) → (new.used ≡ false → IsUnused set event new.state) → ((busy : Reception) → new.used ≡ true → new.state.busy ≡ Some busy → busy.bytes < busy.len) → HasAsked set event new → IsMade set event old m
+made-one set event old new m is effect unused more asked =
     made-then set event old m (done_by m new) (record { tick = m.tick; calls = []; act = Keeps; records = []; new = new.state }) effect
-    (made-none set event new (record { tick = m.tick; calls = []; act = Keeps; records = []; new = new.state }) refl refl refl refl unused more) refl (sym (append-nil m.calls)) (later-nothing m.act) (sym (append-nil m.records)) is
+    (made-none set event new (record { tick = m.tick; calls = []; act = Keeps; records = []; new = new.state }) refl refl refl refl unused more asked) refl (sym (append-nil m.calls)) (later-nothing m.act) (sym (append-nil m.records)) is
 
 -- a row that calls nothing and tells nothing
 quiet : (set : RxSet) (event : RxEvent) (old : RxState) (m : RxDid) → Quiet old m → IsUnused set event old → IsMade set event (first_stage old) m
-quiet set event old m row unused = made-none set event (first_stage old) m row.calls row.act row.records row.new (λ is. unused) (λ busy is. cc)
+quiet set event old m row unused = made-none set event (first_stage old) m row.calls row.act row.records row.new (λ is. unused) (λ busy is. cc) (λ busy size meaning came start is. cc)
 
 -- a reception ends
 ends-effect : (set : RxSet) (event : RxEvent) (next seq : ℕ) (busy : Reception) (look : Option Room) (used : Bool) (result : SessionResult) (m : RxDid) → EndsAt set event (at_stage (busy_with next seq busy) look used) busy result → (used ≡ true → (result ≡ Whole → ⊥) → busy.bytes < busy.len) →
@@ -62,29 +63,30 @@ ends-effect set event next seq busy look used result m at part row = Ends (recor
 ends : (set : RxSet) (event : RxEvent) (next seq : ℕ) (busy : Reception) (look : Option Room) (used : Bool) (result : SessionResult) (m : RxDid) → EndsAt set event (at_stage (busy_with next seq busy) look used) busy result → (used ≡ true → (result ≡ Whole → ⊥) → busy.bytes < busy.len) →
     (used_after result used ≡ false → IsUnused set event (idle next seq)) → EndsRow set next seq busy result m → IsMade set event (at_stage (busy_with next seq busy) look used) m
 ends set event next seq busy look used result m at part unused row =
-    made-one set event (at_stage (busy_with next seq busy) look used) (at_stage (idle next seq) None (used_after result used)) m row.new (ends-effect set event next seq busy look used result m at part row) unused (λ going is none. cc)
+    made-one set event (at_stage (busy_with next seq busy) look used) (at_stage (idle next seq) None (used_after result used)) m row.new (ends-effect set event next seq busy look used result m at part row) unused (λ going is none. cc) (λ going size meaning came start is none. cc)
 
 -- a look at the room, and then others
-looks : (set : RxSet) (event : RxEvent) (next seq : ℕ) (busy : Reception) (before : Option Room) (used : Bool) (room readers : ℕ) (m : RxDid) (rest : List Event) → m.calls ≡ asks set busy room readers ++ rest →
-    IsMade set event (at_stage (busy_with next seq busy) (Some (record { cells = room; readers = readers })) used) (record m { calls = rest }) → IsMade set event (at_stage (busy_with next seq busy) before used) m
-looks set event next seq busy before used room readers m rest calls later =
+looks : (set : RxSet) (size : ℕ) (meaning : Meaning) (next seq : ℕ) (busy : Reception) (before : Option Room) (used : Bool) (room readers : ℕ) (m : RxDid) (rest : List Event) → m.calls ≡ asks set busy room readers ++ rest →
+    IsMade set (Came size meaning) (at_stage (busy_with next seq busy) (Some (record { cells = room; readers = readers })) used) (record m { calls = rest }) → IsMade set (Came size meaning) (at_stage (busy_with next seq busy) before used) m
+looks set size meaning next seq busy before used room readers m rest calls later =
     let look : Room = record { cells = room; readers = readers } in
-    made-then set event (at_stage (busy_with next seq busy) before used) m (record { calls = asks set busy room readers; act = Keeps; records = []; new = at_stage (busy_with next seq busy) (Some look) used }) (record m { calls = rest })
-    (Looks (record { busy = busy; was = refl; look = look; calls = refl; act = refl; records = refl; new = refl })) later refl calls (sym (later-keeps m.act)) refl refl
+    made-then set (Came size meaning) (at_stage (busy_with next seq busy) before used) m (record { calls = asks set busy room readers; act = Keeps; records = []; new = at_stage (busy_with next seq busy) (Some look) used }) (record m { calls = rest })
+    (Looks (record { of = record { size = size; meaning = meaning; came = refl }; busy = busy; was = refl; look = look; calls = refl; act = refl; records = refl; new = refl })) later refl calls (sym (later-keeps m.act)) refl refl
 
 -- what is granted
-grants : (set : RxSet) (size : ℕ) (meaning : Meaning) (next seq : ℕ) (busy : Reception) (m : RxDid) → busy.wait ≡ Cf → busy.bytes < busy.len → Grants set next seq busy m → IsMade set (Came size meaning) (at_stage (busy_with next seq busy) None true) m
-grants set size meaning next seq busy m cf more (NoneReads room readers none row) =
-    looks set (Came size meaning) next seq busy None true room readers m row.rest row.calls
-    (ends set (Came size meaning) next seq busy (Some (record { cells = room; readers = readers })) true NoReaders (record m { calls = row.rest }) (record { cells = room; readers = readers }, refl, none, (λ is. cc)) (λ is other. more) (λ is. cc) row.row)
-grants set size meaning next seq busy m cf more (All room readers some row) =
-    let event : RxEvent = Came size meaning in
+grants : (set : RxSet) (size len : ℕ) (bytes : List ℕ) (next seq : ℕ) (busy : Reception) (m : RxDid) → busy.wait ≡ Cf → busy.bytes < busy.len → Grants set next seq busy m → IsMade set (Came size (FirstFrame len bytes)) (at_stage (busy_with next seq busy) None true) m
+grants set size len bytes next seq busy m cf more (NoneReads room readers none row) =
+    looks set size (FirstFrame len bytes) next seq busy None true room readers m row.rest row.calls
+    (ends set (Came size (FirstFrame len bytes)) next seq busy (Some (record { cells = room; readers = readers })) true NoReaders (record m { calls = row.rest }) (record { cells = room; readers = readers }, refl, none, (λ is. cc)) (λ is other. more) (λ is. cc) row.row)
+grants set size len bytes next seq busy m cf more (All room readers some row) =
+    let event : RxEvent = Came size (FirstFrame len bytes) in
     let look : Room = record { cells = room; readers = readers } in
     let new : RxStage = at_stage (busy_with next seq (record busy { wait = Box; since = m.tick })) None true in
-    looks set event next seq busy None true room readers m row.rest row.calls
+    looks set size (FirstFrame len bytes) next seq busy None true room readers m row.rest row.calls
     (made-one set event (at_stage (busy_with next seq busy) (Some look) true) new (record m { calls = row.rest }) row.row.new
-    (Waits (record { busy = busy; was = refl; wait = Box; because = (row.row.act, cf, (look, refl, some)); calls = row.row.calls; records = row.row.records; new = refl }))
-    (λ is. cc) (λ going is same. let on : record busy { wait = Box; since = m.tick } ≡ going = cc in subst (λ (b : Reception). b.bytes < b.len) on more))
+    (Waits (record { busy = busy; was = refl; wait = Box; because = record { act_is = row.row.act; size = size; len = len; bytes = bytes; came = refl; used = refl; begun = cf; look = look; looked = refl; some = some }; calls = row.row.calls; records = row.row.records; new = refl }))
+    (λ is. cc) (λ going is same. let on : record busy { wait = Box; since = m.tick } ≡ going = cc in subst (λ (b : Reception). b.bytes < b.len) on more)
+    (λ going other meaning came start is same. let on : record busy { wait = Box; since = m.tick } ≡ going = cc in ap (λ (b : Reception). b.wait) (sym on)))
 
 -- no buffer fits
 refuses : (set : RxSet) (size : ℕ) (meaning : Meaning) (next seq : ℕ) (act : BoxMeaning) (m : RxDid) → is_start set.functional meaning ≡ true → refusal_act meaning ≡ act → Overflows set next seq (len_of meaning) (bytes_of meaning) act m → IsMade set (Came size meaning) (first_stage (idle next seq)) m
@@ -101,7 +103,7 @@ refuses set size meaning next seq act m start acts row =
       records = row.records ∙ ap (λ n. refused set next (len_of meaning) m.tick row.number row.free n ∷ []) row.need_is;
       new = refl;
     }))
-    (λ is. cc) (λ going is none. cc)
+    (λ is. cc) (λ going is none. cc) (λ going other message came other_start is none. cc)
 
 -- a session is opened, and then others
 opens : (set : RxSet) (size : ℕ) (meaning : Meaning) (next seq : ℕ) (opened : OpenedAt) (opening : List Event) (m : RxDid) (rest : List Event) → is_start set.functional meaning ≡ true → length (bytes_of meaning) ≤ len_of meaning →
@@ -118,14 +120,14 @@ begins-single : (set : RxSet) (size : ℕ) (bytes : List ℕ) (next seq : ℕ) (
 begins-single set size bytes next seq m (NoBuffer row) = refuses set size (SingleFrame bytes) next seq Keeps m refl refl row
 begins-single set size bytes next seq m (Completes opened opening row rest) =
     opens set size (SingleFrame bytes) next seq opened opening m rest.rest refl (omega arith) row rest.calls
-    (ends set (Came size (SingleFrame bytes)) (next + 1) (seq + 1) (begun next (length bytes) size (length bytes) m.tick opened) None true Whole (record m { calls = rest.rest }) refl (λ is other. absurd (other refl)) (λ is. cc) rest.row)
+    (ends set (Came size (SingleFrame bytes)) (next + 1) (seq + 1) (begun next (length bytes) size (length bytes) m.tick opened) None true Whole (record m { calls = rest.rest }) (refl, refl) (λ is other. absurd (other refl)) (λ is. cc) rest.row)
 
 begins : (set : RxSet) (size : ℕ) (meaning : Meaning) (next seq : ℕ) (m : RxDid) → is_start set.functional meaning ≡ true → Begins set next seq size meaning m → IsMade set (Came size meaning) (first_stage (idle next seq)) m
 begins set size (SingleFrame bytes) next seq m start row = begins-single set size bytes next seq m row
 begins set size (FirstFrame len bytes) next seq m start (NoBufferFirst more row) = refuses set size (FirstFrame len bytes) next seq (Offers overflow) m start refl row
 begins set size (FirstFrame len bytes) next seq m start (Opened more opened opening row rest) =
     opens set size (FirstFrame len bytes) next seq opened opening m rest.rest start (omega (arith, more)) row rest.calls
-    (grants set size (FirstFrame len bytes) (next + 1) (seq + 1) (begun next len size (length bytes) m.tick opened) (record m { calls = rest.rest }) refl more rest.row)
+    (grants set size len bytes (next + 1) (seq + 1) (begun next len size (length bytes) m.tick opened) (record m { calls = rest.rest }) refl more rest.row)
 begins set size (ConsecutiveFrame number bytes) next seq m start row = absurd row
 begins set size (FlowControl status block_size separation) next seq m start row = absurd row
 begins set size (NoUnit why) next seq m start row = absurd row
@@ -142,6 +144,7 @@ made-as set event old m part calls_are tick calls act records new made = record 
   records = records ∙ made.records;
   unused = made.unused;
   more = made.more;
+  asked = made.asked;
 }
 
 -- what was ends first
@@ -168,7 +171,7 @@ adds set size bytes next seq busy room readers cells m rest last looked some fit
     let event : RxEvent = Came size (ConsecutiveFrame busy.number bytes) in
     let look : Room = record { cells = room; readers = readers } in
     let new : RxStage = at_stage (busy_with next seq (gone_on busy (length (take (due set.a busy) bytes)) m.tick)) None true in
-    looks set event next seq busy None false room readers m rest calls
+    looks set size (ConsecutiveFrame busy.number bytes) next seq busy None false room readers m rest calls
     (made-then set event (at_stage (busy_with next seq busy) (Some look) false) (record m { calls = rest }) (record { calls = puts set.path.0 busy.opened.seq cells; act = Keeps; records = []; new = new }) (record m { calls = last })
     (Puts (record {
       busy = busy;
@@ -193,21 +196,22 @@ carries : (set : RxSet) (size : ℕ) (bytes : List ℕ) (next seq : ℕ) (busy :
 carries set size bytes next seq busy m looked (NoneReadsOn room readers none row) =
     let event : RxEvent = Came size (ConsecutiveFrame busy.number bytes) in
     let look : Room = record { cells = room; readers = readers } in
-    looks set event next seq busy None false room readers m row.rest row.calls
+    looks set size (ConsecutiveFrame busy.number bytes) next seq busy None false room readers m row.rest row.calls
     (ends set event next seq busy (Some look) false NoReaders (record m { calls = row.rest }) (look, refl, none, (λ is. cc)) (λ is. cc) (λ is. (refl, λ going none. cc)) row.row)
 carries set size bytes next seq busy m looked (TooLittleRoom room readers need some need_is little row) =
     let event : RxEvent = Came size (ConsecutiveFrame busy.number bytes) in
     let look : Room = record { cells = room; readers = readers } in
-    looks set event next seq busy None false room readers m row.rest row.calls
+    looks set size (ConsecutiveFrame busy.number bytes) next seq busy None false room readers m row.rest row.calls
     (ends set event next seq busy (Some look) false (NoRoom room need) (record m { calls = row.rest }) (look, refl, some, refl, little) (λ is. cc) (λ is. (refl, λ going none. cc)) row.row)
 carries set size bytes next seq busy m looked (Adds room readers cells some fits packed row) =
     let on : Reception = gone_on busy (length (take (due set.a busy) bytes)) m.tick in
     adds set size bytes next seq busy room readers cells m row.rest row.row.rest looked some fits packed row.calls row.row.calls
     (made-none set (Came size (ConsecutiveFrame busy.number bytes)) (at_stage (busy_with next seq on) None true) (record m { calls = row.row.rest }) row.row.row.calls row.row.row.act row.row.row.records row.row.row.new (λ is. cc)
-    (λ going is same. let is_it : on ≡ going = cc in subst (λ (b : Reception). b.bytes < b.len) is_it row.row.row.more_due))
+    (λ going is same. let is_it : on ≡ going = cc in subst (λ (b : Reception). b.bytes < b.len) is_it row.row.row.more_due)
+    (λ going other meaning came start is same. let message : ConsecutiveFrame busy.number bytes ≡ meaning = cc in let no : is_start set.functional (ConsecutiveFrame busy.number bytes) ≡ true = ap (is_start set.functional) message ∙ start in cc))
 carries set size bytes next seq busy m looked (Fills room readers cells some fits packed full row) =
     adds set size bytes next seq busy room readers cells m row.rest row.row.rest looked some fits packed row.calls row.row.calls
-    (ends set (Came size (ConsecutiveFrame busy.number bytes)) next seq (gone_on busy (length (take (due set.a busy) bytes)) m.tick) None true Whole (record m { calls = row.row.rest }) full (λ is other. absurd (other refl)) (λ is. cc) row.row.row)
+    (ends set (Came size (ConsecutiveFrame busy.number bytes)) next seq (gone_on busy (length (take (due set.a busy) bytes)) m.tick) None true Whole (record m { calls = row.row.rest }) (full, refl) (λ is other. absurd (other refl)) (λ is. cc) row.row.row)
 
 consecutive : (set : RxSet) (size number : ℕ) (bytes : List ℕ) (next seq : ℕ) (busy : Option Reception) (m : RxDid) → ConsecutiveRow set (record { next = next; seq = seq; busy = busy }) size number bytes busy m →
     IsMade set (Came size (ConsecutiveFrame number bytes)) (first_stage (record { next = next; seq = seq; busy = busy })) m
@@ -243,7 +247,7 @@ rows set Timer next seq (Some busy) m (TooLate late row) = ends set Timer next s
 rows set FcLeft next seq None m row = quiet set FcLeft (idle next seq) m row tt
 rows set FcLeft next seq (Some busy) m (FromBox box row) =
     made-one set FcLeft (first_stage (busy_with next seq busy)) (first_stage (busy_with next seq (record busy { wait = Cf; since = m.tick }))) m row.new
-    (Waits (record { busy = busy; was = refl; wait = Cf; because = (row.act, box, refl); calls = row.calls; records = row.records; new = refl })) (λ is. tt) (λ going is. cc)
+    (Waits (record { busy = busy; was = refl; wait = Cf; because = (row.act, box, refl); calls = row.calls; records = row.records; new = refl })) (λ is. tt) (λ going is. cc) (λ going size meaning came. cc)
 rows set FcLeft next seq (Some busy) m (NotAwaited other row) = quiet set FcLeft (busy_with next seq busy) m row tt
 rows set RunEnd next seq None m row = quiet set RunEnd (idle next seq) m row tt
 rows set RunEnd next seq (Some busy) m row = ends set RunEnd next seq busy None false (EndOfRun busy.wait (record { 0 = busy.since })) m (refl, refl, refl) (λ is. cc) (λ is. tt) row
@@ -259,3 +263,23 @@ idle-by set next seq (Some busy) m row = ap (λ (s : RxState). s.busy) row.new
 
 pub idle-ended : (set : RxSet) (old : RxState) (m : RxDid) → RxStep set old RunEnd m → m.new.busy ≡ None
 idle-ended set old m row = idle-by set old.next old.seq old.busy m row
+
+-- where its flow control left, a reception that waited for that waits for a consecutive frame
+pub record IsAfterLeft (old : Reception) (new : Option Reception) : Type 0 where
+  pub on : Reception
+  pub new_is : new ≡ Some on
+  pub begin : on.begin ≡ old.begin
+  pub awaits : old.wait ≡ Box → on.wait ≡ Cf
+  pub stays : old.wait ≢ Box → on.wait ≡ old.wait
+
+abbrev pub AreAfterLeft : Option Reception → Option Reception → Type 0
+AreAfterLeft None new = new ≡ None
+AreAfterLeft (Some busy) new = IsAfterLeft busy new
+
+left-by : (set : RxSet) (next seq : ℕ) (busy : Option Reception) (m : RxDid) → RxStep set (record { next = next; seq = seq; busy = busy }) FcLeft m → (m.act ≡ Keeps) × (m.records ≡ []) × AreAfterLeft busy m.new.busy
+left-by set next seq None m row = (row.act, row.records, ap (λ (s : RxState). s.busy) row.new)
+left-by set next seq (Some busy) m (FromBox box row) = (row.act, row.records, record { on = record busy { wait = Cf; since = m.tick }; new_is = ap (λ (s : RxState). s.busy) row.new; begin = refl; awaits = λ is. refl; stays = λ other. absurd (other box) })
+left-by set next seq (Some busy) m (NotAwaited other row) = (row.act, row.records, record { on = busy; new_is = ap (λ (s : RxState). s.busy) row.new; begin = refl; awaits = λ is. absurd (other is); stays = λ is. refl })
+
+pub after-left : (set : RxSet) (old : RxState) (m : RxDid) → RxStep set old FcLeft m → (m.act ≡ Keeps) × (m.records ≡ []) × AreAfterLeft old.busy m.new.busy
+after-left set old m row = left-by set old.next old.seq old.busy m row

@@ -37,7 +37,7 @@ revokes set Room = tt
 revokes set Cf = tt
 
 waits : (set : RxSet) (event : RxEvent) (old : RxStage) (busy : Reception) (act : BoxMeaning) (wait : RxWait) → Because set event old busy act wait → IsControlAct set act
-waits set event old busy act Box because = rw because.0 (inl refl)
+waits set event old busy act Box because = rw because.act_is (inl refl)
 waits set event old busy act Room because = absurd because
 waits set event old busy act Cf because = rw because.0 tt
 

@@ -85,8 +85,15 @@ pub record IsOpening (set : RxSet) (event : RxEvent) (tick : ℕ) (old : RxStage
   pub records : done.records ≡ []
   pub new : done.new ≡ at_stage (busy_with (old.state.next + 1) (old.state.seq + 1) (begun old.state.next (len_of meaning) size (length (bytes_of meaning)) tick opened)) None true
 
--- a look at the room
-pub record IsLook (set : RxSet) (old : RxStage) (done : RxDone) : Type 0 where
+-- a frame came
+pub record HasCame (event : RxEvent) : Type 0 where
+  pub size : ℕ
+  pub meaning : Meaning
+  pub came : event ≡ Came size meaning
+
+-- a look at the room, for a frame that came
+pub record IsLook (set : RxSet) (event : RxEvent) (old : RxStage) (done : RxDone) : Type 0 where
+  pub of : HasCame event
   pub busy : Reception
   pub was : old.state.busy ≡ Some busy
   pub look : Room
@@ -113,9 +120,22 @@ pub record IsPut (set : RxSet) (event : RxEvent) (tick : ℕ) (old : RxStage) (d
   pub records : done.records ≡ []
   pub new : done.new ≡ at_stage (busy_with old.state.next old.state.seq (gone_on busy (length (take (due set.a busy) bytes)) tick)) None true
 
+-- the flow control of a first frame, whose session was opened in this step and has a destination
+pub record IsGranted (set : RxSet) (event : RxEvent) (old : RxStage) (busy : Reception) (act : BoxMeaning) : Type 0 where
+  pub act_is : act ≡ Offers (continue_to_send set)
+  pub size : ℕ
+  pub len : ℕ
+  pub bytes : List ℕ
+  pub came : event ≡ Came size (FirstFrame len bytes)
+  pub used : old.used ≡ true
+  pub begun : busy.wait ≡ Cf
+  pub look : Room
+  pub looked : old.look ≡ Some look
+  pub some : 0 < look.readers
+
 -- why a reception waits: its flow control is put into its box, or left from there
 abbrev pub Because : RxSet → RxEvent → RxStage → Reception → BoxMeaning → RxWait → Type 0
-Because set event old busy act Box = (act ≡ Offers (continue_to_send set)) × (busy.wait ≡ Cf) × ((look : Room) × (old.look ≡ Some look) × (0 < look.readers))
+Because set event old busy act Box = IsGranted set event old busy act
 Because set event old busy act ForRoom = ⊥
 Because set event old busy act Cf = (act ≡ Keeps) × (busy.wait ≡ Box) × (event ≡ FcLeft)
 
@@ -131,7 +151,7 @@ pub record IsWait (set : RxSet) (event : RxEvent) (tick : ℕ) (old : RxStage) (
 
 -- what a result says of the stage in which the reception ends
 abbrev pub EndsAt : RxSet → RxEvent → RxStage → Reception → SessionResult → Type 0
-EndsAt set event old busy Whole = busy.bytes ≡ busy.len
+EndsAt set event old busy Whole = (busy.bytes ≡ busy.len) × (old.used ≡ true)
 EndsAt set event old busy (Overflow change free need) = ⊥
 EndsAt set event old busy (WrongSn want got) = (want ≡ busy.number) × (got ≢ busy.number) × ((size : ℕ) × (bytes : List ℕ) × HasConsecutive set event old busy size got bytes)
 EndsAt set event old busy (RxTimeout limit) = event ≡ Timer
@@ -173,7 +193,7 @@ pub record IsEnd (set : RxSet) (event : RxEvent) (tick : ℕ) (old : RxStage) (d
 pub data RxEffect (set : RxSet) (event : RxEvent) (tick : ℕ) (old : RxStage) (done : RxDone) : Type 0 where
   Refuses : IsRefusal set event tick old done → RxEffect set event tick old done
   Opens : IsOpening set event tick old done → RxEffect set event tick old done
-  Looks : IsLook set old done → RxEffect set event tick old done
+  Looks : IsLook set event old done → RxEffect set event tick old done
   Puts : IsPut set event tick old done → RxEffect set event tick old done
   Waits : IsWait set event tick old done → RxEffect set event tick old done
   Ends : IsEnd set event tick old done → RxEffect set event tick old done
@@ -211,6 +231,10 @@ IsUnused set Timer state = Unit {0}
 IsUnused set FcLeft state = Unit {0}
 IsUnused set RunEnd state = Unit {0}
 
+-- where a start began a reception that goes on, its flow control lies in its box
+abbrev pub HasAsked : RxSet → RxEvent → RxStage → Type 0
+HasAsked set event last = (busy : Reception) (size : ℕ) (meaning : Meaning) → event ≡ Came size meaning → is_start set.functional meaning ≡ true → last.used ≡ true → last.state.busy ≡ Some busy → busy.wait ≡ Box
+
 -- what a step comes to from a stage on is what its effects come to together
 pub record IsMade (set : RxSet) (event : RxEvent) (old : RxStage) (m : RxDid) : Type 0 where
   pub effects : List RxDone
@@ -223,6 +247,8 @@ pub record IsMade (set : RxSet) (event : RxEvent) (old : RxStage) (m : RxDid) : 
   pub unused : last.used ≡ false → IsUnused set event last.state
   -- what was begun or put in this step and goes on has bytes to come
   pub more : (busy : Reception) → last.used ≡ true → last.state.busy ≡ Some busy → busy.bytes < busy.len
+  -- what was begun in this step and goes on waits for its flow control to leave
+  pub asked : HasAsked set event last
 
 -- a call of a path's writer, or its use of the pool
 abbrev pub OfWriter : ℕ → Event → Type 0

@@ -17,7 +17,7 @@ use Rattle.tp_unit.specs.Writing.{fill_of, frame_of, unfilled}
 use Rattle.receiver_law.specs.FlowControls.{FlowControlLaw, HasStatus, IsOfSession, IsSegmented, LetsCome, NoneBegins, TellsNoRoom, said_in}
 use Rattle.receiver_law.specs.Channel.{SourceChannel}
 use Rattle.receiver_law.specs.Source.{Tells}
-use Rattle.receiver_law.proofs.Effects.{is_run_end}
+use Rattle.receiver_law.specs.Source.{is_run_end}
 use Rattle.tp_unit.proofs.Rises.{Rise}
 use Rattle.receiver_law.proofs.Owed.{Answers, Facts, Gone, HasLeft, IsOpening, IsRefusal, Lies, NoRoom, Replaced}
 use Rattle.receiver_law.proofs.Owed.{LetsCome as Lets}

@@ -1,5 +1,4 @@
 pub mod Begins
-pub mod Effects
 pub mod FlowControls
 pub mod FlowSteps
 pub mod JointReceivers
@@ -22,4 +21,5 @@ pub mod SoFars
 pub mod SourceLaws
 pub mod StandingWriter
 pub mod Stores
+pub mod Stories
 pub mod Tellings

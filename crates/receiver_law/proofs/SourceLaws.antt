@@ -99,7 +99,7 @@ not-whole how busy other more = ((λ is. absurd (other is)), (λ same. absurd (o
 ends-so : (set : RxSet) (tick : ℕ) (event : RxEvent) (seen : List Seen) (old : RxStage) (busy : Reception) (calls more : List Event) (records : List SessionRecord) (how : SessionResult) → HoldsIn set tick event seen old.state.next old.state.seq (Some busy) old.used calls records →
     ((number : ℕ) → cells_in set.path.0 number more ≡ []) → EndsAt set event old busy how → (old.used ≡ true → (how ≡ Whole → ⊥) → busy.bytes < busy.len) →
     IsIdle set old.state.next old.state.seq (calls ++ more) tick (seen_so seen tick event (used_after how old.used)) (records ++ ended set busy how tick ∷ [])
-ends-so set tick event seen old busy calls more records Whole so none at part = closes-so set tick event seen _ _ busy old.used calls more records Whole so none refl ((λ is. at), (λ is. refl)) (λ want got is. cc)
+ends-so set tick event seen old busy calls more records Whole so none at part = closes-so set tick event seen _ _ busy old.used calls more records Whole so none refl ((λ is. at.0), (λ is. refl)) (λ want got is. cc)
 ends-so set tick event seen old busy calls more records (Overflow change free need) so none at part = absurd at
 ends-so set tick event seen old busy calls more records (WrongSn want got) so none at part =
     let came : HasConsecutive set event old busy at.2.0 got at.2.1 = at.2.2 in

@@ -2,20 +2,21 @@
 use Rattle.std.proofs.Common.{◌≡◌, ◌≢◌, ◌⊎◌, inl, inr, ℕ, ◌+◌, ◌<◌, ◌≤◌, Bool, true, false, not, Option, Some, None, List, [], ◌∷◌, ◌++◌, length, take, refl, ap, sym, ◌∙◌, subst, arith, append-nil, append_assoc}
 use Rattle.cell_stream.specs.Packing.{IsPacked}
 use Rattle.hub_core.specs.View.{Event, Refused}
-use Rattle.hub_core.specs.declared.port.Room.{Room}
+use Rattle.hub_core.specs.declared.port.Room.{Room as Look}
 use Rattle.hub_core.specs.declared.record.OpenedAt.{OpenedAt}
 use Rattle.hub_core.specs.declared.record.SessionRecord.{SessionRecord}
 use Rattle.hub_core.specs.declared.record.SessionResult.{SessionResult}
 use Rattle.hub_core.specs.declared.record.SessionResult.TheVariants.{Whole, WrongSn, RxTimeout, Restarted, NoRoom, NoReaders, RunEnd as EndOfRun}
 use Rattle.hub_core.specs.declared.record.RxLimit.TheVariants.{Cf as CfLimit}
-use Rattle.hub_core.specs.declared.record.RxWait.TheVariants.{Box, Cf}
+use Rattle.hub_core.specs.declared.record.RxWait.{RxWait}
+use Rattle.hub_core.specs.declared.record.RxWait.TheVariants.{Box, Room, Cf}
 use Rattle.tp_attempts.specs.Seen.{bytes_of, is_start, len_of}
 use Rattle.tp_receiver.specs.declared.set.RxSet.{RxSet}
 use Rattle.tp_receiver.specs.State.{Reception, RxDid, RxEvent, RxState, Came, Timer, FcLeft, RunEnd, busy_with, idle}
-use Rattle.tp_receiver.specs.Table.{After, Begins, BeginsFirst, BeginsSingle, Carries, ConsecutiveRow, Continues, FirstRow, Grants, Interrupts, IsLookedAt, LetsGo, Overflows, Quiet, RxStep, Starts, asks, begun, due, gone_on, later_act, overflow, puts, refused}
+use Rattle.tp_receiver.specs.Table.{After, Begins, BeginsFirst, BeginsSingle, Carries, ConsecutiveRow, Continues, FirstRow, Grants, Interrupts, IsLookedAt, LetsGo, Overflows, Quiet, RxStep, Starts, asks, begun, due, gone_on, later_act, overflow, puts, refused, revoking}
 use Rattle.tp_receiver.specs.Table.{Ends as EndsRow, Opens as OpensRow, NoneReads, All, NoBuffer, Completes, NoBufferFirst, Opened, NoneReadsOn, TooLittleRoom, Adds, Fills, TooLong, TooShort, WrongNumber, RightNumber, InTime, TooLate, FromBox, NotAwaited}
 use Rattle.tp_receiver.specs.Effects.{AreEffects, EndsAt, HasAsked, HasStart, IsMade, IsUnused, RxDone, RxEffect, RxStage, act_of, at_stage, calls_of, first_stage, records_of, refusal_act, used_after, Ends, Looks, Opens, Puts, Refuses, Waits}
-use Rattle.tp_unit.specs.Unit.{BoxMeaning, Keeps, Offers, Meaning, SingleFrame, FirstFrame, ConsecutiveFrame, FlowControl, NoUnit}
+use Rattle.tp_unit.specs.Unit.{BoxMeaning, Keeps, Offers, Revokes, Meaning, SingleFrame, FirstFrame, ConsecutiveFrame, FlowControl, NoUnit}
 use Rattle.tp_receiver.proofs.Composing.{later-keeps}
 
 -- what a step does in one effect
@@ -56,20 +57,20 @@ quiet : (set : RxSet) (event : RxEvent) (old : RxState) (m : RxDid) → Quiet ol
 quiet set event old m row unused = made-none set event (first_stage old) m row.calls row.act row.records row.new (λ is. unused) (λ busy is. cc) (λ busy size meaning came start is. cc)
 
 -- a reception ends
-ends-effect : (set : RxSet) (event : RxEvent) (next seq : ℕ) (busy : Reception) (look : Option Room) (used : Bool) (result : SessionResult) (m : RxDid) → EndsAt set event (at_stage (busy_with next seq busy) look used) busy result → (used ≡ true → (result ≡ Whole → ⊥) → busy.bytes < busy.len) →
+ends-effect : (set : RxSet) (event : RxEvent) (next seq : ℕ) (busy : Reception) (look : Option Look) (used : Bool) (result : SessionResult) (m : RxDid) → EndsAt set event (at_stage (busy_with next seq busy) look used) busy result → (used ≡ true → (result ≡ Whole → ⊥) → busy.bytes < busy.len) →
     EndsRow set next seq busy result m → RxEffect set event m.tick (at_stage (busy_with next seq busy) look used) (done_by m (at_stage (idle next seq) None (used_after result used)))
 ends-effect set event next seq busy look used result m at part row = Ends (record { busy = busy; was = refl; result = result; at = at; part = part; left = row.left; calls = row.calls; act = row.act; records = row.records; new = refl })
 
-ends : (set : RxSet) (event : RxEvent) (next seq : ℕ) (busy : Reception) (look : Option Room) (used : Bool) (result : SessionResult) (m : RxDid) → EndsAt set event (at_stage (busy_with next seq busy) look used) busy result → (used ≡ true → (result ≡ Whole → ⊥) → busy.bytes < busy.len) →
+ends : (set : RxSet) (event : RxEvent) (next seq : ℕ) (busy : Reception) (look : Option Look) (used : Bool) (result : SessionResult) (m : RxDid) → EndsAt set event (at_stage (busy_with next seq busy) look used) busy result → (used ≡ true → (result ≡ Whole → ⊥) → busy.bytes < busy.len) →
     (used_after result used ≡ false → IsUnused set event (idle next seq)) → EndsRow set next seq busy result m → IsMade set event (at_stage (busy_with next seq busy) look used) m
 ends set event next seq busy look used result m at part unused row =
     made-one set event (at_stage (busy_with next seq busy) look used) (at_stage (idle next seq) None (used_after result used)) m row.new (ends-effect set event next seq busy look used result m at part row) unused (λ going is none. cc) (λ going size meaning came start is none. cc)
 
 -- a look at the room, and then others
-looks : (set : RxSet) (size : ℕ) (meaning : Meaning) (next seq : ℕ) (busy : Reception) (before : Option Room) (used : Bool) (room readers : ℕ) (m : RxDid) (rest : List Event) → m.calls ≡ asks set busy room readers ++ rest →
+looks : (set : RxSet) (size : ℕ) (meaning : Meaning) (next seq : ℕ) (busy : Reception) (before : Option Look) (used : Bool) (room readers : ℕ) (m : RxDid) (rest : List Event) → m.calls ≡ asks set busy room readers ++ rest →
     IsMade set (Came size meaning) (at_stage (busy_with next seq busy) (Some (record { cells = room; readers = readers })) used) (record m { calls = rest }) → IsMade set (Came size meaning) (at_stage (busy_with next seq busy) before used) m
 looks set size meaning next seq busy before used room readers m rest calls later =
-    let look : Room = record { cells = room; readers = readers } in
+    let look : Look = record { cells = room; readers = readers } in
     made-then set (Came size meaning) (at_stage (busy_with next seq busy) before used) m (record { calls = asks set busy room readers; act = Keeps; records = []; new = at_stage (busy_with next seq busy) (Some look) used }) (record m { calls = rest })
     (Looks (record { of = record { size = size; meaning = meaning; came = refl }; busy = busy; was = refl; look = look; calls = refl; act = refl; records = refl; new = refl })) later refl calls (sym (later-keeps m.act)) refl refl
 
@@ -80,7 +81,7 @@ grants set size len bytes next seq busy m cf more (NoneReads room readers none r
     (ends set (Came size (FirstFrame len bytes)) next seq busy (Some (record { cells = room; readers = readers })) true NoReaders (record m { calls = row.rest }) (record { cells = room; readers = readers }, refl, none, (λ is. cc)) (λ is other. more) (λ is. cc) row.row)
 grants set size len bytes next seq busy m cf more (All room readers some row) =
     let event : RxEvent = Came size (FirstFrame len bytes) in
-    let look : Room = record { cells = room; readers = readers } in
+    let look : Look = record { cells = room; readers = readers } in
     let new : RxStage = at_stage (busy_with next seq (record busy { wait = Box; since = m.tick })) None true in
     looks set size (FirstFrame len bytes) next seq busy None true room readers m row.rest row.calls
     (made-one set event (at_stage (busy_with next seq busy) (Some look) true) new (record m { calls = row.rest }) row.row.new
@@ -169,7 +170,7 @@ adds : (set : RxSet) (size : ℕ) (bytes : List ℕ) (next seq : ℕ) (busy : Re
     IsMade set (Came size (ConsecutiveFrame busy.number bytes)) (first_stage (busy_with next seq busy)) m
 adds set size bytes next seq busy room readers cells m rest last looked some fits packed calls more later =
     let event : RxEvent = Came size (ConsecutiveFrame busy.number bytes) in
-    let look : Room = record { cells = room; readers = readers } in
+    let look : Look = record { cells = room; readers = readers } in
     let new : RxStage = at_stage (busy_with next seq (gone_on busy (length (take (due set.a busy) bytes)) m.tick)) None true in
     looks set size (ConsecutiveFrame busy.number bytes) next seq busy None false room readers m rest calls
     (made-then set event (at_stage (busy_with next seq busy) (Some look) false) (record m { calls = rest }) (record { calls = puts set.path.0 busy.opened.seq cells; act = Keeps; records = []; new = new }) (record m { calls = last })
@@ -195,12 +196,12 @@ carries : (set : RxSet) (size : ℕ) (bytes : List ℕ) (next seq : ℕ) (busy :
     IsMade set (Came size (ConsecutiveFrame busy.number bytes)) (first_stage (busy_with next seq busy)) m
 carries set size bytes next seq busy m looked (NoneReadsOn room readers none row) =
     let event : RxEvent = Came size (ConsecutiveFrame busy.number bytes) in
-    let look : Room = record { cells = room; readers = readers } in
+    let look : Look = record { cells = room; readers = readers } in
     looks set size (ConsecutiveFrame busy.number bytes) next seq busy None false room readers m row.rest row.calls
     (ends set event next seq busy (Some look) false NoReaders (record m { calls = row.rest }) (look, refl, none, (λ is. cc)) (λ is. cc) (λ is. (refl, λ going none. cc)) row.row)
 carries set size bytes next seq busy m looked (TooLittleRoom room readers need some need_is little row) =
     let event : RxEvent = Came size (ConsecutiveFrame busy.number bytes) in
-    let look : Room = record { cells = room; readers = readers } in
+    let look : Look = record { cells = room; readers = readers } in
     looks set size (ConsecutiveFrame busy.number bytes) next seq busy None false room readers m row.rest row.calls
     (ends set event next seq busy (Some look) false (NoRoom room need) (record m { calls = row.rest }) (look, refl, some, refl, little) (λ is. cc) (λ is. (refl, λ going none. cc)) row.row)
 carries set size bytes next seq busy m looked (Adds room readers cells some fits packed row) =
@@ -263,6 +264,19 @@ idle-by set next seq (Some busy) m row = ap (λ (s : RxState). s.busy) row.new
 
 pub idle-ended : (set : RxSet) (old : RxState) (m : RxDid) → RxStep set old RunEnd m → m.new.busy ≡ None
 idle-ended set old m row = idle-by set old.next old.seq old.busy m row
+
+-- and no flow control is offered
+revoking-by : (wait : RxWait) → (revoking wait ≡ Keeps) ⊎ (revoking wait ≡ Revokes)
+revoking-by Box = inr refl
+revoking-by Room = inl refl
+revoking-by Cf = inl refl
+
+box-by : (set : RxSet) (next seq : ℕ) (busy : Option Reception) (m : RxDid) → RxStep set (record { next = next; seq = seq; busy = busy }) RunEnd m → (m.act ≡ Keeps) ⊎ (m.act ≡ Revokes)
+box-by set next seq None m row = inl row.act
+box-by set next seq (Some busy) m row = subst (λ (a : BoxMeaning). (a ≡ Keeps) ⊎ (a ≡ Revokes)) (sym row.act) (revoking-by busy.wait)
+
+pub ended-box : (set : RxSet) (old : RxState) (m : RxDid) → RxStep set old RunEnd m → (m.act ≡ Keeps) ⊎ (m.act ≡ Revokes)
+ended-box set old m row = box-by set old.next old.seq old.busy m row
 
 -- where its flow control left, a reception that waited for that waits for a consecutive frame
 pub record IsAfterLeft (old : Reception) (new : Option Reception) : Type 0 where

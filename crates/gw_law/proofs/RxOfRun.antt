@@ -16,7 +16,7 @@ use Rattle.receiver_law.proofs.FlowControls.{IsKnown, law-fuller}
 use Rattle.receiver_law.proofs.ReceptionCauses.{caused-fuller}
 use Rattle.receiver_law.proofs.RxLaws.{flow_control_law_of, known-of-run, reception_law_of}
 use Rattle.receiver_law.proofs.RxRuns.{controls-of-run-rise}
-use Rattle.receiver_law.proofs.RxTicks.{left-keeps}
+use Rattle.tp_receiver.proofs.Made.{after-left}
 use Rattle.tp_receiver.specs.declared.set.RxSet.{RxSet}
 use Rattle.tp_receiver.specs.Runs.{HasReceived, control_after, control_once, controls_by, frames_in}
 use Rattle.tp_receiver.specs.State.{RxTurn, RxEvent, RxState, FcLeft, rx_new}
@@ -70,7 +70,7 @@ left-empty set tick None left before lies is happened = ap (λ l. control_after 
 left-empty set tick (Some meaning) [] before lies is happened = absurd is
 left-empty set tick (Some meaning) (turn ∷ more) before lies is happened =
     let old : RxState = state_after rx_new (more ++ before) in
-    let keeps : turn.did.act ≡ Keeps = left-keeps set old old.busy turn.did refl (subst (λ (e : RxEvent). RxStep set old e turn.did) is.0 happened.1) in
+    let keeps : turn.did.act ≡ Keeps = (after-left set old turn.did (subst (λ (e : RxEvent). RxStep set old e turn.did) is.0 happened.1)).0 in
     ap (λ a. box_then a (control_once turn.event (control_after (more ++ before)))) keeps ∙ ap (λ e. control_once e (control_after (more ++ before))) is.0
 
 empty : (set : RxSet) (sizes : List ℕ) (works : List Work) → AreTicks sizes works → HasReceived set (turns_of works) → control_after (turns_of works) ≡ None

@@ -1,13 +1,13 @@
 -- What the buses write in each tick, by the works of a run.
 use Rattle.std.proofs.Common.{◌≡◌, ℕ, ◌+◌, ◌≤◌, Option, None, Some, List, [], ◌∷◌, ◌++◌, length, refl, ap, sym, ◌∙◌, subst, arith, append-nil, append_assoc}
 use Rattle.tp_sender.specs.State.{TxTurn}
-use Rattle.tp_unit.specs.Box.{Written, box_then, written_of}
+use Rattle.tp_unit.specs.Box.{Written, written_of}
 use Rattle.tp_sender.specs.Runs.{box_after, left_by, written_at}
 use Rattle.std.specs.List.{AllByRecursion}
 use Rattle.tp_sender.specs.declared.event.TxEvent.{TxEvent}
 use Rattle.tp_sender.specs.declared.event.TxEvent.TheVariants.{Turn, Fc, Left, RunEnd}
 use Rattle.tp_unit.specs.declared.shape.Shape.{Shape}
-use Rattle.tp_unit.specs.Unit.{BoxMeaning, Keeps, Offers, Revokes, Meaning}
+use Rattle.tp_unit.specs.Unit.{Meaning}
 use Rattle.gw_law.specs.Emission.{BusLaw, EmissionLaw}
 use Rattle.sender_law.specs.Parts.{AnswersIn, FrameLeaves, IsAnswerIn, IsStepIn, SendsIn}
 use Rattle.gw_law.specs.Run.{AreTicks, IsEnd, Work, moments_of, tick_after, turns_of}

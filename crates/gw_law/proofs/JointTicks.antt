@@ -1,5 +1,5 @@
 -- Each record tells whose it is, and as its end the tick of the step that made it.
-use Rattle.std.proofs.Common.{◌≡◌, ℕ, ◌+◌, List, [], ◌∷◌, ◌++◌, refl, ap, sym, ◌∙◌, subst, append-nil, append_assoc}
+use Rattle.std.proofs.Common.{◌≡◌, ℕ, List, [], ◌∷◌, ◌++◌, refl, ap, sym, ◌∙◌, subst, append-nil, append_assoc}
 use Rattle.std.specs.List.{AllByRecursion}
 use Rattle.hub_core.specs.Turns.{state_after, records_by}
 use Rattle.hub_core.specs.declared.record.DestRecord.{DestRecord}

@@ -1,5 +1,5 @@
 -- Whose calls a receiver's and a sender's steps make: those of its path's writer and of its destination, and no others.
-use Rattle.std.proofs.Common.{◌≡◌, ℕ, ◌+◌, Bool, true, false, length, Option, Some, None, List, [], ◌∷◌, ◌++◌, refl, ◌∙◌}
+use Rattle.std.proofs.Common.{◌≡◌, ℕ, Option, Some, None, List, [], ◌∷◌, ◌++◌, refl, ◌∙◌}
 use Rattle.tp_sender.specs.declared.transmission.Phase.{Phase}
 use Rattle.tp_sender.specs.declared.transmission.Phase.TheVariants.{Start, Bytes, Box, Fc, Gap}
 use Rattle.tp_sender.specs.Runs.{HasSent}
@@ -22,7 +22,7 @@ use Rattle.tp_sender.specs.declared.event.TxEvent.TheVariants.{Turn, Fc as CameF
 use Rattle.tp_sender.specs.declared.set.TxSet.{TxSet}
 use Rattle.tp_sender.specs.Table.{Ends as EndsSending, FrameLeft, IdleRow, InAnswer, InBytes, InStart, InTurn, InWait, Lacks, LiveRow, TxRow, all_sent, fetched, in_phase, joined_in, revoked, wait_of}
 use Rattle.tp_sender.specs.Table.{AsksToWait, Continues as FcContinues, Due, Enough, FindsOne, FirstLeft, GapLasts, GapOver, IsInvalid, Joins, LastLeft, MayCome, NeverReached, NextLeft, NotDue, NotReached, NothingStands, NothingToSend, Overflows as FcOverflows, Reached, Short, TooLate, WriterGone}
-use Rattle.tp_unit.specs.Unit.{BoxMeaning, Keeps, Meaning, SingleFrame, FirstFrame, ConsecutiveFrame, FlowControl, NoUnit}
+use Rattle.tp_unit.specs.Unit.{BoxMeaning, Keeps}
 use Rattle.gw_base.proofs.Lists.{all-join}
 
 -- a call of a path's destination

@@ -1,11 +1,11 @@
 -- A run over one path holds a run of its receiver by itself, on a bus that always has a place for its flow controls.
-use Rattle.std.proofs.Common.{◌≡◌, ◌⊎◌, inl, inr, ℕ, ◌+◌, ◌≤◌, Bool, true, false, Option, None, Some, List, [], ◌∷◌, ◌++◌, refl, ap, sym, ◌∙◌, subst, arith, append_assoc}
+use Rattle.std.proofs.Common.{◌≡◌, inl, inr, ℕ, ◌+◌, ◌≤◌, Bool, true, false, Option, None, Some, List, [], ◌∷◌, ◌++◌, refl, ap, sym, ◌∙◌, subst, arith, append_assoc}
 use Rattle.hub_core.specs.Turns.{came_by, records_by, state_after}
 use Rattle.hub_core.proofs.Turns.{came-append, happened-front}
 use Rattle.gw_base.proofs.Lists.{all-front}
 use Rattle.std.specs.List.{AllByRecursion}
 use Rattle.tp_attempts.specs.Seen.{Seen}
-use Rattle.receiver_law.specs.Channel.{SourceChannel, is_full}
+use Rattle.receiver_law.specs.Channel.{is_full}
 use Rattle.receiver_law.specs.FlowControls.{FlowControlLaw}
 use Rattle.receiver_law.specs.Looks.{AreShort}
 use Rattle.receiver_law.specs.Parts.{ControlLeaves, ReceivesIn}
@@ -19,7 +19,7 @@ use Rattle.receiver_law.proofs.RxRuns.{controls-of-run-rise}
 use Rattle.tp_receiver.proofs.Made.{after-left}
 use Rattle.tp_receiver.specs.declared.set.RxSet.{RxSet}
 use Rattle.tp_receiver.specs.Runs.{HasReceived, control_after, control_once, controls_by, frames_in}
-use Rattle.tp_receiver.specs.State.{RxTurn, RxEvent, RxState, FcLeft, rx_new}
+use Rattle.tp_receiver.specs.State.{RxTurn, RxEvent, RxState, rx_new}
 use Rattle.tp_receiver.specs.Table.{RxStep}
 use Rattle.tp_unit.proofs.Rises.{Rise}
 use Rattle.tp_unit.specs.Box.{box_then}

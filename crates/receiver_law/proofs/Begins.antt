@@ -15,7 +15,7 @@ use Rattle.receiver_law.proofs.Openings.{entry_by, join-lists}
 use Rattle.gw_base.proofs.Lists.{all-join, slice_get-more}
 use Rattle.tp_attempts.specs.Seen.{bytes_of}
 use Rattle.tp_receiver.specs.declared.set.RxSet.{RxSet}
-use Rattle.tp_receiver.specs.Effects.{Ends, Looks, Opens, Puts, Refuses, RxDone, RxEffect, RxStage, Waits, first_stage}
+use Rattle.tp_receiver.specs.Effects.{Ends, Looks, Opens, Puts, Refuses, RxDone, RxEffect, RxStage, Waits}
 use Rattle.tp_receiver.specs.Runs.{HasReceived}
 use Rattle.tp_receiver.specs.State.{Reception, RxDid, RxEvent, RxState, RxTurn, rx_new}
 use Rattle.tp_receiver.specs.Table.{Opens as OpensSession, RxStep, begun}

@@ -1,15 +1,14 @@
 -- What the flow controls of a source channel answer so far, turn by turn and tick by tick.
-use Rattle.std.proofs.Common.{◌≡◌, ◌⊎◌, inl, inr, ℕ, ◌+◌, ◌≤◌, Bool, Option, Some, None, List, [], ◌∷◌, ◌++◌, refl, ap, sym, ◌∙◌, subst, arith, append-nil, append_assoc}
+use Rattle.std.proofs.Common.{◌≡◌, ◌⊎◌, inl, inr, ℕ, ◌+◌, ◌≤◌, Option, Some, None, List, [], ◌∷◌, ◌++◌, refl, ap, sym, ◌∙◌, subst, arith, append-nil, append_assoc}
 use Rattle.std.specs.List.{AllByRecursion}
 use Rattle.std.proofs.lemmas.List.Elements.{filter-append}
 use Rattle.hub_core.proofs.Turns.{happened-front}
 use Rattle.hub_core.specs.Turns.{came_by, state_after, records_by}
 use Rattle.hub_core.specs.declared.record.RxWait.TheVariants.{Box, Cf}
-use Rattle.hub_core.specs.declared.record.SessionRecord.{SessionRecord}
 use Rattle.tp_attempts.specs.Seen.{Seen, is_start}
 use Rattle.tp_receiver.specs.declared.set.RxSet.{RxSet}
 use Rattle.tp_receiver.specs.Runs.{HasReceived, control_after, control_at, control_once, controls_by, frames_in}
-use Rattle.tp_receiver.specs.State.{Reception, RxEvent, RxDid, RxState, Came, Timer, FcLeft, RunEnd, RxTurn, rx_new}
+use Rattle.tp_receiver.specs.State.{Reception, RxEvent, Came, Timer, FcLeft, RunEnd, RxTurn, rx_new}
 use Rattle.tp_receiver.specs.Table.{RxStep, continue_to_send, overflow}
 use Rattle.tp_receiver.proofs.Made.{AreAfterLeft, after-left, ended-box}
 use Rattle.tp_unit.specs.Box.{box_then, written_of}

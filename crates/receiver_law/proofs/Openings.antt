@@ -1,5 +1,5 @@
 -- The sessions that a receiver's calls make: their cells are what was put, and its records tell their lengths and buffers.
-use Rattle.std.proofs.Common.{◌≡◌, ℕ, ◌+◌, ◌<◌, Bool, true, false, Option, Some, None, option_map, if◌then◌else◌, not, List, [], ◌∷◌, ◌++◌, length, map, refl, ap, sym, ◌∙◌, subst, arith, append-nil, append_assoc, eq-eqb}
+use Rattle.std.proofs.Common.{◌≡◌, ℕ, ◌+◌, ◌<◌, Bool, true, false, Option, Some, None, option_map, if◌then◌else◌, List, [], ◌∷◌, ◌++◌, length, map, refl, ap, sym, ◌∙◌, subst, arith, append-nil, append_assoc, eq-eqb}
 use Rattle.std.specs.Prelude.{◌-◌, option_to_list}
 use Rattle.std.specs.List.{flat_map}
 use Rattle.std.proofs.lemmas.List.{length-append, map-append}
@@ -17,8 +17,8 @@ use Rattle.tp_attempts.specs.Seen.{bytes_of, is_start}
 use Rattle.tp_receiver.specs.declared.set.RxSet.{RxSet}
 use Rattle.tp_receiver.specs.Effects.{Ends, HasConsecutive, EndsAt, IsUnused, Looks, Opens, Puts, Refuses, RxDone, RxEffect, RxStage, Waits, first_stage, used_after}
 use Rattle.tp_receiver.specs.Runs.{HasReceived, cell_in}
-use Rattle.tp_receiver.specs.State.{Reception, RxState, RxEvent, RxDid, Came, Timer, FcLeft, RunEnd, RxTurn, rx_new}
-use Rattle.tp_receiver.specs.Table.{Opens as OpensSession, RxStep, begun, cells_of, ended, puts}
+use Rattle.tp_receiver.specs.State.{Reception, RxState, RxEvent, Came, Timer, FcLeft, RunEnd, RxTurn, rx_new}
+use Rattle.tp_receiver.specs.Table.{Opens as OpensSession, begun, cells_of, puts}
 use Rattle.tp_receiver.proofs.Through.{IsThrough, step-through}
 use Rattle.tp_unit.specs.Unit.{Meaning}
 use Rattle.hub_core.proofs.Sides.{Fill, Side, added, fill-adds, fill-changes, fill-join, fill-none, fill-pushes, fill-same}

@@ -1,5 +1,5 @@
 -- The laws of a receiver's run: its records, its flow controls, and the causes of its records.
-use Rattle.std.proofs.Common.{◌≡◌, ℕ, ◌+◌, ◌≤◌, Bool, inl, inr, Option, None, List, [], ◌∷◌, ◌++◌, ap, sym, ◌∙◌, subst, append-nil}
+use Rattle.std.proofs.Common.{◌≡◌, ℕ, ◌+◌, ◌≤◌, inl, inr, Option, None, List, [], ◌∷◌, ◌++◌, ap, sym, ◌∙◌, subst, append-nil}
 use Rattle.std.specs.List.{AllByRecursion, AllZip}
 use Rattle.gw_base.proofs.Lists.{none-some}
 use Rattle.hub_core.specs.Turns.{now_of, came_by, state_after, records_by}

@@ -1,5 +1,5 @@
 -- What leaves on a source's channel is one of its receiver's two flow controls, written in the channel's shape.
-use Rattle.std.proofs.Common.{◌≡◌, ℕ, Option, None, Some, List, [], ◌∷◌, ◌++◌, refl}
+use Rattle.std.proofs.Common.{ℕ, Option, None, Some, List, [], ◌∷◌, refl}
 use Rattle.std.specs.List.{AllByRecursion}
 use Rattle.gw_base.proofs.Lists.{all-join}
 use Rattle.hub_core.specs.Turns.{state_after}

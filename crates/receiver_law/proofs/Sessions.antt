@@ -1,5 +1,5 @@
 -- What a writer's calls make of its path's sessions.
-use Rattle.std.proofs.Common.{◌≡◌, ◌≢◌, ℕ, ◌+◌, ◌-◌, ◌<◌, zero, suc, Bool, true, false, ◌==◌, if◌then◌else◌, Option, Some, None, List, [], ◌∷◌, ◌++◌, length, refl, ap, sym, ◌∙◌, subst, arith, append-nil, append_assoc, eq-eqb}
+use Rattle.std.proofs.Common.{◌≡◌, ◌≢◌, ℕ, ◌+◌, ◌-◌, ◌<◌, zero, suc, Bool, true, false, ◌==◌, if◌then◌else◌, Some, List, [], ◌∷◌, ◌++◌, length, refl, ap, sym, ◌∙◌, subst, arith, append-nil, append_assoc, eq-eqb}
 use Rattle.std.specs.Prelude.{map, slice_get}
 use Rattle.std.proofs.lemmas.Bool.Decides.{nat_tests}
 use Rattle.std.proofs.lemmas.Grind.{flat_map-append}
@@ -14,7 +14,7 @@ use Rattle.gw_base.specs.Cell.{counted}
 use Rattle.tp_receiver.specs.declared.set.RxSet.{RxSet}
 use Rattle.tp_receiver.specs.Effects.{Ends, Looks, Opens, Puts, Refuses, RxDone, RxEffect, RxStage, Waits}
 use Rattle.tp_receiver.specs.Runs.{HasReceived, cell_in, cells_in, put_in}
-use Rattle.tp_receiver.specs.State.{Reception, RxEvent, RxState, RxTurn, rx_new}
+use Rattle.tp_receiver.specs.State.{RxEvent, RxState, RxTurn, rx_new}
 use Rattle.tp_receiver.specs.Table.{Opens as OpensSession}
 use Rattle.tp_receiver.proofs.Through.{turns-through}
 use Rattle.receiver_law.proofs.Openings.{IsBelow, below-of}

@@ -1,5 +1,5 @@
 -- The law of a source channel, by the effects of its receiver's steps.
-use Rattle.std.proofs.Common.{◌≡◌, ◌⊎◌, inl, inr, ℕ, ◌+◌, ◌<◌, ◌≤◌, ◌↔◌, Bool, true, false, if◌then◌else◌, Option, Some, None, List, [], ◌∷◌, ◌++◌, length, take, refl, ap, sym, ◌∙◌, subst, arith, append-nil}
+use Rattle.std.proofs.Common.{◌≡◌, inl, inr, ℕ, ◌<◌, ◌≤◌, ◌↔◌, Bool, true, false, if◌then◌else◌, Option, Some, None, List, [], ◌∷◌, ◌++◌, refl, ap, sym, subst, arith, append-nil}
 use Rattle.gw_base.proofs.Lists.{zip-weaker}
 use Rattle.gw_base.specs.Cell.{bytes_of as cell_bytes_of}
 use Rattle.hub_core.specs.Turns.{calls_by, now_of, came_by, state_after, records_by}
@@ -9,10 +9,10 @@ use Rattle.hub_core.specs.declared.record.SessionResult.{SessionResult}
 use Rattle.hub_core.specs.declared.record.SessionResult.TheVariants.{Whole, Overflow, WrongSn, RxTimeout, Restarted, NoRoom, WaitOver, NoReaders, Cancelled, RunEnd as EndOfRun}
 use Rattle.tp_attempts.specs.Attempts.{attempts_in}
 use Rattle.tp_attempts.specs.Seen.{Seen, bytes_of, is_start, len_of}
-use Rattle.tp_attempts.specs.Walk.{Walk, look_at, walk_of}
+use Rattle.tp_attempts.specs.Walk.{look_at, walk_of}
 use Rattle.tp_attempts.proofs.Walks.{look-long, look-short}
 use Rattle.tp_receiver.specs.declared.set.RxSet.{RxSet}
-use Rattle.tp_receiver.specs.Effects.{Ends, EndsAt, HasConsecutive, IsPassed, IsUnused, Looks, Opens, Puts, Refuses, RxDone, RxEffect, RxStage, Waits, first_stage, used_after}
+use Rattle.tp_receiver.specs.Effects.{Ends, EndsAt, HasConsecutive, IsPassed, IsUnused, Looks, Opens, Puts, Refuses, RxDone, RxEffect, RxStage, Waits, used_after}
 use Rattle.tp_receiver.specs.Runs.{HasReceived, cells_in, put_in, frames_in}
 use Rattle.tp_receiver.specs.State.{Reception, RxState, RxEvent, RxDid, Came, Timer, FcLeft, RunEnd, RxTurn, rx_new}
 use Rattle.tp_receiver.specs.Table.{RxStep, ended, refused}

@@ -1,5 +1,5 @@
 -- What a receiver's steps leave standing of its path's sessions.
-use Rattle.std.proofs.Common.{◌≡◌, ℕ, ◌+◌, true, false, Option, Some, None, option_map, List, [], ◌∷◌, ◌++◌, length, refl, ap, sym, ◌∙◌, subst}
+use Rattle.std.proofs.Common.{◌≡◌, ℕ, ◌+◌, false, Option, Some, None, option_map, List, [], ◌∷◌, ◌++◌, length, refl, ap, sym, ◌∙◌, subst}
 use Rattle.std.specs.Prelude.{◌-◌, map}
 use Rattle.std.specs.List.{AllByRecursion}
 use Rattle.gw_base.specs.Cell.{counted}

@@ -7,10 +7,10 @@ use Rattle.hub_core.specs.declared.record.SessionResult.{SessionResult}
 use Rattle.hub_core.specs.declared.record.SessionResult.TheVariants.{Whole, Overflow, WrongSn, RxTimeout, Restarted, NoRoom, WaitOver, NoReaders, Cancelled, RunEnd as EndOfRun}
 use Rattle.tp_attempts.specs.Seen.{Seen, bytes_of, is_start, len_of}
 use Rattle.tp_receiver.specs.declared.set.RxSet.{RxSet}
-use Rattle.tp_receiver.specs.Effects.{Because, Ends, EndsAt, HasAsked, HasCame, HasConsecutive, IsEnd, IsGranted, IsUnused, IsWait, Looks, Opens, Puts, Refuses, RxDone, RxEffect, RxStage, Waits as WaitsNow, refusal_act, first_stage, used_after}
+use Rattle.tp_receiver.specs.Effects.{Because, Ends, EndsAt, HasAsked, HasCame, HasConsecutive, IsEnd, IsUnused, Looks, Opens, Puts, Refuses, RxDone, RxEffect, RxStage, Waits as WaitsNow, refusal_act, first_stage, used_after}
 use Rattle.tp_receiver.specs.Runs.{frames_in}
 use Rattle.tp_receiver.specs.State.{Reception, RxDid, RxEvent, RxState, Came, Timer, FcLeft, RunEnd}
-use Rattle.tp_receiver.specs.Table.{RxStep, cells_of, continue_to_send, due, ended, gone_on, later_act, overflow, refused as refusal_record, revoking}
+use Rattle.tp_receiver.specs.Table.{RxStep, cells_of, continue_to_send, due, ended, gone_on, later_act, refused as refusal_record, revoking}
 use Rattle.tp_receiver.proofs.Through.{IsThrough, acts-through}
 use Rattle.tp_unit.specs.Box.{box_then}
 use Rattle.tp_unit.specs.Unit.{BoxMeaning, Keeps, Offers, Revokes, Meaning, SingleFrame, FirstFrame, ConsecutiveFrame, FlowControl, NoUnit}

@@ -1,10 +1,9 @@
 -- Each row of a receiver's table is a list of effects: the one walk over the rows.
-use Rattle.std.proofs.Common.{◌≡◌, ◌≢◌, ◌⊎◌, inl, inr, ℕ, ◌+◌, ◌<◌, ◌≤◌, Bool, true, false, not, Option, Some, None, List, [], ◌∷◌, ◌++◌, length, take, refl, ap, sym, ◌∙◌, subst, arith, append-nil, append_assoc}
+use Rattle.std.proofs.Common.{◌≡◌, ◌≢◌, ◌⊎◌, inl, inr, ℕ, ◌+◌, ◌<◌, ◌≤◌, Bool, true, false, Option, Some, None, List, [], ◌∷◌, ◌++◌, length, take, refl, ap, sym, ◌∙◌, subst, arith, append-nil}
 use Rattle.cell_stream.specs.Packing.{IsPacked}
 use Rattle.hub_core.specs.View.{Event, Refused}
 use Rattle.hub_core.specs.declared.port.Room.{Room as Look}
 use Rattle.hub_core.specs.declared.record.OpenedAt.{OpenedAt}
-use Rattle.hub_core.specs.declared.record.SessionRecord.{SessionRecord}
 use Rattle.hub_core.specs.declared.record.SessionResult.{SessionResult}
 use Rattle.hub_core.specs.declared.record.SessionResult.TheVariants.{Whole, WrongSn, RxTimeout, Restarted, NoRoom, NoReaders, RunEnd as EndOfRun}
 use Rattle.hub_core.specs.declared.record.RxLimit.TheVariants.{Cf as CfLimit}
@@ -13,9 +12,9 @@ use Rattle.hub_core.specs.declared.record.RxWait.TheVariants.{Box, Room, Cf}
 use Rattle.tp_attempts.specs.Seen.{bytes_of, is_start, len_of}
 use Rattle.tp_receiver.specs.declared.set.RxSet.{RxSet}
 use Rattle.tp_receiver.specs.State.{Reception, RxDid, RxEvent, RxState, Came, Timer, FcLeft, RunEnd, busy_with, idle}
-use Rattle.tp_receiver.specs.Table.{After, Begins, BeginsFirst, BeginsSingle, Carries, ConsecutiveRow, Continues, FirstRow, Grants, Interrupts, IsLookedAt, LetsGo, Overflows, Quiet, RxStep, Starts, asks, begun, due, gone_on, later_act, overflow, puts, refused, revoking}
+use Rattle.tp_receiver.specs.Table.{Begins, BeginsSingle, Carries, ConsecutiveRow, FirstRow, Grants, Interrupts, IsLookedAt, Overflows, Quiet, RxStep, Starts, asks, begun, due, gone_on, later_act, overflow, puts, refused, revoking}
 use Rattle.tp_receiver.specs.Table.{Ends as EndsRow, Opens as OpensRow, NoneReads, All, NoBuffer, Completes, NoBufferFirst, Opened, NoneReadsOn, TooLittleRoom, Adds, Fills, TooLong, TooShort, WrongNumber, RightNumber, InTime, TooLate, FromBox, NotAwaited}
-use Rattle.tp_receiver.specs.Effects.{AreEffects, EndsAt, HasAsked, HasStart, IsMade, IsUnused, RxDone, RxEffect, RxStage, act_of, at_stage, calls_of, first_stage, records_of, refusal_act, used_after, Ends, Looks, Opens, Puts, Refuses, Waits}
+use Rattle.tp_receiver.specs.Effects.{AreEffects, EndsAt, HasAsked, IsMade, IsUnused, RxDone, RxEffect, RxStage, at_stage, first_stage, refusal_act, used_after, Ends, Looks, Opens, Puts, Refuses, Waits}
 use Rattle.tp_unit.specs.Unit.{BoxMeaning, Keeps, Offers, Revokes, Meaning, SingleFrame, FirstFrame, ConsecutiveFrame, FlowControl, NoUnit}
 use Rattle.tp_receiver.proofs.Composing.{later-keeps}
 

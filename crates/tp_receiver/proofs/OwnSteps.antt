@@ -1,5 +1,5 @@
 -- Whose calls a receiver's steps make, when their records end, and what they offer: by the effects that each step is made of.
-use Rattle.std.proofs.Common.{◌≡◌, ◌⊎◌, inl, inr, ℕ, Bool, true, Option, Some, None, List, [], ◌∷◌, ◌++◌, map, refl, sym, ap, ◌∙◌, subst, length}
+use Rattle.std.proofs.Common.{inl, inr, ℕ, List, [], ◌∷◌, ◌++◌, map, refl, sym, subst}
 use Rattle.std.specs.List.{AllByRecursion}
 use Rattle.gw_base.proofs.Lists.{all-join}
 use Rattle.hub_core.specs.View.{Event, Put, Published}
@@ -9,8 +9,8 @@ use Rattle.hub_core.specs.declared.record.RxWait.TheVariants.{Box, Room, Cf}
 use Rattle.hub_core.specs.declared.record.SessionRecord.{SessionRecord}
 use Rattle.tp_receiver.specs.declared.set.RxSet.{RxSet}
 use Rattle.tp_receiver.specs.State.{Reception, RxDid, RxEvent, RxState}
-use Rattle.tp_receiver.specs.Table.{Opens as OpensSession, RxStep, continue_to_send, later_act, overflow, puts, revoking}
-use Rattle.tp_receiver.specs.Effects.{AreEffects, Because, IsControl, IsControlAct, IsOwnStep, IsRefusal, IsOpening, IsLook, IsPut, IsWait, IsEnd, IsMade, IsMadeNow, OfWriter, RxDone, RxEffect, RxStage, act_of, calls_of, first_stage, records_of, refusal_act, Ends, Looks, Opens, Puts, Refuses, Waits}
+use Rattle.tp_receiver.specs.Table.{Opens as OpensSession, RxStep, later_act, revoking}
+use Rattle.tp_receiver.specs.Effects.{AreEffects, Because, IsControlAct, IsOwnStep, IsMade, IsMadeNow, OfWriter, RxDone, RxEffect, RxStage, act_of, calls_of, first_stage, records_of, refusal_act, Ends, Looks, Opens, Puts, Refuses, Waits}
 use Rattle.tp_unit.specs.Unit.{BoxMeaning, Keeps, Offers, Revokes, Meaning, SingleFrame, FirstFrame, ConsecutiveFrame, FlowControl, NoUnit}
 use Rattle.tp_receiver.proofs.Made.{made}
 

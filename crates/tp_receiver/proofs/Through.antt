@@ -1,5 +1,5 @@
 -- What holds through a receiver's steps: shown of each effect, it holds of each step and of all turns.
-use Rattle.std.proofs.Common.{◌≡◌, ℕ, ◌<◌, Bool, true, false, Some, List, [], ◌∷◌, ◌++◌, refl, ap, sym, ◌∙◌, subst, append-nil, append_assoc}
+use Rattle.std.proofs.Common.{◌≡◌, ℕ, ◌<◌, true, false, Some, List, [], ◌∷◌, ◌++◌, refl, sym, ◌∙◌, subst, append-nil, append_assoc}
 use Rattle.hub_core.specs.Turns.{calls_by, records_by, state_after}
 use Rattle.hub_core.specs.View.{Event}
 use Rattle.hub_core.specs.declared.record.SessionRecord.{SessionRecord}

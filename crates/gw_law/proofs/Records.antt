@@ -15,9 +15,10 @@ use Rattle.tp_sender.specs.declared.set.TxSet.{TxSet}
 use Rattle.gw_law.specs.Records.{IsOfDestination, IsOfSource, RecordsLaw}
 use Rattle.gw_law.specs.Run.{Route, Work, moments_of, turns_of}
 use Rattle.receiver_law.proofs.FlowControls.{IsKnown, begins-at, start-at}
-use Rattle.gw_law.proofs.FlowControls.{known-of-run}
+use Rattle.gw_law.proofs.RxOfRun.{known_of}
 use Rattle.gw_law.proofs.Fronts.{IsTimed, TurnIn, WorkIn, moments-in, rises-below, run-rising, run-timed, turns-in}
-use Rattle.gw_law.proofs.JointTicks.{EndsAt, tells-now}
+use Rattle.tp_receiver.specs.Effects.{IsMadeNow}
+use Rattle.tp_receiver.proofs.OwnSteps.{own-step}
 use Rattle.gw_base.proofs.Lists.{all-at, all-join, all-push, all-weaker, at-next}
 use Rattle.sender_law.proofs.Origins.{InTicks, IsToldBy, OfLive, row-by, told-by}
 use Rattle.gw_law.proofs.WholeRun.{WholeRun, route, works_of}
@@ -27,8 +28,8 @@ sessions-of : (set : RxSet) (last : ℕ) (turns : List RxTurn) → HasReceived s
 sessions-of set last [] happened all = tt
 sessions-of set last (turn ∷ earlier) happened all =
     all-join (λ (told : SessionRecord). (told.chan ≡ set.chan) × (told.end.0 ≤ last)) (records_by earlier) turn.did.records (sessions-of set last earlier happened.2 all.1)
-    (all-weaker (EndsAt set turn.did.tick) (λ (told : SessionRecord). (told.chan ≡ set.chan) × (told.end.0 ≤ last)) turn.did.records (λ told is. (is.0, omega (arith, is.1, all.0)))
-    (tells-now set (state_after rx_new earlier).next (state_after rx_new earlier).seq (state_after rx_new earlier).busy turn.event turn.did happened.1))
+    (all-weaker (IsMadeNow set turn.did.tick) (λ (told : SessionRecord). (told.chan ≡ set.chan) × (told.end.0 ≤ last)) turn.did.records (λ told is. (is.0, omega (arith, is.1, all.0)))
+    (own-step set (state_after rx_new earlier) turn.event turn.did happened.1).ends)
 
 -- the destination's records, in moments up to a tick
 abbrev IsSent : TxSet → ℕ → DestRecord → Type 0
@@ -98,6 +99,6 @@ records_law_of o =
     record {
       sessions = all-weaker (λ (told : SessionRecord). (told.chan ≡ o.rx.chan) × (told.end.0 ≤ o.last)) (IsOfSource r) r.source.sessions (λ told is. record { chan = is.0; end = is.1 }) (sessions-of o.rx o.last (turns_of works) o.run.received (turns-in (λ (t : ℕ). t ≤ o.last) works timed within));
       dests = all-weaker (IsSent o.tx o.last) (IsOfDestination r) r.leg.dests (λ told is. record { path = is.0; dest = is.1; end = is.2 }) (dests-of o.tx o.last (moments_of works) o.run.sent (moments-in (λ (t : ℕ). t ≤ o.last) works timed within));
-      sessions_follow = sessions-apart r (known-of-run o);
+      sessions_follow = sessions-apart r (known_of o);
       dests_follow = (dests-apart o.tx (moments_of works) o.run.sent).follow;
     }

@@ -15,7 +15,7 @@ use Rattle.tp_receiver.specs.declared.set.RxSet.{RxSet}
 use Rattle.tp_sender.specs.declared.set.TxSet.{TxSet}
 use Rattle.receiver_law.specs.Parts.{AreLooks, LooksCount}
 use Rattle.gw_law.specs.Run.{AreTicks, Work, moments_of, turns_of, view_of}
-use Rattle.receiver_law.proofs.RxRooms.{AllLook, LooksWell}
+use Rattle.receiver_law.specs.Looks.{AllLook, LooksWell}
 use Rattle.receiver_law.proofs.Sessions.{AllFilled, all-filled, stored_in}
 use Rattle.gw_law.proofs.Wholes.{OwnSessions, sessions-own}
 use Rattle.gw_base.proofs.Lists.{all-front}

@@ -1,5 +1,4 @@
 pub mod Begins
-pub mod Effects
 pub mod FlowControls
 pub mod FlowSteps
 pub mod JointReceivers
@@ -10,13 +9,17 @@ pub mod Owed
 pub mod Places
 pub mod ReceptionCauses
 pub mod RxCauses
+pub mod RxLaws
 pub mod RxRooms
+pub mod RxRuns
 pub mod RxSettled
 pub mod RxTicks
+pub mod RxWritten
 pub mod Sessions
 pub mod ShortStarts
 pub mod SoFars
 pub mod SourceLaws
 pub mod StandingWriter
 pub mod Stores
+pub mod Stories
 pub mod Tellings

@@ -15,8 +15,7 @@ use Rattle.tp_unit.specs.declared.shape.Shape.{Shape}
 use Rattle.tp_unit.specs.Unit.{Meaning}
 use Rattle.tp_unit.specs.Writing.{frame_of}
 use Rattle.receiver_law.specs.FlowControls.{IsFirst}
-use Rattle.receiver_law.specs.Source.{is_overflow}
-use Rattle.receiver_law.proofs.Effects.{is_run_end}
+use Rattle.receiver_law.specs.Source.{is_overflow, is_run_end}
 use Rattle.gw_base.proofs.Lists.{all-both, all-push, all-weaker, at-next, same-some, slice_get-more}
 use Rattle.hub_core.proofs.Growing.{slice_get-pushed}
 

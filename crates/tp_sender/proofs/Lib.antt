@@ -1,3 +1,4 @@
+pub mod Made
 mod Leaving
 mod Calls
 mod Reading

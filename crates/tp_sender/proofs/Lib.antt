@@ -1,3 +1,4 @@
+pub mod Effects
 pub mod Made
 mod Leaving
 mod Calls

@@ -31,7 +31,7 @@ record IsMadeOf (set : TxSet) (p : Progress) (calls : List Event) (did : TxDid) 
   settled : IsSettled (deeds_of set did.tick p effects).new.event did.new.live
 
 -- in the midst of a step that was told of an event
-abbrev amid : TxEvent → Option Seen → (next : ℕ) → Option Transmission → Progress
+abbrev pub amid : TxEvent → Option Seen → (next : ℕ) → Option Transmission → Progress
 amid event look next live = record { event = Some event; look = look; next = next; live = live }
 
 -- nothing more is done

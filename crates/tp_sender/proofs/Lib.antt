@@ -1,3 +1,4 @@
+pub mod Own
 pub mod Effects
 pub mod Made
 mod Leaving

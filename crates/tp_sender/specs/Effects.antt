@@ -96,7 +96,7 @@ nothing_at tick p = record { tick = tick; calls = []; act = Keeps; records = [];
 abbrev pub deed_of : TxSet → (tick : ℕ) → Progress → TxEffect → TxDeed
 deed_of set tick p Misses = record (nothing_at tick (record p { event = None })) { calls = Missed set.path.0 set.dest.0 p.next ∷ [] }
 deed_of set tick p (Joins buf len) =
-    record (nothing_at tick (record p { next = p.next + 1; live = Some (joined_in tick p.next len) })) { calls = Joining set.path.0 set.dest.0 p.next buf len ∷ [] }
+    record (nothing_at tick (record p { look = None; next = p.next + 1; live = Some (joined_in tick p.next len) })) { calls = Joining set.path.0 set.dest.0 p.next buf len ∷ [] }
 deed_of set tick p (Looks s look) = record (nothing_at tick (record p { look = Some look; live = Some s })) { calls = look_at set s look ∷ [] }
 deed_of set tick p (Reads s cells) = record (nothing_at tick (record p { live = Some (fetched cells s) })) { calls = map (Read set.path.0 set.dest.0 s.seq) cells }
 deed_of set tick p (Offers s) = record (nothing_at tick (record p { event = None; live = Some (once_offered set tick s) })) { act = OffersUnit (next_unit set s) }

@@ -16,22 +16,22 @@ use Rattle.tp_sender.specs.declared.set.TxSet.{TxSet}
 use Rattle.tp_sender.specs.State.{Transmission, TxDid, TxState}
 use Rattle.tp_sender.specs.Table.{Answered, Ends as EndsRow, FrameLeft, GoesOn, IdleRow, InAnswer, InBytes, InGap, InStart, InTurn, InWait, Lacks, LiveRow, NoneStands, TxRow, TxStep, all_sent, fetched, in_phase, is_reached, joined_in, next_part, revoked, wait_of}
 use Rattle.tp_sender.specs.Table.{AsksToWait, Continues, Due, Enough, FindsOne, FirstLeft, GapLasts, GapOver, IsInvalid, Joins as JoinsRow, LastLeft, MayCome, NeverReached, NextLeft, NotDue, NotReached, NothingStands, NothingToSend, Overflows, Reached, Short, TooLate, WriterGone}
-use Rattle.tp_sender.specs.Effects.{AreEffects, Awaits, IsAwaiting, IsEffect, IsMade, IsSettled, IsShort, MayEnd, Progress, ShowsEnd, TxDeed, TxEffect, act_then, deed_of, deed_then, deeds_of, nothing_at, progress_of}
+use Rattle.tp_sender.specs.Effects.{AreEffects, Awaits, IsAwaiting, IsEffect, IsMade, IsSettled, IsShort, MayEnd, TxStage, ShowsEnd, TxDone, TxEffect, act_then, done_by, done_then, done_by_all, nothing_at, first_stage}
 use Rattle.tp_sender.specs.Effects.{Misses, Joins, Looks, Reads, Offers, Leaves, Waits, Ends, AfterFirst, AfterNext, IsReached, GapIsOver, IsContinued, IsPaused, NoNext, NoStart, IsWhole, IsCut}
 
 -- the rest of a step, from where it is with these calls left, is made of effects
-record IsMadeOf (set : TxSet) (p : Progress) (calls : List Event) (did : TxDid) : Type 0 where
+record IsMadeOf (set : TxSet) (p : TxStage) (calls : List Event) (did : TxDid) : Type 0 where
   effects : List TxEffect
   are : AreEffects set did.tick p effects
-  calls_are : calls ≡ (deeds_of set did.tick p effects).calls
-  act : did.act ≡ (deeds_of set did.tick p effects).act
-  records : did.records ≡ (deeds_of set did.tick p effects).records
-  live : did.new.live ≡ (deeds_of set did.tick p effects).new.live
-  next : (deeds_of set did.tick p effects).new.next ≡ p.next
-  settled : IsSettled (deeds_of set did.tick p effects).new.event did.new.live
+  calls_are : calls ≡ (done_by_all set did.tick p effects).calls
+  act : did.act ≡ (done_by_all set did.tick p effects).act
+  records : did.records ≡ (done_by_all set did.tick p effects).records
+  live : did.new.live ≡ (done_by_all set did.tick p effects).new.live
+  next : (done_by_all set did.tick p effects).new.next ≡ p.next
+  settled : IsSettled (done_by_all set did.tick p effects).new.event did.new.live
 
 -- in the midst of a step that was told of an event
-abbrev pub amid : TxEvent → Option Seen → (next : ℕ) → Option Transmission → Progress
+abbrev pub amid : TxEvent → Option Seen → (next : ℕ) → Option Transmission → TxStage
 amid event look next live = record { event = Some event; look = look; next = next; live = live }
 
 -- nothing more is done
@@ -48,14 +48,14 @@ stays set event look next s calls did settled row = record {
 }
 
 -- first an effect that has nothing to do with the box, then the rest
-first-then : (set : TxSet) (p : Progress) (effect : TxEffect) (calls more : List Event) (did : TxDid) → IsEffect set did.tick p effect → (deed_of set did.tick p effect).act ≡ Keeps → (deed_of set did.tick p effect).records ≡ [] →
-    (deed_of set did.tick p effect).new.next ≡ p.next → calls ≡ (deed_of set did.tick p effect).calls ++ more → IsMadeOf set (deed_of set did.tick p effect).new more did → IsMadeOf set p calls did
+first-then : (set : TxSet) (p : TxStage) (effect : TxEffect) (calls more : List Event) (did : TxDid) → IsEffect set did.tick p effect → (done_by set did.tick p effect).act ≡ Keeps → (done_by set did.tick p effect).records ≡ [] →
+    (done_by set did.tick p effect).new.next ≡ p.next → calls ≡ (done_by set did.tick p effect).calls ++ more → IsMadeOf set (done_by set did.tick p effect).new more did → IsMadeOf set p calls did
 first-then set p effect calls more did is keeps none next are rest = record {
   effects = effect ∷ rest.effects;
   are = (is, rest.are);
-  calls_are = are ∙ ap (λ l. (deed_of set did.tick p effect).calls ++ l) rest.calls_are;
-  act = rest.act ∙ ap (λ a. act_then a (deeds_of set did.tick (deed_of set did.tick p effect).new rest.effects).act) (sym keeps);
-  records = rest.records ∙ ap (λ l. l ++ (deeds_of set did.tick (deed_of set did.tick p effect).new rest.effects).records) (sym none);
+  calls_are = are ∙ ap (λ l. (done_by set did.tick p effect).calls ++ l) rest.calls_are;
+  act = rest.act ∙ ap (λ a. act_then a (done_by_all set did.tick (done_by set did.tick p effect).new rest.effects).act) (sym keeps);
+  records = rest.records ∙ ap (λ l. l ++ (done_by_all set did.tick (done_by set did.tick p effect).new rest.effects).records) (sym none);
   live = rest.live;
   next = rest.next ∙ next;
   settled = rest.settled;
@@ -63,11 +63,11 @@ first-then set p effect calls more did is keeps none next are rest = record {
 
 -- the session goes on after one effect
 goes-on : (set : TxSet) (event : TxEvent) (look : Option Seen) (next : ℕ) (s t : Transmission) (effect : TxEffect) (calls : List Event) (did : TxDid) → IsEffect set did.tick (amid event look next (Some s)) effect →
-    deed_of set did.tick (amid event look next (Some s)) effect ≡ nothing_at did.tick (record { event = None; look = look; next = next; live = Some t }) → GoesOn t calls did → IsMadeOf set (amid event look next (Some s)) calls did
+    done_by set did.tick (amid event look next (Some s)) effect ≡ nothing_at did.tick (record { event = None; look = look; next = next; live = Some t }) → GoesOn t calls did → IsMadeOf set (amid event look next (Some s)) calls did
 goes-on set event look next s t effect calls did is same row =
-    let D : TxDeed → Type 0 = λ d. IsMadeOf set d.new [] did in
-    first-then set (amid event look next (Some s)) effect calls [] did is (ap (λ (d : TxDeed). d.act) same) (ap (λ (d : TxDeed). d.records) same) (ap (λ (d : TxDeed). d.new.next) same)
-    (row.calls_are ∙ sym (ap (λ (d : TxDeed). d.calls ++ []) same))
+    let D : TxDone → Type 0 = λ d. IsMadeOf set d.new [] did in
+    first-then set (amid event look next (Some s)) effect calls [] did is (ap (λ (d : TxDone). d.act) same) (ap (λ (d : TxDone). d.records) same) (ap (λ (d : TxDone). d.new.next) same)
+    (row.calls_are ∙ sym (ap (λ (d : TxDone). d.calls ++ []) same))
     (subst D (sym same) (record { effects = []; are = tt; calls_are = refl; act = row.act; records = row.records; live = row.live; next = refl; settled = tt }))
 
 act-alone : (act : BoxMeaning) → act ≡ act_then act Keeps
@@ -200,11 +200,11 @@ none-stands set next event did is row = record { effects = Misses ∷ []; are = 
 
 -- a session is joined, and the rest follows
 joined : (set : TxSet) (next buf len : ℕ) (event : TxEvent) (did : TxDid) (more : List Event) → IsEffect set did.tick (amid event None next None) (Joins buf len) → did.new.next ≡ next + 1 →
-    did.calls ≡ (deed_of set did.tick (amid event None next None) (Joins buf len)).calls ++ more → IsMadeOf set (amid event None (next + 1) (Some (joined_in did.tick next len))) more did → IsMade set (record { next = next; live = None }) event did
+    did.calls ≡ (done_by set did.tick (amid event None next None) (Joins buf len)).calls ++ more → IsMadeOf set (amid event None (next + 1) (Some (joined_in did.tick next len))) more did → IsMade set (record { next = next; live = None }) event did
 joined set next buf len event did more is next_is are rest = record {
   effects = Joins buf len ∷ rest.effects;
   are = (is, rest.are);
-  calls = are ∙ ap (λ l. (deed_of set did.tick (amid event None next None) (Joins buf len)).calls ++ l) rest.calls_are;
+  calls = are ∙ ap (λ l. (done_by set did.tick (amid event None next None) (Joins buf len)).calls ++ l) rest.calls_are;
   act = rest.act;
   records = rest.records;
   next = next_is ∙ sym rest.next;

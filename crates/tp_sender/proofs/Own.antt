@@ -12,22 +12,22 @@ use Rattle.tp_sender.specs.declared.event.TxEvent.{TxEvent}
 use Rattle.tp_sender.specs.declared.set.TxSet.{TxSet}
 use Rattle.tp_sender.specs.declared.transmission.Phase.{Phase}
 use Rattle.tp_sender.specs.declared.transmission.Phase.TheVariants.{Start, Bytes, Box, Fc, Gap}
-use Rattle.tp_sender.specs.Effects.{MayBe, MayEnd, Progress, TxDeed, TxEffect, act_then, deed_of, deed_then, found_by, nothing_at}
+use Rattle.tp_sender.specs.Effects.{MayBe, MayEnd, TxStage, TxDone, TxEffect, act_then, done_by, done_then, found_by, nothing_at}
 use Rattle.tp_sender.specs.Effects.{Misses, Joins, Looks, Reads, Offers, Leaves, Waits, Ends, IsWhole, IsCut}
 use Rattle.tp_sender.specs.Own.{IsFittingAct, IsToldIn, KeepsToOwn}
 use Rattle.tp_sender.specs.Runs.{IsNoData}
 use Rattle.tp_sender.specs.State.{Transmission, TxDid, TxState}
 use Rattle.tp_sender.specs.Table.{TxStep, revoked}
-use Rattle.tp_sender.proofs.Effects.{HoldsOf, IsDeedLaw, of-step}
+use Rattle.tp_sender.proofs.Effects.{HoldsOf, IsDoneLaw, of-step}
 use Rattle.tp_sender.proofs.Made.{amid}
 
 -- one record at the most, and nothing is done after it
-record IsLast (d : TxDeed) : Type 0 where
+record IsLast (d : TxDone) : Type 0 where
   one : length d.records ≤ 1
   over : d.new.event ≡ None
 
--- what holds of each deed; where nothing is left to be done, nothing is
-record IsOwn (set : TxSet) (tick : ℕ) (p : Progress) (d : TxDeed) : Type 0 where
+-- what holds of all that is done; where nothing is left to be done, nothing is
+record IsOwn (set : TxSet) (tick : ℕ) (p : TxStage) (d : TxDone) : Type 0 where
   act : IsFittingAct set d.act
   records : AllByRecursion (IsToldIn set tick) d.records
   last : (d.records ≡ []) ⊎ IsLast d
@@ -43,12 +43,12 @@ act-both set Revokes Keeps one two = tt
 act-both set Revokes (OffersUnit later) one two = two
 act-both set Revokes Revokes one two = tt
 
-last-then : (set : TxSet) (tick : ℕ) (p : Progress) (first later : TxDeed) → IsOwn set tick p first → IsOwn set tick first.new later → (first.records ++ later.records ≡ []) ⊎ IsLast (deed_then first later)
+last-then : (set : TxSet) (tick : ℕ) (p : TxStage) (first later : TxDone) → IsOwn set tick p first → IsOwn set tick first.new later → (first.records ++ later.records ≡ []) ⊎ IsLast (done_then first later)
 last-then set tick p first later one two = elim one.last [
   | inl none ↦ elim two.last [
-      | inl empty ↦ inl (rw (none, empty) refl)
-      | inr last ↦ inr (record { one = rw none last.one; over = last.over })
-    ]
+    | inl empty ↦ inl (rw (none, empty) refl)
+    | inr last ↦ inr (record { one = rw none last.one; over = last.over })
+  ]
   | inr last ↦
       let rest = two.idle last.over in
       inr (record { one = rw (rest.0, append-nil first.records) last.one; over = rest.1 })
@@ -70,7 +70,7 @@ act-ends : (set : TxSet) (event : TxEvent) (look : Option Seen) (s : Transmissio
 act-ends set event look s sent act result (IsWhole left box whole all keeps is) = rw keeps tt
 act-ends set event look s sent act result (IsCut told other all is shows) = rw is (act-revoked set s.phase)
 
-each : (set : TxSet) (tick : ℕ) (event : TxEvent) (look : Option Seen) (next : ℕ) (effect : TxEffect) → MayBe set tick event look effect → IsOwn set tick (amid event look next (found_by effect)) (deed_of set tick (amid event look next (found_by effect)) effect)
+each : (set : TxSet) (tick : ℕ) (event : TxEvent) (look : Option Seen) (next : ℕ) (effect : TxEffect) → MayBe set tick event look effect → IsOwn set tick (amid event look next (found_by effect)) (done_by set tick (amid event look next (found_by effect)) effect)
 each set tick event look next Misses may = record { act = tt; records = tt; last = inl refl; idle = λ none. cc; next = omega arith }
 each set tick event look next (Joins buf len) may = record { act = tt; records = tt; last = inl refl; idle = λ none. cc; next = omega arith }
 each set tick event look next (Looks s seen) may = record { act = tt; records = tt; last = inl refl; idle = λ none. cc; next = omega arith }
@@ -92,7 +92,7 @@ each set tick event look next (Ends s sent act result left) may = record {
   next = omega arith;
 }
 
-law : (set : TxSet) (tick : ℕ) → IsDeedLaw set tick (IsOwn set tick)
+law : (set : TxSet) (tick : ℕ) → IsDoneLaw set tick (IsOwn set tick)
 law set tick = record {
   none = λ p. record { act = tt; records = tt; last = inl refl; idle = λ none. (refl, none); next = omega arith };
   then = λ p first later one two. record {
@@ -105,7 +105,7 @@ law set tick = record {
   each = each set tick;
 }
 
-few-by : (d : TxDeed) → (d.records ≡ []) ⊎ IsLast d → length d.records ≤ 1
+few-by : (d : TxDone) → (d.records ≡ []) ⊎ IsLast d → length d.records ≤ 1
 few-by d last = elim last [ inl none ↦ rw none (omega arith) | inr is ↦ is.one ]
 
 pub own : (set : TxSet) (old : TxState) (event : TxEvent) (did : TxDid) → TxStep set old event did → KeepsToOwn set old did

@@ -14,11 +14,11 @@ use Rattle.tp_sender.specs.declared.event.TxActs.{TxActs}
 use Rattle.tp_sender.specs.declared.event.TxEvent.{TxEvent}
 use Rattle.tp_sender.specs.declared.event.TxEvent.TheVariants.{Turn, Fc as CameFc, Left, RunEnd}
 use Rattle.tp_sender.specs.declared.set.TxSet.{TxSet}
-use Rattle.tp_sender.specs.Effects.{AwaitsNext, IsSettled, MayBe, MayEnd, MayWait, Progress, TxDeed, TxEffect, act_then, deed_of, deed_then, found_by, nothing_at, progress_of}
+use Rattle.tp_sender.specs.Effects.{AwaitsNext, IsSettled, MayBe, MayEnd, MayWait, TxStage, TxDone, TxEffect, act_then, done_by, done_then, found_by, nothing_at, first_stage}
 use Rattle.tp_sender.specs.Effects.{Misses, Joins, Looks, Reads, Offers, Leaves, Waits, Ends, AfterFirst, AfterNext, IsReached, GapIsOver, IsContinued, IsPaused, IsWhole, IsCut}
 use Rattle.tp_sender.specs.State.{HasFrame, IsInBox, TxState, StillHasFrame, in_box, since_of, Transmission, transmission_of, TxDid}
 use Rattle.tp_sender.specs.Table.{LiveRow, TxRow, revoked}
-use Rattle.tp_sender.proofs.Effects.{HoldsOf, IsDeedLaw, of-step}
+use Rattle.tp_sender.proofs.Effects.{HoldsOf, IsDoneLaw, of-step}
 use Rattle.tp_sender.proofs.Made.{amid}
 
 -- the phase of the session that goes on lasts since that tick at most; was says whether a frame lay in the box
@@ -27,7 +27,7 @@ pub record Settles (was : Type 0) (did : TxDid) : Type 0 where
   pub box : IsInBox did.act was did.new.live
 
 -- a frame lies in the box, and none that has left
-abbrev Lies : Progress → Type 0
+abbrev Lies : TxStage → Type 0
 Lies p = (p.event ≡ Some Left → ⊥) × HasFrame p.live
 
 -- what an act with the box says of that before and after it
@@ -36,8 +36,8 @@ Tells Keeps was now = (was → now) × (now → was)
 Tells (OffersUnit unit) was now = now
 Tells Revokes was now = now → ⊥
 
--- what a deed says of the phase and of the box
-record Settling (tick : ℕ) (p : Progress) (d : TxDeed) : Type 0 where
+-- what is done settles the phase and the box
+record Settling (tick : ℕ) (p : TxStage) (d : TxDone) : Type 0 where
   time : since_of p.live ≤ tick → since_of d.new.live ≤ tick
   box : Tells d.act (Lies p) (Lies d.new)
 
@@ -77,7 +77,7 @@ ends-tells : (set : TxSet) (event : TxEvent) (look : Option Seen) (s : Transmiss
 ends-tells set event look s sent act result now (IsWhole left box whole all keeps is) gone = rw keeps (λ was. absurd (was.0 (ap (λ e. Some e) left)), λ n. absurd (gone n))
 ends-tells set event look s sent act result now (IsCut told other all is shows) gone = rw is (tells-revoked s.phase ((Some event ≡ Some Left → ⊥) × in_box s.phase) now (λ was. was.1) gone)
 
-each : (set : TxSet) (tick : ℕ) (event : TxEvent) (look : Option Seen) (next : ℕ) (effect : TxEffect) → MayBe set tick event look effect → Settling tick (amid event look next (found_by effect)) (deed_of set tick (amid event look next (found_by effect)) effect)
+each : (set : TxSet) (tick : ℕ) (event : TxEvent) (look : Option Seen) (next : ℕ) (effect : TxEffect) → MayBe set tick event look effect → Settling tick (amid event look next (found_by effect)) (done_by set tick (amid event look next (found_by effect)) effect)
 each set tick event look next Misses may = record { time = λ le. le; box = (λ was. absurd was.1, λ now. absurd now.1) }
 each set tick event look next (Joins buf len) may = record { time = λ le. omega arith; box = (λ was. absurd was.1, λ now. absurd now.1) }
 each set tick event look next (Looks s seen) may = record { time = λ le. le; box = (λ was. was, λ now. now) }
@@ -89,7 +89,7 @@ each set tick event look next (Waits s phase) may =
     record { time = λ le. omega arith; box = (λ was. absurd (out.0 was.1), λ now. absurd (out.1 now.1)) }
 each set tick event look next (Ends s sent act result left) may = record { time = λ le. omega arith; box = ends-tells set event look s sent act result _ may (λ now. now.1) }
 
-law : (set : TxSet) (tick : ℕ) → IsDeedLaw set tick (Settling tick)
+law : (set : TxSet) (tick : ℕ) → IsDoneLaw set tick (Settling tick)
 law set tick = record {
   none = λ p. record { time = λ le. le; box = (λ was. was, λ now. now) };
   then = λ p first later one two. record {

@@ -24,7 +24,7 @@ use Rattle.tp_sender.specs.Table.{fetched, in_phase, is_reached, joined_in, look
 
 -- how far a step is: the event while it isn't dealt with, what the session saw last in this step, the number of the session that
 -- is joined next, and the one that is sent
-pub record Progress : Type 0 where
+pub record TxStage : Type 0 where
   pub event : Option TxEvent
   pub look : Option Seen
   pub next : ℕ
@@ -85,24 +85,24 @@ record_of set tick s sent result =
     record { path = set.path; dest = set.dest; seq = s.seq; begin = record { 0 = s.begin }; sent = sent; end = record { 0 = tick }; result = result }
 
 -- what effects come to: their calls, what they do with the box, their records, and how far the step is afterwards
-abbrev pub TxDeed : Type 0
-TxDeed = Did Event BoxMeaning DestRecord Progress
+abbrev pub TxDone : Type 0
+TxDone = Did Event BoxMeaning DestRecord TxStage
 
 -- nothing but that the step is so far
-abbrev pub nothing_at : (tick : ℕ) → Progress → TxDeed
+abbrev pub nothing_at : (tick : ℕ) → TxStage → TxDone
 nothing_at tick p = record { tick = tick; calls = []; act = Keeps; records = []; new = p }
 
 -- what one effect comes to
-abbrev pub deed_of : TxSet → (tick : ℕ) → Progress → TxEffect → TxDeed
-deed_of set tick p Misses = record (nothing_at tick (record p { event = None })) { calls = Missed set.path.0 set.dest.0 p.next ∷ [] }
-deed_of set tick p (Joins buf len) =
+abbrev pub done_by : TxSet → (tick : ℕ) → TxStage → TxEffect → TxDone
+done_by set tick p Misses = record (nothing_at tick (record p { event = None })) { calls = Missed set.path.0 set.dest.0 p.next ∷ [] }
+done_by set tick p (Joins buf len) =
     record (nothing_at tick (record p { look = None; next = p.next + 1; live = Some (joined_in tick p.next len) })) { calls = Joining set.path.0 set.dest.0 p.next buf len ∷ [] }
-deed_of set tick p (Looks s look) = record (nothing_at tick (record p { look = Some look; live = Some s })) { calls = look_at set s look ∷ [] }
-deed_of set tick p (Reads s cells) = record (nothing_at tick (record p { live = Some (fetched cells s) })) { calls = map (Read set.path.0 set.dest.0 s.seq) cells }
-deed_of set tick p (Offers s) = record (nothing_at tick (record p { event = None; live = Some (once_offered set tick s) })) { act = OffersUnit (next_unit set s) }
-deed_of set tick p (Leaves s sent number phase) = nothing_at tick (record p { event = None; live = Some (once_left tick sent number phase s) })
-deed_of set tick p (Waits s phase) = nothing_at tick (record p { event = once_waited p.event; live = Some (in_phase phase tick s) })
-deed_of set tick p (Ends s sent act result left) =
+done_by set tick p (Looks s look) = record (nothing_at tick (record p { look = Some look; live = Some s })) { calls = look_at set s look ∷ [] }
+done_by set tick p (Reads s cells) = record (nothing_at tick (record p { live = Some (fetched cells s) })) { calls = map (Read set.path.0 set.dest.0 s.seq) cells }
+done_by set tick p (Offers s) = record (nothing_at tick (record p { event = None; live = Some (once_offered set tick s) })) { act = OffersUnit (next_unit set s) }
+done_by set tick p (Leaves s sent number phase) = nothing_at tick (record p { event = None; live = Some (once_left tick sent number phase s) })
+done_by set tick p (Waits s phase) = nothing_at tick (record p { event = once_waited p.event; live = Some (in_phase phase tick s) })
+done_by set tick p (Ends s sent act result left) =
     record (nothing_at tick (record p { event = None; live = None })) { calls = Parted set.path.0 set.dest.0 s.seq (freed_by left) ∷ []; act = act; records = record_of set tick s sent result ∷ [] }
 
 -- what two acts with a box come to
@@ -115,13 +115,13 @@ act_then Revokes Keeps = Revokes
 act_then Revokes (OffersUnit later) = OffersUnit later
 act_then Revokes Revokes = Revokes
 
--- one deed after another
-abbrev pub deed_then : TxDeed → TxDeed → TxDeed
-deed_then first later = record { tick = later.tick; calls = first.calls ++ later.calls; act = act_then first.act later.act; records = first.records ++ later.records; new = later.new }
+-- one after another
+abbrev pub done_then : TxDone → TxDone → TxDone
+done_then first later = record { tick = later.tick; calls = first.calls ++ later.calls; act = act_then first.act later.act; records = first.records ++ later.records; new = later.new }
 
-abbrev pub deeds_of : TxSet → (tick : ℕ) → Progress → List TxEffect → TxDeed
-deeds_of set tick p [] = nothing_at tick p
-deeds_of set tick p (effect ∷ later) = deed_then (deed_of set tick p effect) (deeds_of set tick (deed_of set tick p effect).new later)
+abbrev pub done_by_all : TxSet → (tick : ℕ) → TxStage → List TxEffect → TxDone
+done_by_all set tick p [] = nothing_at tick p
+done_by_all set tick p (effect ∷ later) = done_then (done_by set tick p effect) (done_by_all set tick (done_by set tick p effect).new later)
 
 -- the event asks for a session: in a turn, and where the run ends
 abbrev pub AsksForOne : TxEvent → Type 0
@@ -201,16 +201,16 @@ MayBe set tick event look (Waits s phase) = MayWait tick event s.phase phase
 MayBe set tick event look (Ends s sent act result left) = MayEnd set event look s sent act result
 
 -- the next effect of a step
-pub record IsEffect (set : TxSet) (tick : ℕ) (p : Progress) (effect : TxEffect) : Type 0 where
+pub record IsEffect (set : TxSet) (tick : ℕ) (p : TxStage) (effect : TxEffect) : Type 0 where
   pub event : TxEvent
   pub told : p.event ≡ Some event
   pub finds : p.live ≡ found_by effect
   pub may : MayBe set tick event p.look effect
 
 -- effects one after another
-abbrev pub AreEffects : TxSet → (tick : ℕ) → Progress → List TxEffect → Type 0
+abbrev pub AreEffects : TxSet → (tick : ℕ) → TxStage → List TxEffect → Type 0
 AreEffects set tick p [] = Unit {0}
-AreEffects set tick p (effect ∷ later) = IsEffect set tick p effect × AreEffects set tick (deed_of set tick p effect).new later
+AreEffects set tick p (effect ∷ later) = IsEffect set tick p effect × AreEffects set tick (done_by set tick p effect).new later
 
 -- a flow control is awaited
 abbrev pub IsAwaiting : Phase → Type 0
@@ -233,16 +233,16 @@ IsSettled (Some Left) live = ⊥
 IsSettled (Some RunEnd) live = ⊥
 
 -- as a step begins
-abbrev pub progress_of : TxState → TxEvent → Progress
-progress_of old event = record { event = Some event; look = None; next = old.next; live = old.live }
+abbrev pub first_stage : TxState → TxEvent → TxStage
+first_stage old event = record { event = Some event; look = None; next = old.next; live = old.live }
 
 -- a step is made of effects, whose calls, acts and records together are the step's
 pub record IsMade (set : TxSet) (old : TxState) (event : TxEvent) (did : TxDid) : Type 0 where
   pub effects : List TxEffect
-  pub are : AreEffects set did.tick (progress_of old event) effects
-  pub calls : did.calls ≡ (deeds_of set did.tick (progress_of old event) effects).calls
-  pub act : did.act ≡ (deeds_of set did.tick (progress_of old event) effects).act
-  pub records : did.records ≡ (deeds_of set did.tick (progress_of old event) effects).records
-  pub next : did.new.next ≡ (deeds_of set did.tick (progress_of old event) effects).new.next
-  pub live : did.new.live ≡ (deeds_of set did.tick (progress_of old event) effects).new.live
-  pub settled : IsSettled (deeds_of set did.tick (progress_of old event) effects).new.event did.new.live
+  pub are : AreEffects set did.tick (first_stage old event) effects
+  pub calls : did.calls ≡ (done_by_all set did.tick (first_stage old event) effects).calls
+  pub act : did.act ≡ (done_by_all set did.tick (first_stage old event) effects).act
+  pub records : did.records ≡ (done_by_all set did.tick (first_stage old event) effects).records
+  pub next : did.new.next ≡ (done_by_all set did.tick (first_stage old event) effects).new.next
+  pub live : did.new.live ≡ (done_by_all set did.tick (first_stage old event) effects).new.live
+  pub settled : IsSettled (done_by_all set did.tick (first_stage old event) effects).new.event did.new.live

@@ -22,14 +22,14 @@ use Rattle.tp_attempts.specs.Walk.{reassembled}
 use Rattle.tp_receiver.specs.declared.set.RxSet.{RxSet}
 use Rattle.tp_sender.specs.declared.set.TxSet.{TxSet}
 use Rattle.gw_law.specs.Delivery.{AreWholeRuns, Delivers, Delivery, DeliveryLaw, IsNamed, Names, delivery_of}
-use Rattle.gw_law.specs.Source.{CountsFrom, sessions_in}
-use Rattle.gw_law.specs.Transfer.{GoesOnWith, SendsFor, Tells, Transfer, TransferLaw, has_sent, transfer_of}
-use Rattle.gw_law.proofs.Openings.{Entry, entries-are, entries_told, entry_told, openings, writing}
-use Rattle.gw_law.proofs.Sides.{cells_at-there}
-use Rattle.gw_law.proofs.SourceLaws.{idle-of, source_law_of}
-use Rattle.gw_law.proofs.Tellings.{TellsPut}
-use Rattle.gw_law.proofs.TxLaw.{law}
-use Rattle.gw_law.proofs.TxReadings.{readings}
+use Rattle.receiver_law.specs.Source.{CountsFrom, sessions_in}
+use Rattle.sender_law.specs.Transfer.{GoesOnWith, SendsFor, Tells, Transfer, TransferLaw, has_sent, transfer_of}
+use Rattle.receiver_law.proofs.Openings.{Entry, entries-are, entries_told, entry_told, openings, writing}
+use Rattle.hub_core.proofs.Sides.{cells_at-there}
+use Rattle.receiver_law.proofs.SourceLaws.{idle-of, source_law_of}
+use Rattle.receiver_law.proofs.Tellings.{TellsPut}
+use Rattle.sender_law.proofs.TxLaw.{law}
+use Rattle.sender_law.proofs.TxReadings.{readings}
 use Rattle.gw_base.proofs.Lists.{all-weaker, mapped-at, zip-all}
 
 -- the record that opened a session, its unit, and what it tells of it

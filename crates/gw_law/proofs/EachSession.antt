@@ -13,14 +13,14 @@ use Rattle.hub_core.specs.declared.record.SessionRecord.{SessionRecord}
 use Rattle.tp_receiver.specs.declared.set.RxSet.{RxSet}
 use Rattle.tp_sender.specs.declared.set.TxSet.{TxSet}
 use Rattle.gw_law.specs.Delivery.{AreOfEach, AreWholeRuns}
-use Rattle.gw_law.specs.Source.{CountsFrom, sessions_in}
-use Rattle.gw_law.specs.Transfer.{NumberedFrom}
-use Rattle.gw_law.proofs.Openings.{entries-are, entries_told, entry_told, writing}
-use Rattle.gw_law.proofs.SourceLaws.{source_law_of}
-use Rattle.gw_law.proofs.TxLaw.{so-far, world_of}
-use Rattle.gw_law.proofs.TxMoves.{lives-none}
-use Rattle.gw_law.proofs.TxReadings.{readings}
-use Rattle.gw_law.proofs.TxWorld.{SoFar}
+use Rattle.receiver_law.specs.Source.{CountsFrom, sessions_in}
+use Rattle.sender_law.specs.Transfer.{NumberedFrom}
+use Rattle.receiver_law.proofs.Openings.{entries-are, entries_told, entry_told, writing}
+use Rattle.receiver_law.proofs.SourceLaws.{source_law_of}
+use Rattle.sender_law.proofs.TxLaw.{so-far, world_of}
+use Rattle.sender_law.proofs.TxMoves.{lives-none}
+use Rattle.sender_law.proofs.TxReadings.{readings}
+use Rattle.sender_law.proofs.TxWorld.{SoFar}
 
 -- lists that count from the same number are the same where they are as long
 same-numbers : (first : ℕ) (records : List DestRecord) (numbers : List ℕ) → NumberedFrom first records → CountsFrom first numbers → length records ≡ length numbers → map (λ (told : DestRecord). told.seq) records ≡ numbers

@@ -8,7 +8,7 @@ use Rattle.std.proofs.lemmas.Nat.{pow_pos}
 use Rattle.std.proofs.lemmas.Nat.Bits.{and_pow, bit_at-lt, bit_at-pow_other, bit_at-pow_same, bit_at_ones, bit_at_xor}
 use Rattle.hub_core.specs.declared.record.Move.{Move}
 use Rattle.gw_law.specs.Pool.{Channel, AreFreed, AreNamed, IsLawfulMove, IsReplayed, MovesBuf, free_after, free_at, move_numbered}
-use Rattle.gw_law.specs.Source.{CountsFrom}
+use Rattle.receiver_law.specs.Source.{CountsFrom}
 
 -- a bit is set where its digit is 1
 is-one : (n k : ℕ) → IsBitSet n k → bit_at n k ≡ 1

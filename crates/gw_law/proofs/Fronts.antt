@@ -1,7 +1,8 @@
 -- A run's works up to a tick: what came and what left up to then is a front of all that came and left.
 use Rattle.std.proofs.Common.{◌≡◌, ℕ, ◌+◌, ◌<◌, ◌≤◌, inl, inr, Option, Some, None, List, [], ◌∷◌, ◌++◌, refl, ap, sym, ◌∙◌, subst, arith, append-nil, append_assoc}
 use Rattle.tp_sender.specs.State.{TxTurn}
-use Rattle.tp_sender.specs.Runs.{Written, box_after, left_by, written_at}
+use Rattle.tp_unit.specs.Box.{Written}
+use Rattle.tp_sender.specs.Runs.{box_after, left_by, written_at}
 use Rattle.tp_receiver.specs.State.{RxEvent, Came, Timer, FcLeft, RunEnd, RxTurn}
 use Rattle.hub_core.specs.Turns.{came_by, records_by}
 use Rattle.tp_receiver.specs.Runs.{frames_in}
@@ -14,8 +15,11 @@ use Rattle.tp_sender.specs.declared.event.TxEvent.{TxEvent}
 use Rattle.tp_sender.specs.declared.event.TxEvent.TheVariants.{Turn, Fc, Left, RunEnd}
 use Rattle.tp_unit.specs.declared.shape.Shape.{Shape}
 use Rattle.tp_unit.specs.Unit.{Meaning}
-use Rattle.gw_law.specs.Run.{AnswersIn, AreTicks, CameIn, ControlLeaves, EndsReceiving, FrameLeaves, IsAnswerIn, IsStepIn, ReceivesIn, SendsIn, Work, control_after, moments_of, tick_after, turns_of}
-use Rattle.gw_law.proofs.Origins.{InTicks}
+use Rattle.sender_law.specs.Parts.{AnswersIn, FrameLeaves, IsAnswerIn, IsStepIn, SendsIn}
+use Rattle.gw_law.specs.Run.{AreTicks, Work, moments_of, tick_after, turns_of}
+use Rattle.receiver_law.specs.Parts.{CameIn, ControlLeaves, EndsReceiving, ReceivesIn}
+use Rattle.tp_receiver.specs.Runs.{control_after}
+use Rattle.sender_law.proofs.Origins.{InTicks}
 use Rattle.gw_law.proofs.Wholes.{AsFar, as-far, as-far-whole}
 use Rattle.gw_base.proofs.Lists.{all-join, all-weaker}
 use Rattle.gw_law.proofs.WholeRun.{WholeRun, works_of}

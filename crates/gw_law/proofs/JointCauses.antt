@@ -29,17 +29,18 @@ use Rattle.tp_unit.specs.declared.shape.Shape.{Shape}
 use Rattle.tp_unit.proofs.Sizes.{length-address, size_of}
 use Rattle.gw_law.specs.Delivery.{IsNamed, Names}
 use Rattle.gw_law.specs.JointCauses.{AreShort, AreUnread, HasLostSource, HasSeenFew, IsOwnEnd, IsShortBy, IsUnread, JointCauses, Lacks, LacksNext, LacksStart}
-use Rattle.gw_law.specs.Run.{EndsReceiving, Route, Work, moments_of, turns_of, view_of}
-use Rattle.gw_law.specs.Source.{SourceLaw, Tells, is_overflow}
+use Rattle.receiver_law.specs.Parts.{EndsReceiving}
+use Rattle.gw_law.specs.Run.{Route, Work, moments_of, turns_of, view_of}
+use Rattle.receiver_law.specs.Source.{SourceLaw, Tells, is_overflow}
 use Rattle.gw_law.specs.Timely.{delivery_of_route}
-use Rattle.gw_law.specs.Transfer.{NumberedFrom}
+use Rattle.sender_law.specs.Transfer.{NumberedFrom}
 use Rattle.gw_law.proofs.Fronts.{as-far-up-to, run-rising, run-timed, work-moments-in}
 use Rattle.gw_law.proofs.JointEnds.{IsOpenedBy, IsOther, LeftBefore, left-before, source-ended}
-use Rattle.gw_law.proofs.JointLists.{Has, InFirst, InNext, Joined, all-by, joined}
-use Rattle.gw_law.proofs.JointReadings.{IsParted, IsScant, IsWant, ShowsBy, WantsNext, WantsStart}
-use Rattle.gw_law.proofs.JointReceivers.{known-sessions}
-use Rattle.gw_law.proofs.JointSenders.{has_ended, known-readings}
-use Rattle.gw_law.proofs.JointSessions.{IsLeft, IsPut}
+use Rattle.hub_core.proofs.Changed.{Has, InFirst, InNext, Joined, all-by, joined}
+use Rattle.sender_law.proofs.JointReadings.{IsParted, IsScant, IsWant, ShowsBy, WantsNext, WantsStart}
+use Rattle.receiver_law.proofs.JointReceivers.{known-sessions}
+use Rattle.sender_law.proofs.JointSenders.{has_ended, known-readings}
+use Rattle.receiver_law.proofs.JointSessions.{IsLeft, IsPut}
 use Rattle.gw_law.proofs.JointTicks.{end-tells, moments-told}
 use Rattle.gw_law.proofs.JointWaits.{none-waits}
 use Rattle.gw_law.proofs.Timely.{timely}
@@ -117,12 +118,12 @@ told-so chan address functional seen records p session opened law is opened_is =
     record { unit = at.0; unit_is = at.1; whole = (at.2.whole no).1; all = (at.2.whole no).0 }
 
 -- what a session lacks whose source ended
-lost-by : (r : Route) (session : SessionRecord) (sent : ℕ) (ended : Bool) (m : Meets r.tx session sent SourceEnded ended) → IsShape r.tx.shape → m.reading.writer ≡ false → IsWant r.tx sent m.reading → Lacks r session sent × (session.bytes ≢ session.len)
+lost-by : (r : Route) (session : SessionRecord) (sent : ℕ) (ended : Bool) (m : Meets r.leg.tx session sent SourceEnded ended) → IsShape r.leg.tx.shape → m.reading.writer ≡ false → IsWant r.leg.tx sent m.reading → Lacks r session sent × (session.bytes ≢ session.len)
 lost-by r session sent ended m sound gone (WantsNext scant) =
     let bytes : session.bytes ≡ counted m.reading.cells = sym (m.gone gone) ∙ m.all scant.all in
-    let few : counted m.reading.cells < sent + part_after r.tx.shape session.len sent = subst (λ n. counted m.reading.cells < sent + part_after r.tx.shape n sent) m.len scant.few in
-    let most : sent + part_after r.tx.shape session.len sent ≤ session.len = part-most r.tx.shape session.len sent sound (omega (arith, scant.least, m.read, m.within)) in
-    let next : ℕ = part_after r.tx.shape session.len sent in
+    let few : counted m.reading.cells < sent + part_after r.leg.tx.shape session.len sent = subst (λ n. counted m.reading.cells < sent + part_after r.leg.tx.shape n sent) m.len scant.few in
+    let most : sent + part_after r.leg.tx.shape session.len sent ≤ session.len = part-most r.leg.tx.shape session.len sent sound (omega (arith, scant.least, m.read, m.within)) in
+    let next : ℕ = part_after r.leg.tx.shape session.len sent in
     (LacksNext (omega (arith, bytes, few)), λ all. omega (arith, bytes, few, most, all))
 lost-by r session sent ended m sound gone (WantsStart none_sent other few) =
     let less : session.bytes ≢ session.len = λ all. other (m.gone gone ∙ all ∙ sym m.len) in
@@ -140,7 +141,7 @@ source-lost o k told is how =
     let P : DestResult → Type 0 = λ h. Meets o.tx has.item told.sent h (has_ended (moments_of works)) in
     let m : Meets o.tx has.item told.sent SourceEnded (has_ended (moments_of works)) = subst P how (meets o.rx o.tx o.sizes works has.place k has.item opened told far has.there has.holds.0.1 is (sym has.holds.0.2)) in
     let source = route-source o in
-    let so : IsTold o.rx.functional r.seen has.place has.item = told-so o.rx.chan.0 o.rx.a o.rx.functional r.seen r.sessions has.place has.item opened source has.there has.holds.0.1 in
+    let so : IsTold o.rx.functional r.source.seen has.place has.item = told-so o.rx.chan.0 o.rx.a o.rx.functional r.source.seen r.source.sessions has.place has.item opened source has.there has.holds.0.1 in
     let lacks : Lacks r has.item told.sent × (has.item.bytes ≢ has.item.len) = lost-by r has.item told.sent (has_ended (moments_of works)) m o.run.shape m.shows.0 m.shows.1 in
     record {
       unit = so.unit;
@@ -157,7 +158,7 @@ seen-few o k told seen is how =
     let works : List Work = works_of o in
     let r : Route = route o in
     let far : AsFar o.rx o.tx o.sizes works = as-far-whole o in
-    let names : Names (delivery_of_route r) told = all-at (Names (delivery_of_route r)) r.dests k told (route-delivers o).names is in
+    let names : Names (delivery_of_route r) told = all-at (Names (delivery_of_route r)) r.leg.dests k told (route-delivers o).names is in
     let named : IsNamed (delivery_of_route r) told.seq names.unit names.session = names.named in
     let P : DestResult → Type 0 = λ h. Meets o.tx names.session told.sent h (has_ended (moments_of works)) in
     let m : Meets o.tx names.session told.sent (CsTimeout seen) (has_ended (moments_of works)) = subst P how (meets o.rx o.tx o.sizes works named.place k names.session named.opened told far named.session_is named.opened_is is (sym named.seq_is)) in
@@ -257,12 +258,12 @@ unread-opened o k session opened is how opened_is =
     let place : has.item.seq ≡ 0 + has.place = numbered-at 0 (records_by (moments_of works)) has.place has.item (route-delivers o).numbered told_is in
     let here : has.place ≡ opened.seq = omega (arith, place, has.holds.seq_is) in
     let source = route-source o in
-    let so : IsTold o.rx.functional r.seen k session = told-so o.rx.chan.0 o.rx.a o.rx.functional r.seen r.sessions k session opened source is opened_is in
+    let so : IsTold o.rx.functional r.source.seen k session = told-so o.rx.chan.0 o.rx.a o.rx.functional r.source.seen r.source.sessions k session opened source is opened_is in
     record {
       opened = opened;
       opened_is = opened_is;
       told = has.item;
-      told_is = ap (slice_get r.dests) (sym here) ∙ told_is;
+      told_is = ap (slice_get r.leg.dests) (sym here) ∙ told_is;
       seq_is = has.holds.seq_is;
       before = has.holds.before;
       cause = own-end o.tx session has.item.sent has.item.result (has_ended (moments_of works)) (meets o.rx o.tx o.sizes works k has.place session opened has.item far is opened_is told_is has.holds.seq_is)
@@ -279,9 +280,9 @@ pub route-unread : (o : WholeRun) → AreUnread (route o)
 route-unread o =
     let r : Route = route o in
     let source = route-source o in
-    all-by (λ (session : SessionRecord). session.result ≡ NoReaders → IsUnread r session) r.sessions
+    all-by (λ (session : SessionRecord). session.result ≡ NoReaders → IsUnread r session) r.source.sessions
     (λ k session is how.
-    let at = zip-back (Tells o.rx.chan.0 o.rx.a) (attempts_in o.rx.functional r.seen) r.sessions k session source.tells is in
+    let at = zip-back (Tells o.rx.chan.0 o.rx.a) (attempts_in o.rx.functional r.source.seen) r.source.sessions k session source.tells is in
     unread-by o k session session.opened is how refl (at.2.opens ∙ ap (λ h. not (is_overflow h)) how))
 
 -- all of them

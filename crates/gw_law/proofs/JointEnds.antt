@@ -20,17 +20,18 @@ use Rattle.tp_sender.specs.declared.event.TxEvent.{TxEvent}
 use Rattle.tp_sender.specs.declared.event.TxEvent.TheVariants.{Turn, Fc, Left, RunEnd as EndCame}
 use Rattle.tp_sender.specs.declared.set.TxSet.{TxSet}
 use Rattle.tp_unit.specs.Unit.{Meaning}
-use Rattle.gw_law.specs.Run.{AnswersIn, AreTicks, FrameLeaves, IsAnswerIn, IsStepIn, SendsIn, Work, moments_of, tick_after, turns_of, view_between, view_of}
-use Rattle.gw_law.specs.Source.{CountsFrom, sessions_in}
+use Rattle.sender_law.specs.Parts.{AnswersIn, FrameLeaves, IsAnswerIn, IsStepIn, SendsIn}
+use Rattle.gw_law.specs.Run.{AreTicks, Work, moments_of, tick_after, turns_of, view_between, view_of}
+use Rattle.receiver_law.specs.Source.{CountsFrom, sessions_in}
 use Rattle.gw_law.proofs.Fronts.{AreRising, IsTimed, TurnIn, WorkIn, moments-in, rises-below, turns-in}
-use Rattle.gw_law.proofs.JointLists.{Has, InFirst, InNext, Joined, has-more, joined}
-use Rattle.gw_law.proofs.JointReadings.{IsParted, ShowsBy}
-use Rattle.gw_law.proofs.JointReceivers.{known-sessions}
-use Rattle.gw_law.proofs.JointSenders.{ends_by, has_ended, known-readings}
-use Rattle.gw_law.proofs.JointSessions.{IsLeft, IsOpenedAs}
+use Rattle.hub_core.proofs.Changed.{Has, InFirst, InNext, Joined, has-more, joined}
+use Rattle.sender_law.proofs.JointReadings.{IsParted, ShowsBy}
+use Rattle.receiver_law.proofs.JointReceivers.{known-sessions}
+use Rattle.sender_law.proofs.JointSenders.{ends_by, has_ended, known-readings}
+use Rattle.receiver_law.proofs.JointSessions.{IsLeft, IsOpenedAs}
 use Rattle.gw_law.proofs.JointTicks.{moments-told, turns-told}
-use Rattle.gw_law.proofs.SoFars.{IsOver}
-use Rattle.gw_law.proofs.SourceLaws.{HoldsBy, holds}
+use Rattle.receiver_law.proofs.SoFars.{IsOver}
+use Rattle.receiver_law.proofs.SourceLaws.{HoldsBy, holds}
 use Rattle.gw_base.proofs.Lists.{all-at, all-join, slice_get-more}
 use Rattle.gw_law.proofs.Wholes.{AsFar, AsFarWithin}
 

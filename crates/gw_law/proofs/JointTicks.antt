@@ -18,7 +18,7 @@ use Rattle.tp_sender.specs.declared.event.TxEvent.TheVariants.{RunEnd}
 use Rattle.tp_sender.specs.declared.set.TxSet.{TxSet}
 use Rattle.tp_unit.specs.Unit.{BoxMeaning, Keeps, Offers, Meaning, SingleFrame, FirstFrame, ConsecutiveFrame, FlowControl, NoUnit}
 use Rattle.gw_law.proofs.Fronts.{TurnIn}
-use Rattle.gw_law.proofs.Origins.{Any, InTicks, IsToldBy, told-by}
+use Rattle.sender_law.proofs.Origins.{Any, InTicks, IsToldBy, told-by}
 use Rattle.gw_base.proofs.Lists.{all-join, all-weaker}
 
 -- the receiver's records

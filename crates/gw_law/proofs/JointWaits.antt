@@ -1,6 +1,6 @@
 -- No destination waits longer for the next frame's bytes than its limit.
 use Rattle.std.proofs.Common.{◌≡◌, ℕ, ◌+◌, ◌-◌, ◌<◌, ◌≤◌, Bool, true, false, ◌&&◌, ◌==◌, if◌then◌else◌, nat_le, Option, Some, None, List, [], ◌∷◌, ◌++◌, length, map, take, min, inl, inr, refl, ap, sym, ◌∙◌, subst, arith, append-nil}
-use Rattle.tp_sender.specs.Runs.{Answer, Written}
+use Rattle.tp_unit.specs.Box.{Answer, Written}
 use Rattle.std.specs.Prelude.{filter, fold, nat_lt, slice_get}
 use Rattle.std.specs.List.{AllByRecursion}
 use Rattle.std.proofs.lemmas.Bool.{cases_lt}
@@ -25,13 +25,14 @@ use Rattle.tp_unit.specs.declared.shape.Shape.{Shape}
 use Rattle.gw_law.specs.Delivery.{Delivers, DeliveryLaw, IsNamed}
 use Rattle.gw_law.specs.JointCauses.{EndsInTime, NoneWaitsTooLong, WaitsTooLong, came_by, left_before}
 use Rattle.gw_law.specs.Run.{Route}
-use Rattle.gw_law.specs.Source.{SourceLaw, Tells}
-use Rattle.gw_law.specs.Timely.{IsOfChannel, IsTimely, TimelyLaw, bytes_to, delivery_of_route}
-use Rattle.gw_law.specs.Transfer.{Paced, Permits, Spaced, answer_after, has_sent, seen_of}
-use Rattle.gw_law.specs.TransmissionCauses.{IsCausedWith, IsLate, TransmissionCauses, left_in, left_up_to}
+use Rattle.receiver_law.specs.Source.{SourceLaw, Tells}
+use Rattle.sender_law.specs.Channel.{IsOfChannel}
+use Rattle.gw_law.specs.Timely.{IsTimely, TimelyLaw, bytes_to, delivery_of_route}
+use Rattle.sender_law.specs.Transfer.{Paced, Permits, Spaced, answer_after, has_sent, seen_of}
+use Rattle.sender_law.specs.TransmissionCauses.{IsCausedWith, IsLate, TransmissionCauses, left_in, left_up_to}
 use Rattle.gw_law.proofs.JointEnds.{once}
 use Rattle.gw_law.proofs.Pieces.{CutIn, bytes-most, cuts-in}
-use Rattle.gw_law.proofs.TxCausesLists.{answer-above, left-all}
+use Rattle.sender_law.proofs.TxCausesLists.{answer-above, left-all}
 use Rattle.gw_base.proofs.Lists.{all-at, all-map, all-weaker, zip-index, zip-pair}
 use Rattle.tp_attempts.proofs.Cuts.{cuts-starts}
 
@@ -246,50 +247,50 @@ part-same cap other len start sent part bytes part_is bytes_are le same = elim (
 
 -- what is known of a transmission and of the unit that its record names
 record Sending (r : Route) (unit cut : Cut Seen) (session : SessionRecord) (told : DestRecord) : Type 0 where
-  sound : IsShape r.tx.shape
-  caused : IsCausedWith r cut told
-  timely : (tick : ℕ) → bytes_to tick (walk_of (address_size r.tx.shape) cut).pieces ≤ bytes_to tick (walk_of r.rx.a unit).pieces
-  start : (0 < length (bytes_of cut.start.meaning)) × (length (bytes_of cut.start.meaning) < len_of cut.start.meaning → cut.start.size ≡ r.tx.shape.dl)
+  sound : IsShape r.leg.tx.shape
+  caused : IsCausedWith r.leg cut told
+  timely : (tick : ℕ) → bytes_to tick (walk_of (address_size r.leg.tx.shape) cut).pieces ≤ bytes_to tick (walk_of r.source.rx.a unit).pieces
+  start : (0 < length (bytes_of cut.start.meaning)) × (length (bytes_of cut.start.meaning) < len_of cut.start.meaning → cut.start.size ≡ r.leg.tx.shape.dl)
   len : len_of cut.start.meaning ≡ session.len
-  put : length (joined (walk_of (address_size r.tx.shape) cut).pieces) ≤ session.bytes
-  ordered : Ordered (walk_of (address_size r.tx.shape) cut).pieces
-  begins : AllByRecursion (λ (p : Piece). told.begin.0 ≤ p.at) (walk_of (address_size r.tx.shape) cut).pieces
+  put : length (joined (walk_of (address_size r.leg.tx.shape) cut).pieces) ≤ session.bytes
+  ordered : Ordered (walk_of (address_size r.leg.tx.shape) cut).pieces
+  begins : AllByRecursion (λ (p : Piece). told.begin.0 ≤ p.at) (walk_of (address_size r.leg.tx.shape) cut).pieces
 
 -- no frame leaves in the tick
-late-none : (r : Route) (unit cut : Cut Seen) (session : SessionRecord) (told : DestRecord) (tick : ℕ) (split : SplitAt tick (walk_of (address_size r.tx.shape) cut).pieces) → Sending r unit cut session told → AllByRecursion (λ (p : Piece). tick < p.at) split.later → tick < told.end.0 →
-    WaitsTooLong r unit session told.begin.0 (walk_of (address_size r.tx.shape) cut).pieces tick → ⊥
+late-none : (r : Route) (unit cut : Cut Seen) (session : SessionRecord) (told : DestRecord) (tick : ℕ) (split : SplitAt tick (walk_of (address_size r.leg.tx.shape) cut).pieces) → Sending r unit cut session told → AllByRecursion (λ (p : Piece). tick < p.at) split.later → tick < told.end.0 →
+    WaitsTooLong r unit session told.begin.0 (walk_of (address_size r.leg.tx.shape) cut).pieces tick → ⊥
 late-none r unit cut session told tick split so above below waits =
-    let pieces : List Piece = (walk_of (address_size r.tx.shape) cut).pieces in
+    let pieces : List Piece = (walk_of (address_size r.leg.tx.shape) cut).pieces in
     let before : left_before tick pieces ≡ split.early = before-is tick pieces split in
     let some : 0 < length split.early = omega (arith, waits.started, ap length before) in
-    let same : map (λ (p : Piece). p.at) (left_before tick pieces) ≡ left_up_to tick (left_in (address_size r.tx.shape) cut) = ap (map (λ (p : Piece). p.at)) before ∙ sym (none-now tick pieces split.early split.later split.is split.below above) in
+    let same : map (λ (p : Piece). p.at) (left_before tick pieces) ≡ left_up_to tick (left_in (address_size r.leg.tx.shape) cut) = ap (map (λ (p : Piece). p.at)) before ∙ sym (none-now tick pieces split.early split.later split.is split.below above) in
     let P : List Piece → Type 0 = λ l. AllByRecursion (λ (p : Piece). told.begin.0 ≤ p.at) l in
     let begun : told.begin.0 ≤ tick = begins-below told.begin.0 tick split.early split.later some split.below (subst P split.is so.begins) in
-    let Q : List ℕ → Type 0 = λ l. IsLate r.tx.n_cs r.answers told.begin.0 l tick in
+    let Q : List ℕ → Type 0 = λ l. IsLate r.leg.tx.n_cs r.leg.answers told.begin.0 l tick in
     (so.caused.in_time tick begun below).leaves (omega (arith, some, ap length (sym same), length-map (left_before tick pieces) (λ (p : Piece). p.at), ap length before)) (subst Q same waits.late)
 
 -- a frame leaves in the tick
-late-one : (r : Route) (unit cut : Cut Seen) (session : SessionRecord) (told : DestRecord) (tick : ℕ) (split : SplitAt tick (walk_of (address_size r.tx.shape) cut).pieces) (piece : Piece) (rest : List Piece) → Sending r unit cut session told → split.later ≡ piece ∷ rest → piece.at ≤ tick →
-    WaitsTooLong r unit session told.begin.0 (walk_of (address_size r.tx.shape) cut).pieces tick → ⊥
+late-one : (r : Route) (unit cut : Cut Seen) (session : SessionRecord) (told : DestRecord) (tick : ℕ) (split : SplitAt tick (walk_of (address_size r.leg.tx.shape) cut).pieces) (piece : Piece) (rest : List Piece) → Sending r unit cut session told → split.later ≡ piece ∷ rest → piece.at ≤ tick →
+    WaitsTooLong r unit session told.begin.0 (walk_of (address_size r.leg.tx.shape) cut).pieces tick → ⊥
 late-one r unit cut session told tick split piece rest so later now waits =
-    let address : ℕ = address_size r.tx.shape in
+    let address : ℕ = address_size r.leg.tx.shape in
     let w : Walk = walk_of address cut in
     let before : left_before tick w.pieces ≡ split.early = before-is tick w.pieces split in
     let some : 0 < length split.early = omega (arith, waits.started, ap length before) in
     let is : w.pieces ≡ split.early ++ piece ∷ rest = split.is ∙ ap (λ l. split.early ++ l) later in
     let sizes = next-part address cut.start.size (len_of cut.start.meaning) (bytes_of cut.start.meaning) w split.early piece rest (sized-walk address cut) is some in
-    let same : length piece.bytes ≡ part_after r.tx.shape (len_of cut.start.meaning) (length (joined split.early)) =
-    part-same (r.tx.shape.dl - 1 - address_size r.tx.shape) (cut.start.size - 1 - address_size r.tx.shape) (len_of cut.start.meaning) (length (bytes_of cut.start.meaning)) (length (joined split.early)) _ (length piece.bytes)
-    (part-next r.tx.shape (len_of cut.start.meaning) (length (joined split.early)) (omega (arith, so.start.0, sizes.0))) sizes.1 sizes.0 (λ more. ap (λ s. s - 1 - address_size r.tx.shape) (so.start.1 more)) in
+    let same : length piece.bytes ≡ part_after r.leg.tx.shape (len_of cut.start.meaning) (length (joined split.early)) =
+    part-same (r.leg.tx.shape.dl - 1 - address_size r.leg.tx.shape) (cut.start.size - 1 - address_size r.leg.tx.shape) (len_of cut.start.meaning) (length (bytes_of cut.start.meaning)) (length (joined split.early)) _ (length piece.bytes)
+    (part-next r.leg.tx.shape (len_of cut.start.meaning) (length (joined split.early)) (omega (arith, so.start.0, sizes.0))) sizes.1 sizes.0 (λ more. ap (λ s. s - 1 - address_size r.leg.tx.shape) (so.start.1 more)) in
     let came : ℕ = came_by r unit session tick in
     let few : came_by r unit session tick < length (joined split.early) + length piece.bytes =
     subst (λ n. came_by r unit session tick < length (joined split.early) + n) (sym same)
-    (subst (λ n. came_by r unit session tick < length (joined split.early) + part_after r.tx.shape n (length (joined split.early))) (sym so.len)
-    (subst (λ l. came_by r unit session tick < length (joined l) + part_after r.tx.shape session.len (length (joined l))) before waits.lacks)) in
+    (subst (λ n. came_by r unit session tick < length (joined split.early) + part_after r.leg.tx.shape n (length (joined split.early))) (sym so.len)
+    (subst (λ l. came_by r unit session tick < length (joined l) + part_after r.leg.tx.shape session.len (length (joined l))) before waits.lacks)) in
     omega (arith, few, so.timely tick, ap (bytes_to tick) is, one-now tick split.early piece rest split.below now, bytes-most tick w.pieces, so.put)
 
-late-by : (r : Route) (unit cut : Cut Seen) (session : SessionRecord) (told : DestRecord) (tick : ℕ) (split : SplitAt tick (walk_of (address_size r.tx.shape) cut).pieces) (later : List Piece) → Sending r unit cut session told → split.later ≡ later → tick < told.end.0 →
-    WaitsTooLong r unit session told.begin.0 (walk_of (address_size r.tx.shape) cut).pieces tick → ⊥
+late-by : (r : Route) (unit cut : Cut Seen) (session : SessionRecord) (told : DestRecord) (tick : ℕ) (split : SplitAt tick (walk_of (address_size r.leg.tx.shape) cut).pieces) (later : List Piece) → Sending r unit cut session told → split.later ≡ later → tick < told.end.0 →
+    WaitsTooLong r unit session told.begin.0 (walk_of (address_size r.leg.tx.shape) cut).pieces tick → ⊥
 late-by r unit cut session told tick split [] so is below waits =
     let P : List Piece → Type 0 = λ l. AllByRecursion (λ (p : Piece). tick < p.at) l in
     late-none r unit cut session told tick split so (subst P (sym is) tt) below waits
@@ -304,36 +305,36 @@ late-by r unit cut session told tick split (piece ∷ rest) so is below waits = 
 -- a unit and a session that a number names are the only ones, of one length
 named-once : (r : Route) (seq : ℕ) (unit other : Cut Seen) (session also : SessionRecord) → DeliveryLaw (delivery_of_route r) → IsNamed (delivery_of_route r) seq unit session → IsNamed (delivery_of_route r) seq other also → (unit ≡ other) × (session ≡ also)
 named-once r seq unit other session also law one two =
-    let same : one.place ≡ two.place = once 0 r.sessions one.place two.place session also one.opened two.opened law.sessions one.session_is two.session_is one.opened_is two.opened_is (one.seq_is ∙ sym two.seq_is) in
-    let units : Some unit ≡ Some other = sym one.unit_is ∙ ap (slice_get (attempts_in r.rx.functional r.seen)) same ∙ two.unit_is in
-    let sessions : Some session ≡ Some also = sym one.session_is ∙ ap (slice_get r.sessions) same ∙ two.session_is in
+    let same : one.place ≡ two.place = once 0 r.source.sessions one.place two.place session also one.opened two.opened law.sessions one.session_is two.session_is one.opened_is two.opened_is (one.seq_is ∙ sym two.seq_is) in
+    let units : Some unit ≡ Some other = sym one.unit_is ∙ ap (slice_get (attempts_in r.source.rx.functional r.source.seen)) same ∙ two.unit_is in
+    let sessions : Some session ≡ Some also = sym one.session_is ∙ ap (slice_get r.source.sessions) same ∙ two.session_is in
     (cc, cc)
 
-len-named : (r : Route) (seq : ℕ) (unit : Cut Seen) (session : SessionRecord) → SourceLaw r.rx.chan.0 r.rx.a r.rx.functional r.seen r.sessions → IsNamed (delivery_of_route r) seq unit session → session.len ≡ len_of unit.start.meaning
-len-named r seq unit session law named = (zip-pair (Tells r.rx.chan.0 r.rx.a) (attempts_in r.rx.functional r.seen) r.sessions named.place unit session law.tells named.unit_is named.session_is).len
+len-named : (r : Route) (seq : ℕ) (unit : Cut Seen) (session : SessionRecord) → SourceLaw r.source.rx.chan.0 r.source.rx.a r.source.rx.functional r.source.seen r.source.sessions → IsNamed (delivery_of_route r) seq unit session → session.len ≡ len_of unit.start.meaning
+len-named r seq unit session law named = (zip-pair (Tells r.source.rx.chan.0 r.source.rx.a) (attempts_in r.source.rx.functional r.source.seen) r.source.sessions named.place unit session law.tells named.unit_is named.session_is).len
 
 -- by the laws of the source, of a destination's ends, of time and of delivery
-pub none-waits : (r : Route) → IsShape r.tx.shape → SourceLaw r.rx.chan.0 r.rx.a r.rx.functional r.seen r.sessions → TransmissionCauses r → TimelyLaw r → DeliveryLaw (delivery_of_route r) → NoneWaitsTooLong r
+pub none-waits : (r : Route) → IsShape r.leg.tx.shape → SourceLaw r.source.rx.chan.0 r.source.rx.a r.source.rx.functional r.source.seen r.source.sessions → TransmissionCauses r.leg → TimelyLaw r → DeliveryLaw (delivery_of_route r) → NoneWaitsTooLong r
 none-waits r sound source causes timely law =
     let frames : List Seen = (delivery_of_route r).frames in
-    let starts = cuts-in (IsStartOf r.tx.shape) (λ (s : Seen). is_start false s.meaning) frames (all-map (IsStartOf r.tx.shape) (seen_of (address_size r.tx.shape)) r.frames (all-weaker (IsOfChannel r.tx.shape) (λ w. IsStartOf r.tx.shape (seen_of (address_size r.tx.shape) w)) r.frames (λ w own. start-of r.tx.shape w sound own) timely.own)) in
+    let starts = cuts-in (IsStartOf r.leg.tx.shape) (λ (s : Seen). is_start false s.meaning) frames (all-map (IsStartOf r.leg.tx.shape) (seen_of (address_size r.leg.tx.shape)) r.leg.frames (all-weaker (IsOfChannel r.leg.tx.shape) (λ w. IsStartOf r.leg.tx.shape (seen_of (address_size r.leg.tx.shape) w)) r.leg.frames (λ w own. start-of r.leg.tx.shape w sound own) timely.own)) in
     let begin = cuts-starts (λ (s : Seen). is_start false s.meaning) frames in
-    zip-index (Delivers (delivery_of_route r)) (EndsInTime r) (attempts_in false frames) (filter has_sent r.dests) (λ k cut told cut_is told_is delivers unit session named tick below waits.
-    let caused = zip-pair (IsCausedWith r) (attempts_in false frames) (filter has_sent r.dests) k cut told causes.sent cut_is told_is in
-    let time = zip-pair (IsTimely (delivery_of_route r)) (attempts_in false frames) (filter has_sent r.dests) k cut told timely.timely cut_is told_is in
-    let start = all-at (CutIn (IsStartOf r.tx.shape)) (attempts_in false frames) k cut starts cut_is in
+    zip-index (Delivers (delivery_of_route r)) (EndsInTime r) (attempts_in false frames) (filter has_sent r.leg.dests) (λ k cut told cut_is told_is delivers unit session named tick below waits.
+    let caused = zip-pair (IsCausedWith r.leg) (attempts_in false frames) (filter has_sent r.leg.dests) k cut told causes.sent cut_is told_is in
+    let time = zip-pair (IsTimely (delivery_of_route r)) (attempts_in false frames) (filter has_sent r.leg.dests) k cut told timely.timely cut_is told_is in
+    let start = all-at (CutIn (IsStartOf r.leg.tx.shape)) (attempts_in false frames) k cut starts cut_is in
     let is_so = all-at (λ (c : Cut Seen). is_start false c.start.meaning ≡ true) (attempts_in false frames) k cut begin cut_is in
     let same : (delivers.names.unit ≡ unit) × (delivers.names.session ≡ session) = named-once r told.seq delivers.names.unit unit delivers.names.session session law delivers.names.named named in
-    let ordered : Ordered (walk_of (address_size r.tx.shape) cut).pieces = paced-ordered r.answers (walk_of (address_size r.tx.shape) cut).pieces delivers.paced in
+    let ordered : Ordered (walk_of (address_size r.leg.tx.shape) cut).pieces = paced-ordered r.leg.answers (walk_of (address_size r.leg.tx.shape) cut).pieces delivers.paced in
     let so : Sending r unit cut session told = record {
       sound = sound;
       caused = caused;
       timely = time unit session named;
       start = start.0 is_so;
       len = delivers.len ∙ ap (λ (c : Cut Seen). len_of c.start.meaning) same.0 ∙ sym (len-named r told.seq unit session source named);
-      put = omega (arith, ap length delivers.bytes, length-take told.sent (reassembled r.rx.a delivers.names.unit), delivers.within, ap (λ (s : SessionRecord). s.bytes) same.1);
+      put = omega (arith, ap length delivers.bytes, length-take told.sent (reassembled r.source.rx.a delivers.names.unit), delivers.within, ap (λ (s : SessionRecord). s.bytes) same.1);
       ordered = ordered;
-      begins = all-weaker (λ (p : Piece). (told.begin.0 ≤ p.at) × (p.at ≤ told.end.0)) (λ (p : Piece). told.begin.0 ≤ p.at) (walk_of (address_size r.tx.shape) cut).pieces (λ p both. both.0) delivers.ticks;
+      begins = all-weaker (λ (p : Piece). (told.begin.0 ≤ p.at) × (p.at ≤ told.end.0)) (λ (p : Piece). told.begin.0 ≤ p.at) (walk_of (address_size r.leg.tx.shape) cut).pieces (λ p both. both.0) delivers.ticks;
     } in
-    let split : SplitAt tick (walk_of (address_size r.tx.shape) cut).pieces = split-at tick (walk_of (address_size r.tx.shape) cut).pieces ordered in
+    let split : SplitAt tick (walk_of (address_size r.leg.tx.shape) cut).pieces = split-at tick (walk_of (address_size r.leg.tx.shape) cut).pieces ordered in
     late-by r unit cut session told tick split split.later so refl below waits) law.delivers

@@ -1,7 +1,7 @@
 -- What a run tells keeps all laws.
 use Rattle.std.proofs.Common.{ℕ, List}
 use Rattle.gw_law.specs.Lawful.{Lawful}
-use Rattle.gw_law.specs.ReceptionCauses.{IsSmall}
+use Rattle.gw_law.specs.Small.{IsSmall}
 use Rattle.gw_law.specs.Run.{HasLawfulLimits, IsRun, Work, route_of}
 use Rattle.gw_law.proofs.Emission.{bus_law_of}
 use Rattle.gw_law.proofs.FlowControls.{flow_control_law_of}

@@ -21,9 +21,9 @@ use Rattle.gw_law.specs.Pool.{AreAllOver, AreAllUsed, IsIn, IsPoolRun, Source}
 use Rattle.gw_law.specs.PoolOfRoute.{PoolOf}
 use Rattle.gw_law.specs.Run.{Work, moments_of, turns_of, view_between, view_of}
 use Rattle.gw_law.proofs.Pools.{named_of, pool_ends_of, pool_law_of}
-use Rattle.gw_law.proofs.Standing.{IsUsed, Stands, takes_of}
-use Rattle.gw_law.proofs.StandingReader.{moments-step, session_of as sent_session}
-use Rattle.gw_law.proofs.StandingWriter.{session_of, turns-step}
+use Rattle.hub_core.proofs.Standing.{IsUsed, Stands, takes_of}
+use Rattle.sender_law.proofs.StandingReader.{moments-step, session_of as sent_session}
+use Rattle.receiver_law.proofs.StandingWriter.{session_of, turns-step}
 use Rattle.gw_law.proofs.Wholes.{sessions-own}
 use Rattle.gw_base.proofs.Lists.{all-join, mapped-at, slice_get-more}
 use Rattle.gw_law.proofs.WholeRun.{WholeRun, route, works_of}

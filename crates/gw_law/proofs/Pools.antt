@@ -27,11 +27,11 @@ use Rattle.tp_attempts.specs.Seen.{Seen, is_start}
 use Rattle.tp_attempts.proofs.Cuts.{cuts-begin, cuts-grow, grow, grow_after}
 use Rattle.tp_receiver.specs.declared.set.RxSet.{RxSet}
 use Rattle.gw_law.specs.Pool.{AreAllOver, AreAllUsed, AreFreed, AreNamed, Asks, Channel, IsIn, IsLawfulMove, IsNextMove, IsOpened, IsPoolRun, IsRefused, IsServed, IsUnnamed, IsWholeRun, MovesBuf, NamesTake, PoolEnds, PoolLaw, Source, channel_of, free_after, free_at, freeing, move_numbered, need_of, taking}
-use Rattle.gw_law.specs.Source.{CountsFrom, Tells, is_overflow, sessions_in}
+use Rattle.receiver_law.specs.Source.{CountsFrom, Tells, is_overflow, sessions_in}
 use Rattle.gw_law.proofs.Deliveries.{find}
 use Rattle.gw_law.proofs.FreeSets.{whole-again}
-use Rattle.gw_law.proofs.Openings.{Denied, Entry, Granted, Outcome, entries-are, entries_told, entry_told, need_by, need_in, needs_by, openings, outcome_by, outcome_going, outcome_of, outcome_told, writing}
-use Rattle.gw_law.proofs.SourceLaws.{source_law_of}
+use Rattle.receiver_law.proofs.Openings.{Denied, Entry, Granted, Outcome, entries-are, entries_told, entry_told, need_by, need_in, needs_by, openings, outcome_by, outcome_going, outcome_of, outcome_told, writing}
+use Rattle.receiver_law.proofs.SourceLaws.{source_law_of}
 use Rattle.gw_base.proofs.Lists.{mapped-at, zip-both}
 
 -- the moves of changes, by their numbers

@@ -1,152 +1,31 @@
 -- Each record of the source channel's receptions comes of its cause, in every run.
-use Rattle.std.proofs.Common.{◌≡◌, ℕ, ◌+◌, ◌≤◌, inl, inr, Option, Some, None, List, [], ◌∷◌, ◌++◌, zero, suc, refl, ap, sym, ◌∙◌, subst, arith, append-nil}
-use Rattle.tp_sender.specs.Runs.{Written}
-use Rattle.tp_receiver.specs.State.{Reception, RxEvent, RxDid, RunEnd, RxTurn, rx_new}
-use Rattle.tp_receiver.specs.Table.{ended, EndRow, RxStep, continue_to_send}
+use Rattle.std.proofs.Common.{◌≡◌, ℕ, ◌≤◌, inl, inr, List, [], ◌∷◌, ◌++◌, ap, sym, ◌∙◌, subst, append-nil}
+use Rattle.tp_unit.specs.Box.{Written}
+use Rattle.tp_receiver.specs.State.{RxEvent, RunEnd, RxTurn, rx_new}
+use Rattle.tp_receiver.specs.Table.{RxStep}
 use Rattle.tp_receiver.specs.Runs.{HasReceived, frames_in}
 use Rattle.hub_core.specs.Turns.{now_of, came_by, state_after, records_by}
-use Rattle.std.specs.Prelude.{slice_get}
 use Rattle.std.specs.List.{AllByRecursion, AllZip}
-use Rattle.std.proofs.lemmas.Bool.{cases_lt}
-use Rattle.hub_core.specs.declared.record.RxLimit.TheVariants.{Box as BoxLimit, Cf as CfLimit}
-use Rattle.hub_core.specs.declared.record.RxWait.{RxWait}
-use Rattle.hub_core.specs.declared.record.RxWait.TheVariants.{Box, Room, Cf}
 use Rattle.hub_core.specs.declared.record.SessionRecord.{SessionRecord}
-use Rattle.hub_core.specs.declared.record.SessionResult.{SessionResult}
-use Rattle.hub_core.specs.declared.record.SessionResult.TheVariants.{Whole, Overflow, WrongSn, RxTimeout, Restarted, NoRoom, WaitOver, NoReaders, Cancelled, RunEnd}
+use Rattle.hub_core.specs.declared.record.SessionResult.TheVariants.{RunEnd}
 use Rattle.tp_attempts.specs.Attempts.{attempts_in}
-use Rattle.tp_attempts.specs.Cuts.{Cut}
 use Rattle.tp_attempts.specs.Seen.{Seen}
-use Rattle.tp_attempts.specs.Walk.{Piece, last_place, walk_of}
-use Rattle.tp_attempts.proofs.Walks.{last_place-more}
-use Rattle.tp_receiver.specs.declared.set.RxSet.{RxSet}
 use Rattle.tp_unit.specs.Shape.{IsShape, address_size}
-use Rattle.tp_unit.specs.Unit.{Meaning}
-use Rattle.gw_law.specs.ReceptionCauses.{AreCaused, AreNeverBoxed, HasCause, HasRoom, IsCaused, IsNeverBoxed, IsShortStart, IsSmall, LetGoIn, StillWaits}
-use Rattle.gw_law.specs.Run.{EndsReceiving, Route, control_after, control_at, controls_by, tick_after, turns_of}
-use Rattle.gw_law.specs.Source.{Tells}
-use Rattle.gw_law.proofs.RxCauses.{IsGoing, all-late, SoBy, WaitsSo, so_far}
+use Rattle.receiver_law.specs.ReceptionCauses.{AreCaused, AreNeverBoxed, IsCaused, IsNeverBoxed, IsShortStart}
+use Rattle.gw_law.specs.Small.{IsSmall}
+use Rattle.receiver_law.specs.Parts.{EndsReceiving}
+use Rattle.gw_law.specs.Run.{tick_after, turns_of}
+use Rattle.tp_receiver.specs.Runs.{control_after, control_at, controls_by}
+use Rattle.receiver_law.proofs.RxCauses.{SoBy, so_far}
 use Rattle.gw_law.proofs.RxLooks.{all-look}
-use Rattle.gw_law.proofs.RxRooms.{rooms}
-use Rattle.gw_law.proofs.RxSettled.{AreSettled, Comes, IsLast, IsSettled, starts_of}
-use Rattle.gw_law.proofs.RxTicks.{AreOver, ordered, over_of}
-use Rattle.gw_law.proofs.SourceLaws.{source_law_of}
-use Rattle.gw_base.proofs.Lists.{none-some, zip-push}
+use Rattle.receiver_law.proofs.RxRooms.{rooms}
+use Rattle.receiver_law.proofs.RxTicks.{AreOver, over_of}
+use Rattle.receiver_law.proofs.SourceLaws.{source_law_of}
+use Rattle.gw_base.proofs.Lists.{none-some}
 use Rattle.gw_law.proofs.WholeRun.{WholeRun, route, works_of}
-
-last-is : (begin at : ℕ) (pieces : List Piece) → IsLast at pieces → last_place begin pieces ≡ at
-last-is begin at pieces last = ap (last_place begin) last.are ∙ last_place-more begin last.front last.piece ∙ last.at_is
-
--- the record of the start in a place begins with it
-record BeginsThere (records : List SessionRecord) (place tick : ℕ) : Type 0 where
-  pub next : SessionRecord
-  pub is : slice_get records place ≡ Some next
-  pub begins : next.begin.0 ≡ tick
-
-begins-there : (chan address : ℕ) (attempts : List (Cut Seen)) (records : List SessionRecord) (place tick : ℕ) → AllZip (Tells chan address) attempts records → slice_get (starts_of attempts) place ≡ Some tick → BeginsThere records place tick
-begins-there chan address [] records place tick tells is = cc
-begins-there chan address (attempt ∷ attempts) [] place tick tells is = absurd tells
-begins-there chan address (attempt ∷ attempts) (told ∷ records) zero tick tells is = let same : attempt.start.at ≡ tick = cc in record { next = told; is = refl; begins = tells.0.begin ∙ same }
-begins-there chan address (attempt ∷ attempts) (told ∷ records) (suc place) tick tells is =
-    let there : BeginsThere records place tick = begins-there chan address attempts records place tick tells.1 is in
-    record { next = there.next; is = there.is; begins = there.begins }
-
--- a record that was told before the run's end
-cause-by : (r : Route) (over : ℕ) (attempt : Cut Seen) (told : SessionRecord) (how : SessionResult) → AllZip (Tells r.rx.chan.0 r.rx.a) (attempts_in r.rx.functional r.seen) r.sessions → told.result ≡ how → Comes how → HasRoom how →
-    IsSettled r.rx (address_size r.shape) r.controls over (starts_of (attempts_in r.rx.functional r.seen)) attempt told → HasCause r attempt told how
-cause-by r over attempt told Whole tells is comes room_is so = sym (last-is told.begin.0 told.end.0 (walk_of r.rx.a attempt).pieces (so.whole is).0)
-cause-by r over attempt told (Overflow change free need) tells is comes room_is so = tt
-cause-by r over attempt told (WrongSn want got) tells is comes room_is so = tt
-cause-by r over attempt told (RxTimeout BoxLimit) tells is comes room_is so = cc
-cause-by r over attempt told (RxTimeout CfLimit) tells is comes room_is so =
-    let late = so.late is in record { at = told.begin.0; from = omega arith; left = late.left; limit = late.limit; silent = late.silent }
-cause-by r over attempt told Restarted tells is comes room_is so =
-    let there : BeginsThere r.sessions (told.n + 1) told.end.0 = begins-there r.rx.chan.0 r.rx.a (attempts_in r.rx.functional r.seen) r.sessions (told.n + 1) told.end.0 tells (so.restarted is) in
-    record { next = there.next; is = there.is; begins = there.begins }
-cause-by r over attempt told (NoRoom room need) tells is comes room_is so = absurd room_is
-cause-by r over attempt told WaitOver tells is comes room_is so = absurd comes
-cause-by r over attempt told NoReaders tells is comes room_is so = so.unread is
-cause-by r over attempt told Cancelled tells is comes room_is so = absurd comes
-cause-by r over attempt told (RunEnd wait since) tells is comes room_is so = absurd comes
-
-never-boxed : (how : SessionResult) → Comes how → IsNeverBoxed how
-never-boxed Whole comes = tt
-never-boxed (Overflow change free need) comes = tt
-never-boxed (WrongSn want got) comes = tt
-never-boxed (RxTimeout limit) comes = comes
-never-boxed Restarted comes = tt
-never-boxed (NoRoom room need) comes = tt
-never-boxed WaitOver comes = tt
-never-boxed NoReaders comes = tt
-never-boxed Cancelled comes = tt
-never-boxed (RunEnd wait since) comes = absurd comes
-
--- what is said of a record
-abbrev IsSaid : Route → Cut Seen → SessionRecord → Type 0
-IsSaid r attempt told = IsCaused r attempt told × IsNeverBoxed told.result
-
-said-all : (r : Route) (over : ℕ) → AllZip (Tells r.rx.chan.0 r.rx.a) (attempts_in r.rx.functional r.seen) r.sessions → (attempts : List (Cut Seen)) (records : List SessionRecord) →
-    AllByRecursion (λ (told : SessionRecord). HasRoom told.result) records → AreSettled r.rx (address_size r.shape) r.controls over (starts_of (attempts_in r.rx.functional r.seen)) attempts records → AllZip (IsSaid r) attempts records
-said-all r over tells [] [] roomy so = tt
-said-all r over tells [] (told ∷ records) roomy so = absurd so
-said-all r over tells (attempt ∷ attempts) [] roomy so = absurd so
-said-all r over tells (attempt ∷ attempts) (told ∷ records) roomy so = (
-  (
-    record {
-      cause = cause-by r over attempt told told.result tells refl so.0.comes roomy.0 so.0;
-      none_passed = λ tick from below late. so.0.none_passed tick from below late.silent;
-    },
-    never-boxed told.result so.0.comes,
-  ),
-  said-all r over tells attempts records roomy.1 so.1,
-)
-
--- in an empty box nothing is waited for
-waits-cf : (set : RxSet) (address : ℕ) (lies : Option Meaning) (controls : List Written) (now begin since : ℕ) (wait : RxWait) → lies ≡ None → WaitsSo set address lies controls now begin since wait → (wait ≡ Cf) × LetGoIn address controls begin
-waits-cf set address lies controls now begin since Cf empty waits = (refl, waits)
-waits-cf set address lies controls now begin since Box empty waits = let clash : None ≡ Some (continue_to_send set) = sym empty ∙ waits.0 in cc
-waits-cf set address lies controls now begin since Room empty waits = absurd waits
-
--- the record that the run's end makes
-said-last : (r : Route) (lies : Option Meaning) (now over : ℕ) (busy : Reception) (attempt : Cut Seen) → lies ≡ None → over ≡ r.last + 1 → now ≤ r.last → IsGoing r.rx (address_size r.shape) lies r.controls now over busy attempt →
-    IsSaid r attempt (ended r.rx busy (RunEnd busy.wait (record { 0 = busy.since })) r.last)
-said-last r lies now over busy attempt empty over_is later so =
-    let waits = waits-cf r.rx (address_size r.shape) lies r.controls now busy.begin busy.since busy.wait empty so.waits in
-    let told : SessionRecord = ended r.rx busy (RunEnd busy.wait (record { 0 = busy.since })) r.last in
-    let last : last_place busy.begin (walk_of r.rx.a attempt).pieces ≡ busy.since = last-is busy.begin busy.since (walk_of r.rx.a attempt).pieces so.last in
-    let P : RxWait → Type 0 = λ wait. StillWaits r attempt told busy.since wait in (
-      record {
-        cause = (
-          refl,
-          omega (arith, so.since_by, later),
-          subst P (sym waits.0) (record {
-            at = busy.begin;
-            from = omega arith;
-            left = waits.1;
-            since_is = rw last (omega (arith, so.by));
-            in_time = elim (cases_lt r.last (busy.since + r.rx.n_cr)) [
-              | inl early ↦ early
-              | inr late ↦ absurd (so.none_passed r.last (omega (arith, so.by, so.since_by, later)) (omega (arith, over_is)) (all-late r.rx.n_cr busy.since r.last late (walk_of r.rx.a attempt).pieces so.up_to))
-            ];
-          }),
-        );
-        none_passed = λ tick from below late. so.none_passed tick from (omega (arith, below, over_is)) late.silent;
-      },
-      waits.0,
-    )
-
--- all records, after the run's end
-said-ended : (r : Route) (next seq now over : ℕ) (busy : Option Reception) (lies : Option Meaning) (m : RxDid) (records : List SessionRecord) → AllZip (Tells r.rx.chan.0 r.rx.a) (attempts_in r.rx.functional r.seen) r.sessions →
-    AllByRecursion (λ (told : SessionRecord). HasRoom told.result) records → SoBy r.rx (address_size r.shape) busy lies r.controls now over r.seen records → lies ≡ None → ((b : Reception) → busy ≡ Some b → over ≡ r.last + 1) → now ≤ m.tick → m.tick ≡ r.last → EndRow r.rx (record { next = next; seq = seq; busy = busy }) busy m →
-    AllZip (IsSaid r) (attempts_in r.rx.functional r.seen) (records ++ m.records)
-said-ended r next seq now over None lies m records tells roomy so empty past later at row = rw (row.records, append-nil) (said-all r over tells (attempts_in r.rx.functional r.seen) records roomy so)
-said-ended r next seq now over (Some busy) lies m records tells roomy so empty past later at row =
-    let P : List SessionRecord → Type 0 = λ more. AllZip (IsSaid r) (attempts_in r.rx.functional r.seen) (records ++ more) in
-    let told : SessionRecord = ended r.rx busy (RunEnd busy.wait (record { 0 = busy.since })) r.last in
-    let Q : List (Cut Seen) → Type 0 = λ attempts. AllZip (IsSaid r) attempts (records ++ told ∷ []) in
-    subst P (sym (row.records ∙ ap (λ t. ended r.rx busy (RunEnd busy.wait (record { 0 = busy.since })) t ∷ []) at))
-    (subst Q (sym so.cut) (zip-push (IsSaid r) so.earlier records so.attempt told (said-all r over tells so.earlier records roomy so.told)
-    (said-last r lies now over busy so.attempt empty (past busy refl) (omega (arith, later, at)) so.going)))
+use Rattle.gw_law.proofs.SettledTicks.{ordered}
+use Rattle.receiver_law.specs.Channel.{SourceChannel}
+use Rattle.receiver_law.proofs.ReceptionCauses.{IsSaid, said-ended}
 
 -- the receiver's one turn at the end
 record IsOneEnd (last : ℕ) (turns : List RxTurn) : Type 0 where
@@ -167,9 +46,9 @@ zip-first P Q (x ∷ xs) (y ∷ ys) all = let rest = zip-first P Q xs ys all.1 i
 
 -- in every run each record of the source channel comes of its cause, and none waits for a box
 pub reception_causes : (o : WholeRun) → IsShape o.shape → 1 ≤ o.rx.n_cr → IsSmall (route o) →
-    AreCaused (route o) × AreNeverBoxed (route o)
+    AreCaused (route o).source × AreNeverBoxed (route o).source
 reception_causes o sound some small =
-    let r : Route = route o in
+    let r : SourceChannel = (route o).source in
     let turns : List RxTurn = turns_of o.ticks in
     let one : IsOneEnd o.last o.end.turns = one-end o.last o.end.turns o.run.ends.receives in
     let H : List RxTurn → Type 0 = λ t. HasReceived o.rx (t ++ turns) in

@@ -14,11 +14,12 @@ use Rattle.tp_receiver.specs.declared.set.RxSet.{RxSet}
 use Rattle.tp_sender.specs.declared.set.TxSet.{TxSet}
 use Rattle.gw_law.specs.Records.{IsOfDestination, IsOfSource, RecordsLaw}
 use Rattle.gw_law.specs.Run.{Route, Work, moments_of, turns_of}
-use Rattle.gw_law.proofs.FlowControls.{IsKnown, begins-at, known-of-run, start-at}
+use Rattle.receiver_law.proofs.FlowControls.{IsKnown, begins-at, start-at}
+use Rattle.gw_law.proofs.FlowControls.{known-of-run}
 use Rattle.gw_law.proofs.Fronts.{IsTimed, TurnIn, WorkIn, moments-in, rises-below, run-rising, run-timed, turns-in}
 use Rattle.gw_law.proofs.JointTicks.{EndsAt, tells-now}
 use Rattle.gw_base.proofs.Lists.{all-at, all-join, all-push, all-weaker, at-next}
-use Rattle.gw_law.proofs.Origins.{InTicks, IsToldBy, OfLive, row-by, told-by}
+use Rattle.sender_law.proofs.Origins.{InTicks, IsToldBy, OfLive, row-by, told-by}
 use Rattle.gw_law.proofs.WholeRun.{WholeRun, route, works_of}
 
 -- the source's records, in turns up to a tick
@@ -82,10 +83,10 @@ dests-apart set (m ∷ earlier) happened =
     let now = row.1 (λ grown. end-later (records_by earlier) (now_of earlier) m.did.tick happened.0 so.past) in
     apart-next set (records_by earlier) m.did (now_of earlier) m.did.records m.did.new.live happened.0 refl so.past so.follow now.0 now.2 now.1
 
-sessions-apart : (r : Route) → IsKnown r → (place : ℕ) (told next : SessionRecord) → slice_get r.sessions place ≡ Some told → slice_get r.sessions (place + 1) ≡ Some next → told.end.0 ≤ next.begin.0
+sessions-apart : (r : Route) → IsKnown r.source → (place : ℕ) (told next : SessionRecord) → slice_get r.source.sessions place ≡ Some told → slice_get r.source.sessions (place + 1) ≡ Some next → told.end.0 ≤ next.begin.0
 sessions-apart r known place told next there after =
-    let start = start-at r (place + 1) next known after in
-    let begin = begins-at r (place + 1) start.0 next known start.1 after in
+    let start = start-at r.source (place + 1) next known after in
+    let begin = begins-at r.source (place + 1) start.0 next known start.1 after in
     omega (arith, known.facts.order place (place + 1) told start.0 (omega arith) there start.1, begin.0)
 
 pub records_law_of : (o : WholeRun) → RecordsLaw (route o)
@@ -95,8 +96,8 @@ records_law_of o =
     let timed : AllByRecursion IsTimed works = run-timed o in
     let within : AllByRecursion (WorkIn (λ (t : ℕ). t ≤ o.last)) works = rises-below o.last works (omega (arith, o.run.ends.tick_is)) (run-rising o) in
     record {
-      sessions = all-weaker (λ (told : SessionRecord). (told.chan ≡ o.rx.chan) × (told.end.0 ≤ o.last)) (IsOfSource r) r.sessions (λ told is. record { chan = is.0; end = is.1 }) (sessions-of o.rx o.last (turns_of works) o.run.received (turns-in (λ (t : ℕ). t ≤ o.last) works timed within));
-      dests = all-weaker (IsSent o.tx o.last) (IsOfDestination r) r.dests (λ told is. record { path = is.0; dest = is.1; end = is.2 }) (dests-of o.tx o.last (moments_of works) o.run.sent (moments-in (λ (t : ℕ). t ≤ o.last) works timed within));
+      sessions = all-weaker (λ (told : SessionRecord). (told.chan ≡ o.rx.chan) × (told.end.0 ≤ o.last)) (IsOfSource r) r.source.sessions (λ told is. record { chan = is.0; end = is.1 }) (sessions-of o.rx o.last (turns_of works) o.run.received (turns-in (λ (t : ℕ). t ≤ o.last) works timed within));
+      dests = all-weaker (IsSent o.tx o.last) (IsOfDestination r) r.leg.dests (λ told is. record { path = is.0; dest = is.1; end = is.2 }) (dests-of o.tx o.last (moments_of works) o.run.sent (moments-in (λ (t : ℕ). t ≤ o.last) works timed within));
       sessions_follow = sessions-apart r (known-of-run o);
       dests_follow = (dests-apart o.tx (moments_of works) o.run.sent).follow;
     }

@@ -17,15 +17,15 @@ use Rattle.tp_attempts.specs.Cuts.{Cut}
 use Rattle.tp_attempts.specs.Seen.{Seen, is_start}
 use Rattle.tp_attempts.specs.Walk.{joined, reassembled, walk_of}
 use Rattle.tp_receiver.specs.declared.set.RxSet.{RxSet}
-use Rattle.gw_law.specs.Source.{CountsFrom, Tells, opened_by, sessions_in}
+use Rattle.receiver_law.specs.Source.{CountsFrom, Tells, opened_by, sessions_in}
 use Rattle.gw_law.specs.Timely.{bytes_to}
-use Rattle.gw_law.proofs.Begins.{Split, begin-at, begin_going, begins-are, begins-more, begins_by, begins_told, seq-at, splits, told-long}
+use Rattle.receiver_law.proofs.Begins.{Split, begin-at, begin_going, begins-are, begins-more, begins_by, begins_told, seq-at, splits, told-long}
 use Rattle.gw_law.proofs.Fronts.{More, TurnIn, received-more, seen-more}
 use Rattle.gw_law.proofs.Pieces.{After, CutFront, CutIn, Within, bytes-front, bytes-whole, cut-front, cuts-in, pieces-in}
-use Rattle.gw_law.proofs.SoFars.{AreTold, IsBusy}
-use Rattle.gw_law.proofs.SourceLaws.{HoldsBy, holds, source_law_of}
-use Rattle.gw_law.proofs.Stores.{store}
-use Rattle.gw_law.proofs.Tellings.{TellsPut}
+use Rattle.receiver_law.proofs.SoFars.{AreTold, IsBusy}
+use Rattle.receiver_law.proofs.SourceLaws.{HoldsBy, holds, source_law_of}
+use Rattle.receiver_law.proofs.Stores.{store}
+use Rattle.receiver_law.proofs.Tellings.{TellsPut}
 use Rattle.gw_base.proofs.Lists.{all-at, get-append, slice_get-more, zip-at, zip-back, zip-long}
 use Rattle.hub_core.proofs.Growing.{slice_get-pushed}
 use Rattle.hub_core.proofs.Turns.{happened-front}

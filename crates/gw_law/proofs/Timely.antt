@@ -21,25 +21,25 @@ use Rattle.tp_sender.specs.declared.set.TxSet.{TxSet}
 use Rattle.tp_unit.specs.Shape.{address_size}
 use Rattle.gw_law.specs.Delivery.{Delivery}
 use Rattle.gw_law.specs.Run.{Route, Work, moments_of, turns_of, view_of}
-use Rattle.gw_law.specs.Source.{CountsFrom, sessions_in}
+use Rattle.receiver_law.specs.Source.{CountsFrom, sessions_in}
 use Rattle.gw_law.specs.Timely.{BeginsAfter, IsTimely, TimelyLaw, delivery_of_route}
-use Rattle.gw_law.specs.Transfer.{GoesOnWith, SendsFor, Transfer, TransferLaw, has_sent, transfer_of}
-use Rattle.gw_law.proofs.Begins.{Split, begin-at, begin_going, begins-are, begins-in, begins-long, begins-more, begins_by, begins_told, splits}
+use Rattle.sender_law.specs.Transfer.{GoesOnWith, SendsFor, Transfer, TransferLaw, has_sent, transfer_of}
+use Rattle.receiver_law.proofs.Begins.{Split, begin-at, begin_going, begins-are, begins-in, begins-long, begins-more, begins_by, begins_told, splits}
 use Rattle.gw_law.proofs.Deliveries.{front-bytes}
 use Rattle.gw_law.proofs.EachSession.{at-most}
 use Rattle.gw_law.proofs.Fronts.{AreRising, IsTimed, UpTo, WorkIn, as-far-up-to, moments-append, moments-in, rises-below, run-rising, run-timed, turns-append, turns-in, up-to}
-use Rattle.gw_law.proofs.Openings.{openings, writing}
-use Rattle.gw_law.proofs.Origins.{OfLive, OfTold, Originates, originates}
+use Rattle.receiver_law.proofs.Openings.{openings, writing}
+use Rattle.sender_law.proofs.Origins.{OfLive, OfTold, Originates, originates}
 use Rattle.gw_law.proofs.RxUpTo.{put-up-to}
-use Rattle.gw_law.proofs.Sides.{cells_at, cells_at-there}
-use Rattle.gw_law.proofs.SourceLaws.{source_law_of}
-use Rattle.gw_law.proofs.Stores.{store}
-use Rattle.gw_law.proofs.TxLaw.{law, so-far, world_of}
+use Rattle.hub_core.proofs.Sides.{cells_at, cells_at-there}
+use Rattle.receiver_law.proofs.SourceLaws.{source_law_of}
+use Rattle.receiver_law.proofs.Stores.{store}
+use Rattle.sender_law.proofs.TxLaw.{law, so-far, world_of}
 use Rattle.gw_base.proofs.Lists.{all-at, all-weaker, slice_get-more, zip-index}
-use Rattle.gw_law.proofs.TxReadings.{readings}
+use Rattle.sender_law.proofs.TxReadings.{readings}
 use Rattle.gw_law.proofs.TxUpTo.{sent-up-to}
-use Rattle.gw_law.proofs.TxWorld.{SoFar}
-use Rattle.gw_law.proofs.TxWritten.{AreWritten, ticks-counted, written}
+use Rattle.sender_law.proofs.TxWorld.{SoFar}
+use Rattle.sender_law.proofs.TxWritten.{AreWritten, ticks-counted, written}
 use Rattle.gw_law.proofs.Wholes.{AsFar}
 use Rattle.gw_law.proofs.WholeRun.{WholeRun, route, works_of}
 

@@ -2,7 +2,8 @@
 use Rattle.std.proofs.Common.{◌≡◌, ℕ, ◌+◌, ◌≤◌, ◌⊎◌, Bool, true, false, Option, Some, None, List, [], ◌∷◌, ◌++◌, refl, ap, sym, subst, ◌∙◌, arith, append-nil, append_assoc, inl, inr}
 use Rattle.tp_sender.specs.declared.transmission.Phase.{Phase}
 use Rattle.tp_sender.specs.declared.transmission.Phase.TheVariants.{Start, Bytes, Box, Fc, Gap}
-use Rattle.tp_sender.specs.Runs.{Answer, HasSent, controls_in, box_after}
+use Rattle.tp_unit.specs.Box.{Answer}
+use Rattle.tp_sender.specs.Runs.{HasSent, controls_in, box_after}
 use Rattle.tp_sender.specs.State.{TxTurn, tx_new, Transmission}
 use Rattle.hub_core.specs.Turns.{came_by, now_of, state_after, records_by}
 use Rattle.std.specs.Prelude.{filter, map, nat_lt}
@@ -18,16 +19,17 @@ use Rattle.tp_sender.specs.declared.event.TxEvent.TheVariants.{Turn, Fc as CameF
 use Rattle.tp_sender.specs.declared.set.TxSet.{TxSet}
 use Rattle.tp_unit.specs.Shape.{IsShape, address_size}
 use Rattle.tp_unit.specs.Unit.{Meaning}
-use Rattle.gw_law.specs.Run.{AnswersIn, AreTicks, FrameLeaves, IsAnswerIn, IsEnd, IsIdle, IsStepIn, SendsIn, Work, moments_of, tick_after}
-use Rattle.gw_law.specs.Transfer.{SendsFor, Transfer, TransferLaw, has_sent, ticks_of, transfer_of}
-use Rattle.gw_law.specs.TransmissionCauses.{IsCaused, TransmissionCauses, left_in}
-use Rattle.gw_law.proofs.TxLaw.{law, so-far, world_of}
-use Rattle.gw_law.proofs.TxWorld.{SoFar}
-use Rattle.gw_law.proofs.TxCausesEnd.{end-answers, end-steps}
-use Rattle.gw_law.proofs.TxCausesFrames.{ended_ticks, frames_by, is_left, live_ticks}
-use Rattle.gw_law.proofs.TxCausesLists.{Splits}
-use Rattle.gw_law.proofs.TxCausesMoments.{Holds, Lives, answer-step, answered-more, left-step, stays-step, turn-step}
-use Rattle.gw_law.proofs.TxCausesSteps.{Counted, Opens, OpensIn, Tells, Turned, came}
+use Rattle.sender_law.specs.Parts.{AnswersIn, FrameLeaves, IsAnswerIn, IsStepIn, SendsIn}
+use Rattle.gw_law.specs.Run.{AreTicks, IsEnd, IsIdle, Work, moments_of, tick_after}
+use Rattle.sender_law.specs.Transfer.{SendsFor, Transfer, TransferLaw, has_sent, ticks_of, transfer_of}
+use Rattle.sender_law.specs.TransmissionCauses.{IsCaused, TransmissionCauses, left_in}
+use Rattle.sender_law.proofs.TxLaw.{law, so-far, world_of}
+use Rattle.sender_law.proofs.TxWorld.{SoFar}
+use Rattle.sender_law.proofs.TxCausesEnd.{end-answers, end-steps}
+use Rattle.sender_law.proofs.TxCausesFrames.{ended_ticks, frames_by, is_left, live_ticks}
+use Rattle.sender_law.proofs.TxCausesLists.{Splits}
+use Rattle.sender_law.proofs.TxCausesMoments.{Holds, Lives, answer-step, answered-more, left-step, stays-step, turn-step}
+use Rattle.sender_law.proofs.TxCausesSteps.{Counted, Opens, OpensIn, Tells, Turned, came}
 use Rattle.gw_base.proofs.Lists.{all-front, all-join, all-weaker, zip-both}
 use Rattle.gw_law.proofs.Deliveries.{none-going}
 use Rattle.gw_law.proofs.WholeRun.{WholeRun, route}
@@ -288,7 +290,7 @@ of-moments tx last next moments sound happened idle holds =
     (zip-both (SendsFor t) (λ cut d. Tells tx all last (ticks_of cut) d) (λ cut d. IsCaused tx all last (left_in (address_size tx.shape) cut) d) sends.ended (filter has_sent (records_by moments))
     (λ cut d sent is. let T : List ℕ → Type 0 = λ l. IsCaused tx all last l d in subst T (sym sent.counts) is.caused) sends.sends told)
 
-pub causes : (o : WholeRun) → 1 ≤ o.tx.n_bs → TransmissionCauses (route o)
+pub causes : (o : WholeRun) → 1 ≤ o.tx.n_bs → TransmissionCauses (route o).leg
 causes o some =
     let moments : List TxTurn = o.end.moments ++ moments_of o.ticks in
     let holds = in-run o.tx o.sizes o.rx.path.0 o.last o.ticks o.end o.run.shape some o.run.ticks_are o.run.ends o.run.sent in

@@ -1,6 +1,7 @@
 -- What a sender has sent up to a tick: no more than what it had read by then.
 use Rattle.std.proofs.Common.{◌≡◌, ℕ, ◌+◌, ◌<◌, ◌≤◌, zero, suc, false, inl, inr, Option, Some, None, List, [], ◌∷◌, ◌++◌, length, map, refl, ap, sym, ◌∙◌, subst, arith, append-nil}
-use Rattle.tp_sender.specs.Runs.{HasSent, Written, left_by}
+use Rattle.tp_sender.specs.Runs.{HasSent, left_by}
+use Rattle.tp_unit.specs.Box.{Written}
 use Rattle.tp_sender.specs.State.{TxTurn, tx_new, Transmission}
 use Rattle.hub_core.specs.Turns.{state_after, records_by}
 use Rattle.std.specs.Prelude.{filter, slice_get}
@@ -17,15 +18,15 @@ use Rattle.tp_sender.specs.declared.set.TxSet.{TxSet}
 use Rattle.tp_unit.specs.declared.shape.Shape.{Shape}
 use Rattle.tp_unit.specs.Shape.{IsShape, address_size}
 use Rattle.gw_law.specs.Timely.{bytes_to}
-use Rattle.gw_law.specs.Transfer.{GoesOnWith, NumberedFrom, Sends, SendsFor, Transfer, TransferLaw, has_sent, seen_of, transfer_of}
+use Rattle.sender_law.specs.Transfer.{GoesOnWith, NumberedFrom, Sends, SendsFor, Transfer, TransferLaw, has_sent, seen_of, transfer_of}
 use Rattle.gw_law.proofs.Deliveries.{all-sent}
 use Rattle.gw_law.proofs.Fronts.{More, left-more, sent-more}
-use Rattle.gw_law.proofs.Origins.{InTicks, OfLive, OfTold, Originates, originates}
+use Rattle.sender_law.proofs.Origins.{InTicks, OfLive, OfTold, Originates, originates}
 use Rattle.gw_law.proofs.Pieces.{After, CutFront, CutIn, Within, bytes-front, bytes-most, bytes-none, cut-front, cuts-in, pieces-in}
-use Rattle.gw_law.proofs.TxLaw.{law, so-far, world_of}
+use Rattle.sender_law.proofs.TxLaw.{law, so-far, world_of}
 use Rattle.gw_base.proofs.Lists.{all-at, all-map, all-weaker, get-after, get-append, slice_get-more, zip-at, zip-long}
-use Rattle.gw_law.proofs.TxMoves.{lives-some}
-use Rattle.gw_law.proofs.TxWorld.{GoesOn, Lives, SoFar, World}
+use Rattle.sender_law.proofs.TxMoves.{lives-some}
+use Rattle.sender_law.proofs.TxWorld.{GoesOn, Lives, SoFar, World}
 use Rattle.hub_core.proofs.Turns.{happened-front}
 
 -- sessions from a number on are joined after that tick

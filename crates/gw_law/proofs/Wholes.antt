@@ -11,13 +11,13 @@ use Rattle.tp_sender.specs.declared.set.TxSet.{TxSet}
 use Rattle.tp_unit.specs.Shape.{IsShape}
 use Rattle.gw_law.specs.Delivery.{AreOfEach, AreWholeRuns, DeliveryLaw}
 use Rattle.gw_law.specs.Run.{AreTicks, IsJoint, IsRun, Work, moments_of, turns_of, view_between, view_of}
-use Rattle.gw_law.specs.Source.{SourceLaw}
+use Rattle.receiver_law.specs.Source.{SourceLaw}
 use Rattle.gw_law.specs.Timely.{delivery_of_route}
-use Rattle.gw_law.proofs.Beside.{readings-grown, sessions-grown}
+use Rattle.hub_core.proofs.Beside.{readings-grown, sessions-grown}
 use Rattle.gw_law.proofs.Deliveries.{delivery_law_of}
 use Rattle.gw_law.proofs.EachSession.{each_session_of}
 use Rattle.gw_law.proofs.OwnCalls.{readings-stay, received-writes, sent-reads, sessions-stay}
-use Rattle.gw_law.proofs.SourceLaws.{source_law_of}
+use Rattle.receiver_law.proofs.SourceLaws.{source_law_of}
 use Rattle.gw_law.proofs.WholeRun.{WholeRun, route, works_of}
 use Rattle.hub_core.proofs.Turns.{calls-append, happened-front}
 
@@ -185,10 +185,10 @@ route-delivers o =
     delivery_law_of o.rx (turns_of (works_of o)) o.tx (moments_of (works_of o)) (view_of (works_of o)) (whole-runs o)
 
 pub route-each : (o : WholeRun) →
-    AreOfEach (route o).sessions (route o).dests
+    AreOfEach (route o).source.sessions (route o).leg.dests
 route-each o =
     each_session_of o.rx (turns_of (works_of o)) o.tx (moments_of (works_of o)) (view_of (works_of o)) (whole-runs o) o.run.ends.joined
 
 pub route-source : (o : WholeRun) →
-    SourceLaw o.rx.chan.0 o.rx.a o.rx.functional (route o).seen (route o).sessions
+    SourceLaw o.rx.chan.0 o.rx.a o.rx.functional (route o).source.seen (route o).source.sessions
 route-source o = source_law_of o.rx (turns_of (works_of o)) o.run.received o.run.ends.idle.receiver

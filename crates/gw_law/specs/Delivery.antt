@@ -1,6 +1,7 @@
 -- What a destination delivers of a source channel's units, by the records of both (ISO 15765-2, segmentation and reassembly).
 use Rattle.std.specs.Prelude.{◌≡◌, ℕ, ◌≤◌, ◌↔◌, Bool, false, Some, None, List, filter, map, slice_get, take}
-use Rattle.tp_sender.specs.Runs.{Answer, HasSent}
+use Rattle.tp_unit.specs.Box.{Answer}
+use Rattle.tp_sender.specs.Runs.{HasSent}
 use Rattle.tp_sender.specs.State.{TxTurn, tx_new}
 use Rattle.tp_receiver.specs.State.{RxTurn, rx_new}
 use Rattle.tp_receiver.specs.Runs.{HasReceived, frames_in}
@@ -19,8 +20,8 @@ use Rattle.tp_attempts.specs.Walk.{walk_of, reassembled}
 use Rattle.tp_receiver.specs.declared.set.RxSet.{RxSet}
 use Rattle.tp_sender.specs.declared.set.TxSet.{TxSet}
 use Rattle.tp_unit.specs.Shape.{IsShape}
-use Rattle.gw_law.specs.Source.{CountsFrom, sessions_in}
-use Rattle.gw_law.specs.Transfer.{NumberedFrom, Paced, has_sent, transfer_of}
+use Rattle.receiver_law.specs.Source.{CountsFrom, sessions_in}
+use Rattle.sender_law.specs.Transfer.{NumberedFrom, Paced, has_sent, transfer_of}
 
 -- what is told of a source channel, and of one destination of its path
 pub record Delivery : Type 0 where

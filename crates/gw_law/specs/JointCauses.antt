@@ -17,8 +17,8 @@ use Rattle.tp_unit.specs.Shape.{address_size}
 use Rattle.gw_law.specs.Delivery.{IsNamed}
 use Rattle.gw_law.specs.Run.{Route}
 use Rattle.gw_law.specs.Timely.{bytes_to, delivery_of_route}
-use Rattle.gw_law.specs.Transfer.{has_sent}
-use Rattle.gw_law.specs.TransmissionCauses.{IsLate}
+use Rattle.sender_law.specs.Transfer.{has_sent}
+use Rattle.sender_law.specs.TransmissionCauses.{IsLate}
 
 -- a destination ended neither whole, nor with its source, nor with the run
 abbrev pub IsOwnEnd : DestResult → Type 0
@@ -37,20 +37,20 @@ pub record IsUnread (r : Route) (session : SessionRecord) : Type 0 where
   pub opened : OpenedAt
   pub opened_is : session.opened ≡ Some opened
   pub told : DestRecord
-  pub told_is : slice_get r.dests opened.seq ≡ Some told
+  pub told_is : slice_get r.leg.dests opened.seq ≡ Some told
   pub seq_is : told.seq ≡ opened.seq
   pub before : told.end.0 < session.end.0
   pub cause : IsOwnEnd told.result
 
 -- each record that tells that no destination reads
 abbrev pub AreUnread : Route → Type 0
-AreUnread r = AllByRecursion (λ (session : SessionRecord). session.result ≡ NoReaders → IsUnread r session) r.sessions
+AreUnread r = AllByRecursion (λ (session : SessionRecord). session.result ≡ NoReaders → IsUnread r session) r.source.sessions
 
 -- what a session lacks: bytes of the next frame or, where no frame left, the bytes and cells from which on it is sent; its cells
 -- are the fewest that hold its bytes, which says all where the threshold is one cell
 pub data Lacks (r : Route) (session : SessionRecord) (sent : ℕ) : Type 0 where
-  LacksNext : session.bytes < sent + part_after r.tx.shape session.len sent → Lacks r session sent
-  LacksStart : sent ≡ 0 → session.bytes ≢ session.len → (r.tx.store ≡ false → cells_of session.bytes < r.tx.threshold) → Lacks r session sent
+  LacksNext : session.bytes < sent + part_after r.leg.tx.shape session.len sent → Lacks r session sent
+  LacksStart : sent ≡ 0 → session.bytes ≢ session.len → (r.leg.tx.store ≡ false → cells_of session.bytes < r.leg.tx.threshold) → Lacks r session sent
 
 -- the source ended by then, before its unit was whole, and without what comes next
 pub record HasLostSource (r : Route) (told : DestRecord) : Type 0 where
@@ -68,7 +68,7 @@ pub record HasSeenFew (r : Route) (told : DestRecord) (seen : ℕ) : Type 0 wher
   pub named : IsNamed (delivery_of_route r) told.seq unit session
   pub least : told.sent ≤ seen
   pub most : seen ≤ session.bytes
-  pub few : seen < told.sent + part_after r.tx.shape session.len told.sent
+  pub few : seen < told.sent + part_after r.leg.tx.shape session.len told.sent
 
 -- what a destination's record says of its source, by the result
 abbrev pub IsShortBy : Route → DestRecord → DestResult → Type 0
@@ -84,7 +84,7 @@ IsShortBy r told (RunEnd wait since) = Unit {0}
 
 -- each record that tells that bytes were lacking
 abbrev pub AreShort : Route → Type 0
-AreShort r = AllByRecursion (λ (told : DestRecord). IsShortBy r told told.result) r.dests
+AreShort r = AllByRecursion (λ (told : DestRecord). IsShortBy r told told.result) r.leg.dests
 
 -- the frames of a transmission that left before a tick
 abbrev pub left_before : ℕ → List Piece → List Piece
@@ -92,23 +92,23 @@ left_before tick pieces = filter (λ (piece : Piece). nat_lt piece.at tick) piec
 
 -- the bytes of a session that came up to a tick, at most those that were put
 abbrev pub came_by : Route → Cut Seen → SessionRecord → ℕ → ℕ
-came_by r unit session tick = min (bytes_to tick (walk_of r.rx.a unit).pieces) session.bytes
+came_by r unit session tick = min (bytes_to tick (walk_of r.source.rx.a unit).pieces) session.bytes
 
 -- by a tick a destination waits too long for bytes: its start left before, the next frame was allowed at least as many ticks ago as the limit,
 -- and fewer bytes of the session came up to the tick than were sent and the next frame carries
 pub record WaitsTooLong (r : Route) (unit : Cut Seen) (session : SessionRecord) (begin : ℕ) (pieces : List Piece) (tick : ℕ) : Type 0 where
   pub started : 0 < length (left_before tick pieces)
-  pub late : IsLate r.tx.n_cs r.answers begin (map (λ (piece : Piece). piece.at) (left_before tick pieces)) tick
-  pub lacks : came_by r unit session tick < length (joined (left_before tick pieces)) + part_after r.tx.shape session.len (length (joined (left_before tick pieces)))
+  pub late : IsLate r.leg.tx.n_cs r.leg.answers begin (map (λ (piece : Piece). piece.at) (left_before tick pieces)) tick
+  pub lacks : came_by r unit session tick < length (joined (left_before tick pieces)) + part_after r.leg.tx.shape session.len (length (joined (left_before tick pieces)))
 
 -- a transmission doesn't wait so in a tick below its record's end
 abbrev pub EndsInTime : Route → Cut Seen → DestRecord → Type 0
 EndsInTime r cut told = (unit : Cut Seen) (session : SessionRecord) → IsNamed (delivery_of_route r) told.seq unit session → (tick : ℕ) → tick < told.end.0 →
-    WaitsTooLong r unit session told.begin.0 (walk_of (address_size r.tx.shape) cut).pieces tick → ⊥
+    WaitsTooLong r unit session told.begin.0 (walk_of (address_size r.leg.tx.shape) cut).pieces tick → ⊥
 
 -- none of a run's transmissions does
 abbrev pub NoneWaitsTooLong : Route → Type 0
-NoneWaitsTooLong r = AllZip (EndsInTime r) (attempts_in false (delivery_of_route r).frames) (filter has_sent r.dests)
+NoneWaitsTooLong r = AllZip (EndsInTime r) (attempts_in false (delivery_of_route r).frames) (filter has_sent r.leg.dests)
 
 -- each record whose end the other party's part decides comes of its cause
 pub record JointCauses (r : Route) : Type 0 where

@@ -1,14 +1,10 @@
 pub mod Delivery
 pub mod JointCauses
 pub mod Emission
-pub mod FlowControls
 pub mod Lawful
 pub mod Pool
 pub mod PoolOfRoute
-pub mod ReceptionCauses
 pub mod Records
 pub mod Run
-pub mod Source
 pub mod Timely
-pub mod Transfer
-pub mod TransmissionCauses
+pub mod Small

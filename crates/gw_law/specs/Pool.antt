@@ -19,7 +19,7 @@ use Rattle.tp_attempts.specs.Attempts.{attempts_in}
 use Rattle.tp_attempts.specs.Cuts.{Cut}
 use Rattle.tp_attempts.specs.Seen.{Seen, bytes_of}
 use Rattle.tp_receiver.specs.declared.set.RxSet.{RxSet}
-use Rattle.gw_law.specs.Source.{CountsFrom}
+use Rattle.receiver_law.specs.Source.{CountsFrom}
 
 -- the move of a number, where there is one
 abbrev pub move_numbered : List Move → ℕ → Option Move

@@ -6,7 +6,7 @@ use Rattle.gw_law.specs.Run.{Route}
 
 -- the source channel of a route: its attempts, and the records of its units
 abbrev pub channel_of_route : Route → Channel
-channel_of_route r = record { attempts = attempts_in r.rx.functional r.seen; records = r.sessions }
+channel_of_route r = record { attempts = attempts_in r.source.rx.functional r.source.seen; records = r.source.sessions }
 
 -- the moves of a run replay, and are those of its sessions: each session's buffer is taken and then freed, each take is a session's,
 -- and at the end each buffer is free

@@ -2,7 +2,7 @@ ghost use Rattle.std.specs.Prelude.{◌≡◌, List, filter};
 ghost use Rattle.tp_sender.specs.State.{TxTurn};
 ghost use Rattle.tp_receiver.specs.State.{RxTurn};
 ghost use Rattle.gw_law.specs.Delivery.{AreWholeRuns, DeliveryLaw, delivery_of};
-ghost use Rattle.gw_law.specs.Transfer.{is_data};
+ghost use Rattle.sender_law.specs.Transfer.{is_data};
 ghost use Rattle.tp_attempts.specs.Seen.{Seen};
 ghost use Rattle.hub_core.specs.View.{View};
 ghost use Rattle.tp_receiver.specs.declared.set.RxSet.{RxSet};

@@ -5,14 +5,8 @@ mod delivery;
 mod each;
 mod pool;
 mod run;
-mod source;
-mod stored;
-mod transfer;
 
 pub use delivery::delivery_law;
 pub use each::each_session_law;
 pub use pool::pool_law;
 pub use run::run_law;
-pub use source::source_law;
-pub use stored::stored_law;
-pub use transfer::transfer_law;

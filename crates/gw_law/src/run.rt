@@ -1,6 +1,6 @@
 ghost use Rattle.std.specs.Prelude.{List, ℕ};
 ghost use Rattle.gw_law.specs.Lawful.{Lawful};
-ghost use Rattle.gw_law.specs.ReceptionCauses.{IsSmall};
+ghost use Rattle.gw_law.specs.Small.{IsSmall};
 ghost use Rattle.gw_law.specs.Run.{HasLawfulLimits, IsRun, Work, route_of};
 ghost use Rattle.tp_receiver.specs.declared.set.RxSet.{RxSet};
 ghost use Rattle.tp_sender.specs.declared.set.TxSet.{TxSet};

@@ -1,16 +1,18 @@
 -- From the source's part of a tick's work over the destination's part to the barrier after it.
 use Rattle.std.proofs.Common.{◌≡◌, ℕ, ◌+◌, ◌-◌, ◌≤◌, Option, Some, None, List, [], ◌∷◌, ◌++◌, refl, sym, subst, ap, ◌∙◌, append-nil, append_assoc, arith}
-use Rattle.tp_sender.specs.Runs.{Answer, controls_in, after_left, box_after, clear_from, written_of, Written}
+use Rattle.tp_unit.specs.Box.{Answer, written_of, Written}
+use Rattle.tp_sender.specs.Runs.{controls_in, after_left, box_after, clear_from}
 use Rattle.tp_sender.specs.State.{TxTurn}
 use Rattle.tp_receiver.specs.State.{RxTurn}
 use Rattle.hub_core.specs.Turns.{calls_by, came_by}
 use Rattle.hub_core.specs.View.{View, grows}
-use Rattle.gw_law.specs.Run.{FrameLeaves, Work, moments_of, turns_of, view_of}
+use Rattle.sender_law.specs.Parts.{FrameLeaves}
+use Rattle.gw_law.specs.Run.{Work, moments_of, turns_of, view_of}
 use Rattle.tp_attempts.specs.Seen.{Seen}
 use Rattle.tp_sender.specs.declared.event.TxEvent.{TxEvent}
 use Rattle.tp_sender.specs.declared.event.TxEvent.TheVariants.{Turn, Fc, Left}
 use Rattle.tp_unit.specs.Unit.{Meaning}
-use Rattle.gw_law.specs.Run.{AnswersIn}
+use Rattle.sender_law.specs.Parts.{AnswersIn}
 use Rattle.gw_run.specs.Standing.{AtBarrier, InDestination, Stands, lying}
 use Rattle.gw_run.specs.Telling.{LeavesFrame, TellsSender}
 use Rattle.gw_run.specs.declared.gateway.Gateway.{Gateway}

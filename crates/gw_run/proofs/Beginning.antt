@@ -1,6 +1,6 @@
 -- From the barrier before a tick into its work, and the gateway as it begins.
 use Rattle.std.proofs.Common.{◌≡◌, ◌⊎◌, inl, inr, ℕ, ◌-◌, ◌≤◌, List, [], refl, sym, subst, ap, ◌∙◌, arith}
-use Rattle.tp_sender.specs.Runs.{Answer}
+use Rattle.tp_unit.specs.Box.{Answer}
 use Rattle.tp_receiver.specs.State.{RxState, RxTurn}
 use Rattle.hub_core.specs.View.{View}
 use Rattle.gw_law.specs.Run.{IsIdle, Work, moments_of, turns_of, view_of}

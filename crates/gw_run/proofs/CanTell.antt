@@ -1,6 +1,6 @@
 -- Where all stands, both machines can be told.
 use Rattle.std.proofs.Common.{◌≡◌, ℕ, ◌<◌, ◌≤◌, ◌==◌, ◌&&◌, Bool, true, false, List, length, refl, sym, subst, ap, ◌∙◌, arith}
-use Rattle.tp_sender.specs.Runs.{Answer}
+use Rattle.tp_unit.specs.Box.{Answer}
 use Rattle.tp_sender.specs.Port.{Knows as KnowsPort}
 use Rattle.tp_receiver.specs.Port.{CanTake, Knows}
 use Rattle.tp_receiver.specs.State.{RxEvent, Came, RxTurn}

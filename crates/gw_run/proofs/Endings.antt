@@ -1,6 +1,6 @@
 -- The run's end: both machines are told, and the whole run is one.
 use Rattle.std.proofs.Common.{◌≡◌, ◌⊎◌, ℕ, zero, suc, true, ◌+◌, ◌-◌, ◌*◌, ◌<◌, ◌≤◌, Option, Some, None, List, [], ◌∷◌, ◌++◌, length, refl, sym, subst, ap, ◌∙◌, append-nil, length-append, arith}
-use Rattle.tp_sender.specs.Runs.{Answer, Written}
+use Rattle.tp_unit.specs.Box.{Answer, Written}
 use Rattle.tp_receiver.specs.State.{Reception, RxDid, RxState, RunEnd, RxTurn}
 use Rattle.tp_receiver.specs.Table.{EndRow}
 use Rattle.hub_core.specs.Turns.{came_by, calls_by}
@@ -36,7 +36,7 @@ use Rattle.gw_run.proofs.Beginning.{idle-or, stands-later}
 use Rattle.gw_run.proofs.RxTurns.{turn-stands}
 use Rattle.gw_run.proofs.Ticks.{stands-joint, told-same}
 use Rattle.gw_run.proofs.TxMoments.{moment-stands}
-use Rattle.gw_law.proofs.TxCausesEnd.{end-answers}
+use Rattle.sender_law.proofs.TxCausesEnd.{end-answers}
 use Rattle.gw_base.proofs.Lists.{there-at}
 use Rattle.hub_core.proofs.Growing.{grows-append}
 use Rattle.std.proofs.lemmas.Option.{slice_get_within}
@@ -121,7 +121,14 @@ end-idle set old (Some busy) m is row = ap (λ (s : RxState). s.busy) row.new
 
 same-route : (m : Machines) (last count free : ℕ) (seen : List Seen) (answers : List Answer) (controls frames : List Written) (sessions : List SessionRecord) (dests : List DestRecord) (moves : List Move) (told : Told) (seen_told : List Seen) (answers_told : List Answer) →
     seen ≡ seen_told → answers ≡ answers_told → told.controls ≡ controls → told.frames ≡ frames → told.report.sessions ≡ sessions → told.report.dests ≡ dests → told.report.moves ≡ moves → told.report.pool.changes ≡ count → told.report.pool.free ≡ free →
-    (let r : Route = record { rx = m.rx; tx = m.tx; shape = m.shape; source_budget = BUDGET; budget = BUDGET; sizes = BUFFER_CELLS ∷ []; last = last; seen = seen; answers = answers; controls = controls; frames = frames; sessions = sessions; dests = dests; moves = moves; count = count; free = free } in r) ≡ route_with m last seen_told answers_told told
+    (let r : Route = record {
+      source = record { rx = m.rx; shape = m.shape; budget = BUDGET; last = last; seen = seen; controls = controls; sessions = sessions };
+      leg = record { tx = m.tx; budget = BUDGET; last = last; answers = answers; frames = frames; dests = dests };
+      sizes = BUFFER_CELLS ∷ [];
+      moves = moves;
+      count = count;
+      free = free;
+    } in r) ≡ route_with m last seen_told answers_told told
 same-route m last count free seen answers controls frames sessions dests moves told seen_told answers_told a b c d e f g h i = rw (a, b, ← c, ← d, ← e, ← f, ← g, ← h, ← i) refl
 
 -- the receiver was told of the run's end

@@ -1,6 +1,6 @@
 -- Where something lay in a box, it left.
 use Rattle.std.proofs.Common.{◌≡◌, ℕ, ◌++◌, false, Option, Some, None}
-use Rattle.tp_sender.specs.Runs.{written_of}
+use Rattle.tp_unit.specs.Box.{written_of}
 use Rattle.tp_receiver.specs.State.{FcLeft}
 use Rattle.std.specs.Prelude.{is_none}
 use Rattle.tp_sender.specs.declared.event.TxEvent.TheVariants.{Left}

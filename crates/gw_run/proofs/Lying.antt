@@ -1,9 +1,10 @@
 -- What a step leaves in a box fits the channel's shape, and a frame of the sender lies in its box where its session says so.
 use Rattle.std.proofs.Common.{◌≡◌, Option, refl}
-use Rattle.tp_sender.specs.Runs.{box_once, box_then}
+use Rattle.tp_sender.specs.Runs.{box_once}
+use Rattle.tp_unit.specs.Box.{box_then}
 use Rattle.tp_receiver.specs.State.{RxEvent, Came, Timer, FcLeft, RunEnd}
-use Rattle.gw_law.specs.Run.{control_once}
-use Rattle.gw_law.proofs.DataFrames.{IsDataAct}
+use Rattle.tp_receiver.specs.Runs.{control_once}
+use Rattle.sender_law.proofs.DataFrames.{IsDataAct}
 use Rattle.tp_sender.specs.State.{HasFrame, IsInBox, StillHasFrame, Transmission}
 use Rattle.tp_sender.specs.declared.event.TxEvent.{TxEvent}
 use Rattle.tp_sender.specs.declared.event.TxEvent.TheVariants.{Turn, Fc, Left, RunEnd}

@@ -1,6 +1,6 @@
 -- How a run over two logs goes on: frame by frame on each bus, and tick by tick.
 use Rattle.std.proofs.Common.{◌≡◌, ◌⊎◌, inl, inr, ℕ, ◌+◌, ◌<◌, ◌≤◌, Bool, true, false, cond, List, [], ◌∷◌, ◌++◌, length, refl, sym, ap, ◌∙◌, subst, arith, append_assoc, length-append}
-use Rattle.tp_sender.specs.Runs.{Answer}
+use Rattle.tp_unit.specs.Box.{Answer}
 use Rattle.std.specs.Prelude.{All}
 use Rattle.std.proofs.lemmas.List.{append-nil}
 use Rattle.can_frame.specs.Frame.{CanFrame}

@@ -10,7 +10,7 @@ use Rattle.candump_line.specs.Reading.{line_of}
 use Rattle.candump_line.specs.declared.line.Line.TheVariants.{Frame}
 use Rattle.candump_line.proofs.Written.{line-back, line-shown}
 use Rattle.tick_clock.specs.Ticks.{stamp_after}
-use Rattle.tp_sender.specs.Runs.{Written}
+use Rattle.tp_unit.specs.Box.{Written}
 use Rattle.gw_run.specs.declared.log.LineRefusal.{LineRefusal}
 use Rattle.gw_run.specs.declared.log.Stamped.{Stamped}
 use Rattle.gw_run.specs.Line.{line_taken, taken_of, without_return}

@@ -1,7 +1,7 @@
 -- One more turn of the receiver, and all stands.
 use Rattle.std.proofs.Common.{◌≡◌, ℕ, ◌+◌, ◌*◌, ◌≤◌, Option, List, [], ◌∷◌, ◌++◌, length, map, refl, sym, subst, ap, ◌∙◌, append-nil, append_assoc, length-append, arith}
 use Rattle.tp_sender.specs.State.{TxTurn}
-use Rattle.tp_sender.specs.Runs.{Written, box_then}
+use Rattle.tp_unit.specs.Box.{Written, box_then}
 use Rattle.tp_receiver.specs.Port.{Knows, cells_for, takes_for}
 use Rattle.tp_receiver.specs.State.{RxEvent, RxDid, RxState, Came, Timer, FcLeft, RunEnd, RxTurn, rx_new}
 use Rattle.hub_core.specs.Moves.{move_of, moves_in, moves_of}
@@ -20,8 +20,8 @@ use Rattle.tp_sender.specs.declared.sender.Sender.{Sender}
 use Rattle.tp_sender.specs.declared.set.TxSet.{TxSet}
 use Rattle.tp_unit.specs.Unit.{Meaning}
 use Rattle.tp_unit.specs.declared.shape.Shape.{Shape}
-use Rattle.gw_law.specs.Run.{control_at, control_once}
-use Rattle.gw_law.proofs.Offers.{offered-fits-shape}
+use Rattle.tp_receiver.specs.Runs.{control_at, control_once}
+use Rattle.receiver_law.proofs.Offers.{offered-fits-shape}
 use Rattle.gw_run.specs.Standing.{FitsIn, RxStands, Stands, TxStands, lying, view_in}
 use Rattle.gw_run.specs.Telling.{RxStepped, TellsReceiver}
 use Rattle.gw_run.specs.declared.gateway.Gateway.{Gateway}

@@ -1,6 +1,6 @@
 -- What a run over built frames tells keeps the laws.
 use Rattle.std.proofs.Common.{◌≡◌, ℕ, ◌+◌, ◌≤◌, ◌&&◌, Bool, true, false, max, List, [], ◌∷◌, length, refl, sym, ◌∙◌, subst, ap, arith}
-use Rattle.tp_sender.specs.Runs.{Written}
+use Rattle.tp_unit.specs.Box.{Written}
 use Rattle.std.specs.Prelude.{All}
 use Rattle.std.specs.List.{AllByRecursion}
 use Rattle.std.proofs.lemmas.Bool.Decides.{nat_tests}
@@ -8,9 +8,10 @@ use Rattle.std.proofs.lemmas.List.Elements.{All-from_recursion, All-head, All-ta
 use Rattle.can_frame.specs.Frame.{CanFrame}
 use Rattle.can_frame.specs.declared.id.CanId.{CanId}
 use Rattle.gw_law.proofs.Laws.{laws}
-use Rattle.gw_law.proofs.ShortStarts.{short-start}
+use Rattle.receiver_law.proofs.ShortStarts.{short-start}
 use Rattle.gw_law.specs.Lawful.{Lawful}
-use Rattle.gw_law.specs.ReceptionCauses.{IsShortStart, IsSmall}
+use Rattle.receiver_law.specs.ReceptionCauses.{IsShortStart}
+use Rattle.gw_law.specs.Small.{IsSmall}
 use Rattle.gw_law.specs.Run.{HasLawfulLimits}
 use Rattle.tick_clock.specs.Ticks.{tick_at}
 use Rattle.tick_clock.specs.declared.clock.Clock.{Clock}

@@ -1,6 +1,6 @@
 -- From step to step within a tick's work.
 use Rattle.std.proofs.Common.{◌≡◌, ℕ, Option, Some, None, List, [], ◌∷◌, ◌++◌, length, refl, sym, subst, ap, ◌∙◌, append-nil, append_assoc, arith}
-use Rattle.tp_sender.specs.Runs.{Answer, Written, written_of}
+use Rattle.tp_unit.specs.Box.{Answer, Written, written_of}
 use Rattle.tp_sender.specs.State.{TxTurn}
 use Rattle.tp_receiver.specs.State.{RxEvent, Came, Timer, FcLeft, RxTurn}
 use Rattle.hub_core.specs.Turns.{calls_by, came_by}
@@ -10,7 +10,9 @@ use Rattle.hub_core.specs.Floors.{floors_of}
 use Rattle.hub_core.specs.View.{View, grows}
 use Rattle.hub_core.proofs.Whole.{is-joint}
 use Rattle.gw_law.proofs.RxLooks.{fresh-counts}
-use Rattle.gw_law.specs.Run.{AreLooks, ControlLeaves, IsJoint, LooksCount, control_after, moments_of, turns_of, view_of}
+use Rattle.receiver_law.specs.Parts.{AreLooks, ControlLeaves, LooksCount}
+use Rattle.gw_law.specs.Run.{IsJoint, moments_of, turns_of, view_of}
+use Rattle.tp_receiver.specs.Runs.{control_after}
 use Rattle.tp_attempts.specs.Seen.{Seen, seen_frame}
 use Rattle.tp_unit.specs.Reading.{unit_of}
 use Rattle.tp_unit.specs.Unit.{Meaning}

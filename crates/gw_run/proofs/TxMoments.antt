@@ -1,6 +1,7 @@
 -- One more step of the sender, and all stands.
 use Rattle.std.proofs.Common.{◌≡◌, ℕ, ◌≤◌, Option, List, ◌∷◌, ◌++◌, sym, subst, ap, ◌∙◌, arith}
-use Rattle.tp_sender.specs.Runs.{InOrder, Written, box_after, box_once, box_then, left_by, written_at}
+use Rattle.tp_sender.specs.Runs.{InOrder, box_after, box_once, left_by, written_at}
+use Rattle.tp_unit.specs.Box.{Written, box_then}
 use Rattle.hub_core.specs.Turns.{state_after}
 use Rattle.tp_sender.specs.Port.{Knows as KnowsPort}
 use Rattle.hub_core.specs.Moves.{moves_in}
@@ -24,7 +25,7 @@ use Rattle.gw_run.specs.declared.gateway.Gateway.{Gateway}
 use Rattle.gw_run.proofs.Lying.{Both, fits-frame, fits-offered, fits-put, has-still, has-then}
 use Rattle.gw_run.proofs.RxTurns.{moves-grows}
 use Rattle.gw_run.proofs.Same.{knows-same, waits-later}
-use Rattle.gw_law.proofs.DataFrames.{data-act}
+use Rattle.sender_law.proofs.DataFrames.{data-act}
 
 -- the step is one from where the earlier ones led
 pub row-of : (tx : TxSet) (t tick : ℕ) (moments : List TxTurn) (view : View) (sender next : Sender) (lies : Option Meaning) (frames : List Written) (dests : List DestRecord) (hub new : PlainHub) (event : TxEvent) (turn : TxTurn) →

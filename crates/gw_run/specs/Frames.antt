@@ -1,6 +1,6 @@
 -- The frames of a log with their ticks, and which of them belong to the two channels of a path (this project's own).
 use Rattle.std.specs.Prelude.{ℕ, ◌==◌, max, Bool, false, List, [], ◌∷◌, filter, flat_map, map}
-use Rattle.tp_sender.specs.Runs.{Answer}
+use Rattle.tp_unit.specs.Box.{Answer}
 use Rattle.can_frame.specs.Frame.{CanFrame}
 use Rattle.can_frame.specs.declared.id.CanId.{CanId}
 use Rattle.can_frame.specs.declared.id.CanId.TheVariants.{Std, Ext}

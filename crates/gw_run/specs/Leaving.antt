@@ -1,6 +1,6 @@
 -- How what lies in a box leaves.
 use Rattle.std.specs.Prelude.{◌≡◌, ℕ, ◌++◌, Option, None, List}
-use Rattle.tp_sender.specs.Runs.{Written, written_of}
+use Rattle.tp_unit.specs.Box.{Written, written_of}
 use Rattle.tp_unit.specs.Unit.{Meaning}
 use Rattle.tp_unit.specs.declared.shape.Shape.{Shape}
 

@@ -3,7 +3,7 @@ use Rattle.std.specs.Prelude.{◌≡◌, ℕ, ◌*◌, ◌^◌, ◌<◌, false, 
 use Rattle.can_frame.specs.Frame.{IsLawful}
 use Rattle.candump_line.specs.Line.{line_text}
 use Rattle.tick_clock.specs.Ticks.{stamp_after}
-use Rattle.tp_sender.specs.Runs.{Written}
+use Rattle.tp_unit.specs.Box.{Written}
 use Rattle.gw_run.specs.Log.{IsLog}
 use Rattle.gw_run.specs.declared.log.Stamped.{Stamped}
 

@@ -1,6 +1,6 @@
 -- What a run over the frames of two logs has sent and tells.
 use Rattle.std.specs.Prelude.{◌≡◌, ℕ, List, [], ◌∷◌}
-use Rattle.tp_sender.specs.Runs.{Written}
+use Rattle.tp_unit.specs.Box.{Written}
 use Rattle.gw_law.specs.Run.{IsRun, Route, Work, route_of}
 use Rattle.tick_clock.specs.declared.clock.Clock.{Clock}
 use Rattle.session_report.specs.declared.report.Report.{Report}
@@ -18,19 +18,9 @@ pub record Told : Type 0 where
 -- what is told of the run's route: its channels' frames are those of the logs with their identifiers
 abbrev pub route_told : Machines → (start period last : ℕ) → (source destination : List Stamped) → Told → Route
 route_told m start period last source destination told = record {
-  rx = m.rx;
-  tx = m.tx;
-  shape = m.shape;
-  source_budget = BUDGET;
-  budget = BUDGET;
+  source = record { rx = m.rx; shape = m.shape; budget = BUDGET; last = last; seen = seen_in (with_id m.source_id (in_ticks start period source)); controls = told.controls; sessions = told.report.sessions };
+  leg = record { tx = m.tx; budget = BUDGET; last = last; answers = answers_in (with_id m.destination_id (in_ticks start period destination)); frames = told.frames; dests = told.report.dests };
   sizes = BUFFER_CELLS ∷ [];
-  last = last;
-  seen = seen_in (with_id m.source_id (in_ticks start period source));
-  answers = answers_in (with_id m.destination_id (in_ticks start period destination));
-  controls = told.controls;
-  frames = told.frames;
-  sessions = told.report.sessions;
-  dests = told.report.dests;
   moves = told.report.moves;
   count = told.report.pool.changes;
   free = told.report.pool.free;

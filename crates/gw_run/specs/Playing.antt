@@ -1,6 +1,6 @@
 -- How far a run over two logs has come: what came of them so far, and what is still to come.
 use Rattle.std.specs.Prelude.{◌≡◌, ◌⊎◌, ℕ, ◌+◌, ◌<◌, ◌≤◌, Bool, false, List, ◌++◌, length}
-use Rattle.tp_sender.specs.Runs.{Answer}
+use Rattle.tp_unit.specs.Box.{Answer}
 use Rattle.std.specs.List.{AllByRecursion}
 use Rattle.can_frame.specs.declared.id.CanId.{CanId}
 use Rattle.tp_attempts.specs.Seen.{Seen}

@@ -1,6 +1,7 @@
 -- The gateway at its work: what its fields are after what the receiver and the sender did, and where in a tick its work stands.
 use Rattle.std.specs.Prelude.{◌≡◌, ◌⊎◌, ℕ, ◌+◌, ◌-◌, ◌*◌, ◌≤◌, true, None, Some, Option, option_map, List, [], ◌∷◌, ◌++◌, length, map}
-use Rattle.tp_sender.specs.Runs.{Answer, Written, HasSent, controls_in, box_after, clear_from, left_by}
+use Rattle.tp_unit.specs.Box.{Answer, Written}
+use Rattle.tp_sender.specs.Runs.{HasSent, controls_in, box_after, clear_from, left_by}
 use Rattle.tp_sender.specs.Port.{Knows as KnowsPort}
 use Rattle.tp_receiver.specs.Port.{Knows}
 use Rattle.tp_receiver.specs.State.{WaitsBy, state_of as receiver_state, RxTurn, rx_new}
@@ -8,7 +9,10 @@ use Rattle.hub_core.specs.Moves.{move_of}
 use Rattle.tp_receiver.specs.Runs.{HasReceived, frames_in}
 use Rattle.hub_core.specs.Turns.{calls_by, now_of, came_by, state_after, records_by}
 use Rattle.std.specs.List.{AllByRecursion}
-use Rattle.gw_law.specs.Run.{AreLooks, AreTicks, CameIn, IsAnswerIn, IsIdle, IsJoint, IsRun, ReceivesIn, Route, Work, control_after, controls_by, moments_of, route_of, tick_after, turns_of, view_of}
+use Rattle.receiver_law.specs.Parts.{AreLooks, CameIn, ReceivesIn}
+use Rattle.gw_law.specs.Run.{AreTicks, IsIdle, IsJoint, IsRun, Route, Work, moments_of, route_of, tick_after, turns_of, view_of}
+use Rattle.sender_law.specs.Parts.{IsAnswerIn}
+use Rattle.tp_receiver.specs.Runs.{control_after, controls_by}
 use Rattle.hub_core.specs.Plain.{hub_view}
 use Rattle.hub_core.specs.View.{View, grows}
 use Rattle.hub_core.specs.declared.plain.PlainHub.{PlainHub}
@@ -141,19 +145,9 @@ pub record InDestination (g : Gateway) (seen : List Seen) (answers : List Answer
 -- what is told of a run in which these frames and flow controls came
 abbrev pub route_with : Machines → (last : ℕ) → List Seen → List Answer → Told → Route
 route_with m last seen answers told = record {
-  rx = m.rx;
-  tx = m.tx;
-  shape = m.shape;
-  source_budget = BUDGET;
-  budget = BUDGET;
+  source = record { rx = m.rx; shape = m.shape; budget = BUDGET; last = last; seen = seen; controls = told.controls; sessions = told.report.sessions };
+  leg = record { tx = m.tx; budget = BUDGET; last = last; answers = answers; frames = told.frames; dests = told.report.dests };
   sizes = BUFFER_CELLS ∷ [];
-  last = last;
-  seen = seen;
-  answers = answers;
-  controls = told.controls;
-  frames = told.frames;
-  sessions = told.report.sessions;
-  dests = told.report.dests;
   moves = told.report.moves;
   count = told.report.pool.changes;
   free = told.report.pool.free;

@@ -1,6 +1,6 @@
 -- One step of the gateway: what a step of the receiver or of the sender over the hub needs, what it comes to, and what is noted of it.
 use Rattle.std.specs.Prelude.{◌≡◌, ℕ, ◌+◌, ◌≤◌, None, Some, Option, List, [], ◌∷◌, ◌++◌, length}
-use Rattle.tp_sender.specs.Runs.{Written, box_then, written_of}
+use Rattle.tp_unit.specs.Box.{Written, box_then, written_of}
 use Rattle.hub_core.specs.Turns.{calls_by}
 use Rattle.tp_sender.specs.Port.{Knows as KnowsPort, ActsFor as ActsForSender}
 use Rattle.tp_receiver.specs.Port.{ActsFor, CanTake, Knows, cells_for, takes_for}
@@ -8,7 +8,7 @@ use Rattle.tp_receiver.specs.State.{WaitsBy, RxEvent, RxDid, FcLeft, state_of as
 use Rattle.hub_core.specs.Moves.{moves_in}
 use Rattle.tp_receiver.specs.Table.{RxStep}
 use Rattle.std.specs.List.{AllByRecursion}
-use Rattle.gw_law.specs.Run.{IsStepIn}
+use Rattle.sender_law.specs.Parts.{IsStepIn}
 use Rattle.hub_core.specs.Calls.{Means}
 use Rattle.hub_core.specs.Floors.{AreFresh, floors_of}
 use Rattle.hub_core.specs.Joint.{AreInOrder, Joint}

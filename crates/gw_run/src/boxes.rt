@@ -1,6 +1,6 @@
 //! A machine's box, which holds the one frame that waits to leave.
 ghost use Rattle.std.specs.Prelude.{◌≡◌, OnOk};
-ghost use Rattle.tp_sender.specs.Runs.{box_then};
+ghost use Rattle.tp_unit.specs.Box.{box_then};
 ghost use Rattle.tp_unit.specs.Shape.{IsShape};
 ghost use Rattle.tp_unit.specs.Unit.{box_meaning_of};
 ghost use Rattle.gw_run.specs.Standing.{FitsIn, lying};

@@ -1,6 +1,6 @@
 //! The receiver of the source channel and the sender of the destination at work over one hub, step by step.
 ghost use Rattle.std.specs.Prelude.{◌≡◌, ◌⊎◌, ◌+◌, ◌<◌, ◌≤◌, [], ◌∷◌, ◌++◌, List, ℕ, false, length, IfOk, OnOk};
-ghost use Rattle.tp_sender.specs.Runs.{Answer};
+ghost use Rattle.tp_unit.specs.Box.{Answer};
 ghost use Rattle.tp_sender.specs.State.{TxTurn};
 ghost use Rattle.tp_receiver.specs.State.{FcLeft, event_of, RxTurn};
 ghost use Rattle.std.specs.Bool.{MatchBool};

@@ -2,7 +2,7 @@
 ghost use Rattle.std.specs.Prelude.{ℕ, List};
 ghost use Rattle.std.specs.List.{AllByRecursion};
 ghost use Rattle.candump_line.specs.Line.{IsInterface};
-ghost use Rattle.tp_sender.specs.Runs.{Written};
+ghost use Rattle.tp_unit.specs.Box.{Written};
 ghost use Rattle.gw_run.specs.Output.{IsLogOf, IsReadable};
 
 /// The output of classic frames with stamps below 2^32 seconds is a log of just these frames, by the definition that the logs of a

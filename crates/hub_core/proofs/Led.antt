@@ -5,7 +5,7 @@ use Rattle.std.specs.Prelude.{slice_get, if◌then◌else◌}
 use Rattle.gw_base.specs.Cell.{IsCell, count_of, counted}
 use Rattle.hub_core.proofs.EveryStep.{Lawful, lawful-of}
 use Rattle.hub_core.proofs.OneGroup.{law}
-use Rattle.hub_core.proofs.Sure.{sure-joint, from}
+use Rattle.hub_core.proofs.Sure.{sure-joint}
 use Rattle.hub_core.specs.Alone.{IsRoomOf, IsSeenOf}
 use Rattle.hub_core.specs.Core.{HubState, opening, Step, after, May, MayDo, Leads, IsLed, LedLaw, LeadingLaw}
 use Rattle.hub_core.specs.Floors.{staying, has_left, floors_of}

@@ -22,3 +22,6 @@ pub mod Turns
 pub mod Led
 pub mod Numbered
 pub mod Whole
+pub mod Changed
+pub mod Sides
+pub mod Standing

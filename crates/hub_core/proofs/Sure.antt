@@ -6,8 +6,8 @@ use Rattle.std.proofs.lemmas.List.Elements.{All-nil, All-cons, All-head, All-tai
 use Rattle.std.specs.Prelude.{slice_get}
 use Rattle.gw_base.specs.Fit.{IsSmallest}
 use Rattle.hub_core.proofs.Numbered.{within}
-use Rattle.hub_core.specs.Joint.{AreInOrder, number_of, numbered, replay, IsLawful, IsOverflow, IsJournal, IsWritten, IsStream, AreStreams, changed_buf, HasLeft, HasLeftWriter, IsOver, IsTaken, AreOwned, Joint}
-use Rattle.hub_core.specs.View.{View, Change, Taken, Freed, Refusal, Session, Reading, session_at, reading_at}
+use Rattle.hub_core.specs.Joint.{AreInOrder, number_of, numbered, replay, IsLawful, IsOverflow, IsJournal, IsStream, AreStreams, changed_buf, IsOver, AreOwned, Joint}
+use Rattle.hub_core.specs.View.{View, Change, Taken, Freed, Session, Reading, session_at, reading_at}
 
 abbrev pub NotNot : Type 0 → Type 0
 NotNot A = (A → ⊥) → ⊥

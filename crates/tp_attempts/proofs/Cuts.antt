@@ -1,6 +1,6 @@
 -- The cuts of a list that grows by one item.
 use Rattle.std.proofs.Common.{◌≡◌, Bool, true, false, cond, List, [], ◌∷◌, ◌++◌, refl, ap, sym, ◌∙◌, append-nil, append_assoc}
-use Rattle.std.specs.List.{AllByRecursion}
+use Rattle.std.specs.List.{AllByRecursion, AllZip}
 use Rattle.tp_attempts.specs.Cuts.{Cut, before_start, cuts}
 
 -- the last cut with one more item
@@ -65,3 +65,15 @@ cuts-more starts xs x earlier cut is are = cuts-grow starts xs x is ∙ ap (grow
 
 pub cuts-none : {T : Type 0} (starts : T → Bool) (xs : List T) (x : T) → starts x ≡ false → cuts starts xs ≡ [] → cuts starts (xs ++ x ∷ []) ≡ []
 cuts-none starts xs x is none = cuts-grow starts xs x is ∙ ap (grow x) none
+
+-- the last transmission has one frame more
+zip-after : {T B : Type 0} (P : Cut T → B → Type 0) (x : T) (cut : Cut T) (cuts : List (Cut T)) (ys : List B) →
+    ((c : Cut T) (y : B) → P c y → P (record { start = c.start; after = c.after ++ x ∷ [] }) y) → AllZip P (cut ∷ cuts) ys → AllZip P (grow_after x cut cuts) ys
+zip-after P x cut cuts [] on all = absurd all
+zip-after P x cut [] (y ∷ ys) on all = (on cut y all.0, all.1)
+zip-after P x cut (next ∷ cuts) (y ∷ ys) on all = (all.0, zip-after P x next cuts ys on all.1)
+
+pub zip-grow : {T B : Type 0} (P : Cut T → B → Type 0) (x : T) (cuts : List (Cut T)) (ys : List B) →
+    ((c : Cut T) (y : B) → P c y → P (record { start = c.start; after = c.after ++ x ∷ [] }) y) → AllZip P cuts ys → AllZip P (grow x cuts) ys
+zip-grow P x [] ys on all = all
+zip-grow P x (cut ∷ cuts) ys on all = zip-after P x cut cuts ys on all

@@ -1,29 +1,16 @@
 -- A run of a sender: its turns, the newest first, what came with them, and what left.
-use Rattle.std.specs.Prelude.{ℕ, ◌+◌, ◌≤◌, ◌==◌, if◌then◌else◌, Option, Some, None, List, [], ◌∷◌, ◌++◌}
+use Rattle.std.specs.Prelude.{ℕ, ◌+◌, ◌≤◌, ◌==◌, if◌then◌else◌, Option, None, List, [], ◌∷◌, ◌++◌}
 use Rattle.std.specs.List.{flat_map}
-use Rattle.can_frame.specs.Frame.{CanFrame}
 use Rattle.hub_core.specs.Turns.{Happened, state_after}
 use Rattle.hub_core.specs.View.{Event, Took, Refused, Entered, Asked, Put, Published, Joining, Missed, Saw, Read, Closed, Parted}
 use Rattle.tp_unit.specs.declared.shape.Shape.{Shape}
-use Rattle.tp_unit.specs.Unit.{Meaning, SingleFrame, FirstFrame, ConsecutiveFrame, FlowControl, NoUnit, BoxMeaning, Keeps, Offers, Revokes}
-use Rattle.tp_unit.specs.Writing.{frame_of}
+use Rattle.tp_unit.specs.Unit.{Meaning}
+use Rattle.tp_unit.specs.Box.{Answer, Written, box_then, written_of}
 use Rattle.tp_sender.specs.declared.event.TxEvent.{TxEvent}
 use Rattle.tp_sender.specs.declared.event.TxEvent.TheVariants.{Turn, Fc, Left, RunEnd}
 use Rattle.tp_sender.specs.declared.set.TxSet.{TxSet}
 use Rattle.tp_sender.specs.State.{TxTurn, tx_new}
 use Rattle.tp_sender.specs.Table.{TxStep}
-
--- a frame that left, with its tick
-pub record Written : Type 0 where
-  pub tick : ℕ
-  pub frame : CanFrame
-
--- a flow control that came, with its tick
-pub record Answer : Type 0 where
-  pub tick : ℕ
-  pub status : ℕ
-  pub block_size : ℕ
-  pub separation : ℕ
 
 -- what lies in the sender's box: a frame that left is gone, and an act offers one, revokes it or keeps it
 abbrev pub box_once : TxEvent → Option Meaning → Option Meaning
@@ -32,20 +19,11 @@ box_once (Fc fs bs st) lies = lies
 box_once Left lies = None
 box_once RunEnd lies = lies
 
-abbrev pub box_then : BoxMeaning → Option Meaning → Option Meaning
-box_then Keeps lies = lies
-box_then (Offers meaning) lies = Some meaning
-box_then Revokes lies = None
-
 abbrev pub box_after : List TxTurn → Option Meaning
 box_after [] = None
 box_after (turn ∷ earlier) = box_then turn.did.act (box_once turn.event (box_after earlier))
 
 -- the frame that an event says has left: what lay in the box, written in the channel's shape
-abbrev pub written_of : Shape → ℕ → Option Meaning → List Written
-written_of shape tick None = []
-written_of shape tick (Some meaning) = record { tick = tick; frame = frame_of shape meaning } ∷ []
-
 abbrev pub written_at : Shape → TxEvent → ℕ → Option Meaning → List Written
 written_at shape Turn tick lies = []
 written_at shape (Fc fs bs st) tick lies = []
@@ -101,14 +79,6 @@ cell_read number (Parted path dest seq freed) = []
 -- the cells that were read of that session, the oldest first
 abbrev pub cells_in : ℕ → List Event → List ℕ
 cells_in number calls = flat_map (cell_read number) calls
-
--- a frame that is neither a start nor a consecutive frame
-abbrev pub IsNoData : Meaning → Type 0
-IsNoData (SingleFrame bytes) = ⊥
-IsNoData (FirstFrame len bytes) = ⊥
-IsNoData (ConsecutiveFrame number bytes) = ⊥
-IsNoData (FlowControl status block_size separation) = Unit {0}
-IsNoData (NoUnit why) = Unit {0}
 
 -- the tick after the one in which the sender's last frame left, and 0 where none left
 abbrev pub after_left : TxEvent → (tick before : ℕ) → ℕ

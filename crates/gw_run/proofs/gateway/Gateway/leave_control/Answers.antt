@@ -1,5 +1,5 @@
 use Rattle.std.proofs.Common.{ap, ◌∙◌, rules}
-use Rattle.tp_sender.specs.Runs.{box_then}
+use Rattle.tp_unit.specs.Box.{box_then}
 use Rattle.gw_run.proofs.Leavings.{control-leaves}
 use Rattle.gw_run.proofs.gateway.Gateway.leave_control.Goals as goal
 

@@ -1,5 +1,0 @@
-use Rattle.gw_law.proofs.Sessions.{stored_in}
-use Rattle.gw_law.proofs.stored.stored_law.Goals as goal
-
-pub returns : goal.returns
-returns c = stored_in

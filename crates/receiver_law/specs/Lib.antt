@@ -1,0 +1,5 @@
+pub mod Channel
+pub mod FlowControls
+pub mod Parts
+pub mod ReceptionCauses
+pub mod Source

@@ -1,0 +1,10 @@
+use Rattle.sender_law.proofs.OtherFrames.{others-pass}
+use Rattle.sender_law.proofs.TxLaw.{law}
+use Rattle.sender_law.specs.Transfer.{transfer_of}
+use Rattle.sender_law.proofs.transfer.transfer_law.Goals as goal
+
+pub returns-clause-own : goal.returns-clause-own
+returns-clause-own c = law
+
+pub returns-clause-channel : goal.returns-clause-channel
+returns-clause-channel c = λ set turns frames sound happened are. others-pass (transfer_of set turns) frames (law set turns sound happened) are

@@ -1,0 +1,4 @@
+pub mod Channel
+pub mod Parts
+pub mod Transfer
+pub mod TransmissionCauses

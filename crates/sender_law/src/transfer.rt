@@ -1,0 +1,19 @@
+ghost use Rattle.std.specs.Prelude.{◌≡◌, List, filter};
+ghost use Rattle.sender_law.specs.Transfer.{TransferLaw, is_data, transfer_of};
+ghost use Rattle.tp_attempts.specs.Seen.{Seen};
+ghost use Rattle.tp_sender.specs.Runs.{HasSent};
+ghost use Rattle.tp_sender.specs.State.{TxTurn};
+ghost use Rattle.tp_sender.specs.declared.set.TxSet.{TxSet};
+ghost use Rattle.tp_unit.specs.Shape.{IsShape};
+
+/// The law of transfer, of every run of a sender; the function does nothing.
+///
+/// The transmissions in what the sender wrote belong to the records with sent bytes, one for one and in order. Each has
+/// the session's length, carries the first bytes that were read of the session, as many as the record says, leaves
+/// between the record's ticks and awaits its flow control; a record says Sent exactly where that is the whole length.
+/// The same holds of all that left on the channel, with frames between that carry no data, such as the flow controls of
+/// the channel's receiver.
+pub fn transfer_law()
+    ensures own { (set : TxSet) (turns : List TxTurn) → IsShape set.shape → HasSent set turns → TransferLaw (transfer_of set turns) }
+    ensures channel { (set : TxSet) (turns : List TxTurn) (frames : List Seen) → IsShape set.shape → HasSent set turns → filter (λ (s : Seen). is_data s.meaning) frames ≡ (transfer_of set turns).frames → TransferLaw (record (transfer_of set turns) { frames = frames }) }
+{}

@@ -5,7 +5,6 @@ pub mod Lists
 pub mod Origins
 pub mod OtherFrames
 pub mod StandingReader
-pub mod TxCalls
 pub mod TxCausesEnd
 pub mod TxCausesFrames
 pub mod TxCausesLeft
@@ -20,6 +19,7 @@ pub mod TxLeft
 pub mod TxMoves
 pub mod TxPaces
 pub mod TxReadings
+pub mod TxStages
 pub mod TxSteps
 pub mod TxWorld
 pub mod TxWritten

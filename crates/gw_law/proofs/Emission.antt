@@ -20,7 +20,7 @@ use Rattle.receiver_law.specs.Parts.{CameIn, ControlLeaves, EndsReceiving, Recei
 use Rattle.tp_unit.specs.Box.{left_in}
 use Rattle.tp_unit.proofs.Rises.{Rise, all-by, at-most-once, never-fall, rise-later, rise-written}
 use Rattle.tp_receiver.specs.Runs.{control_after, control_at, control_once, controls_by}
-use Rattle.sender_law.proofs.DataFrames.{AreSteps, are-data}
+use Rattle.sender_law.proofs.DataFrames.{are-data}
 use Rattle.receiver_law.proofs.Offers.{IsControl, IsControlAct, control-act, control-fits}
 use Rattle.gw_base.proofs.Lists.{all-join}
 use Rattle.gw_law.proofs.WholeRun.{WholeRun, route, works_of}
@@ -144,30 +144,6 @@ are-controls set shape (turn ∷ earlier) happened =
     all-join (WritesControl set shape) (controls_by shape earlier) (control_at shape turn.event turn.did.tick (control_after earlier)) (are-controls set shape earlier happened.2)
     (written-control set shape turn.event turn.did.tick (control_after earlier) (lies-control set earlier happened.2))
 
--- only the sender's own frames leave on the destination's bus
-steps-answers : (tick : ℕ) (answers earlier : List TxTurn) → AllByRecursion (IsAnswerIn tick) answers → AreSteps earlier → AreSteps (answers ++ earlier)
-steps-answers tick [] earlier all so = so
-steps-answers tick (m ∷ answers) earlier all so = steps-answers tick answers earlier all.1 so
-
-steps-left : (tick : ℕ) (lies : Option Meaning) (left before : List TxTurn) → FrameLeaves tick lies left → AreSteps before → AreSteps (left ++ before)
-steps-left tick None left before row so = rw row so
-steps-left tick (Some meaning) [] before row so = absurd row
-steps-left tick (Some meaning) (m ∷ more) before row so = rw row.1 so
-
-works-steps : (sizes : List ℕ) (works : List Work) → AreTicks sizes works → AreSteps (moments_of works)
-works-steps sizes [] ticks = tt
-works-steps sizes (work ∷ earlier) ticks =
-    let sends = ticks.0.sends in
-    let is : moments_of (work ∷ earlier) ≡ sends.left ++ (sends.turn ∷ (sends.answers ++ moments_of earlier)) =
-    ap (λ m. m ++ moments_of earlier) sends.moments_are ∙ append_assoc sends.left (sends.turn ∷ sends.answers) (moments_of earlier) in
-    subst AreSteps (sym is)
-    (steps-left work.tick (box_after (sends.turn ∷ (sends.answers ++ moments_of earlier))) sends.left (sends.turn ∷ (sends.answers ++ moments_of earlier)) sends.left_is
-    (steps-answers work.tick sends.answers (moments_of earlier) sends.answers_only (works-steps sizes earlier ticks.1)))
-
-end-steps : (last : ℕ) (moments earlier : List TxTurn) → AllByRecursion (IsStepIn last RunEnd) moments → AreSteps earlier → AreSteps (moments ++ earlier)
-end-steps last [] earlier all so = so
-end-steps last (m ∷ moments) earlier all so = end-steps last moments earlier all.1 so
-
 -- both buses of a run
 pub bus_law_of : (o : WholeRun) → 1 ≤ o.source_budget → 1 ≤ o.budget → BusLaw (route o)
 bus_law_of o some_source some =
@@ -178,6 +154,6 @@ bus_law_of o some_source some =
       controls = emits o.source_budget 0 (o.last + 1) (controls_by o.shape (turns_of (works_of o))) some_source controls;
       frames_end = all-by 0 (o.last + 1) o.last (left_by o.tx.shape (moments_of (works_of o))) (omega arith) frames;
       controls_end = all-by 0 (o.last + 1) o.last (controls_by o.shape (turns_of (works_of o))) (omega arith) controls;
-      are_data = are-data o.tx (moments_of (works_of o)) (end-steps o.last o.end.moments (moments_of o.ticks) o.run.ends.sends (works-steps o.sizes o.ticks o.run.ticks_are)) o.run.sent;
+      are_data = are-data o.tx (moments_of (works_of o)) o.run.sent;
       are_controls = are-controls o.rx o.shape (turns_of (works_of o)) o.run.received;
     }

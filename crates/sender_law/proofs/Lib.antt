@@ -1,10 +1,13 @@
 pub mod DataFrames
+pub mod DestRecords
+pub mod Emission
 pub mod JointReadings
 pub mod JointSenders
 pub mod Lists
 pub mod Origins
 pub mod OtherFrames
 pub mod StandingReader
+pub mod TransmissionCauses
 pub mod TxCausesEnd
 pub mod TxCausesFrames
 pub mod TxCausesLeft
@@ -18,6 +21,7 @@ pub mod TxLeaves
 pub mod TxLeft
 pub mod TxMoves
 pub mod TxPaces
+pub mod TxParts
 pub mod TxReadings
 pub mod TxStages
 pub mod TxSteps

@@ -20,7 +20,7 @@ use Rattle.tp_sender.specs.Effects.{Awaits, IsAwaiting, IsSettled, first_stage}
 use Rattle.tp_sender.proofs.Effects.{HoldsOf, of-step, step_done}
 use Rattle.tp_unit.specs.declared.shape.Shape.{Shape}
 use Rattle.tp_unit.specs.Shape.{IsShape, address_size}
-use Rattle.sender_law.specs.Transfer.{GoesOnWith, TransferLaw, seen_of, transfer_of}
+use Rattle.sender_law.specs.Transfer.{GoesOnWith, Transfer, TransferLaw, seen_of, transfer_of}
 use Rattle.sender_law.proofs.TxLeaves.{sends-way}
 use Rattle.sender_law.proofs.TxMoves.{IsNotAwaiting, NotAwaiting, answers, at_tick, ignored, later}
 use Rattle.sender_law.proofs.TxStages.{IsTimely, IsTold, LeadsOn, SoFarBut, asked, done_in, event_in, same-so}
@@ -122,3 +122,8 @@ law set moments sound happened =
       sends = so.sends;
       goes_on = goes-on set.shape (world_of set moments) (state_after tx_new moments).live so.going so.address so.lives;
     }
+
+-- no transmission goes on where no session is being sent
+pub none-going : (t : Transfer) (now : ℕ) (live : Option Transmission) (going : List (Cut Seen)) → live ≡ None → GoesOnWith t now live going → going ≡ []
+none-going t now None going is goes = goes
+none-going t now (Some s) going is goes = cc

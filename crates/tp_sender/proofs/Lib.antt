@@ -6,4 +6,4 @@ mod Calls
 mod Reading
 mod Turns
 mod Idle
-mod Settles
+pub mod Settles

@@ -17,7 +17,7 @@ use Rattle.tp_sender.specs.declared.set.TxSet.{TxSet}
 use Rattle.tp_sender.specs.Effects.{AwaitsNext, IsSettled, MayBe, MayEnd, MayWait, TxStage, TxDone, TxEffect, act_then, done_by, done_then, found_by, nothing_at, first_stage}
 use Rattle.tp_sender.specs.Effects.{Misses, Joins, Looks, Reads, Offers, Leaves, Waits, Ends, AfterFirst, AfterNext, IsReached, GapIsOver, IsContinued, IsPaused, IsWhole, IsCut}
 use Rattle.tp_sender.specs.State.{HasFrame, IsInBox, TxState, StillHasFrame, in_box, since_of, Transmission, transmission_of, TxDid}
-use Rattle.tp_sender.specs.Table.{LiveRow, TxRow, revoked}
+use Rattle.tp_sender.specs.Table.{LiveRow, TxRow, TxStep, revoked}
 use Rattle.tp_sender.proofs.Effects.{HoldsOf, IsDoneLaw, of-step}
 use Rattle.tp_sender.proofs.Made.{amid}
 
@@ -121,13 +121,18 @@ box-is (OffersUnit unit) was has left live from to out tells = tells.1
 box-is Revokes was has left live from to out tells = λ now. tells (out, now)
 
 -- every step
+settled-by : (set : TxSet) (old : TxState) (event : TxEvent) (did : TxDid) → TxStep set old event did → HoldsOf (Settling did.tick) old event did
+settled-by set old event did row = of-step set (Settling did.tick) old event did (law set did.tick) row
+
+pub box-settles : (set : TxSet) (old : TxState) (event : TxEvent) (did : TxDid) → TxStep set old event did → IsInBox did.act (StillHasFrame event old.live) did.new.live
+box-settles set old event did row =
+    let is : HoldsOf (Settling did.tick) old event did = settled-by set old event did row in
+    box-is did.act ((Some event ≡ Some Left → ⊥) × HasFrame old.live) (StillHasFrame event old.live) is.left did.new.live (still-has event old.live) (had-still event old.live) (not-left is.left did.new.live is.settled) is.holds.box
+
 pub settles : (set : TxSet) (next : ℕ) (live : Option Transmission) (event : TxEvent) (did : TxDid) → since_of live ≤ did.tick → TxRow set next live event did → Settles (StillHasFrame event live) did
 settles set next live event did le row =
-    let is : HoldsOf (Settling did.tick) (record { next = next; live = live }) event did = of-step set (Settling did.tick) (record { next = next; live = live }) event did (law set did.tick) row in
-    record {
-      time = is.holds.time le;
-      box = box-is did.act ((Some event ≡ Some Left → ⊥) × HasFrame live) (StillHasFrame event live) is.left did.new.live (still-has event live) (had-still event live) (not-left is.left did.new.live is.settled) is.holds.box;
-    }
+    let old : TxState = record { next = next; live = live } in
+    record { time = (settled-by set old event did row).holds.time le; box = box-settles set old event did row }
 
 -- where a sender sends nothing, and where it sends a session
 pub settles-none : {f : Floors} (set : TxSet) (next : ℕ) (old taken : Option HeldTransmission) (new : TxState) (event : TxEvent) (tick : ℕ) (u v : View) (acts : TxActs) → old ≡ None → taken ≡ None →

@@ -2,11 +2,11 @@
 use Rattle.std.proofs.Common.{◌≡◌, ℕ, ◌+◌, ◌≤◌, ◌⊎◌, Bool, true, false, Option, Some, None, List, [], ◌∷◌, ◌++◌, refl, ap, sym, subst, ◌∙◌, arith, append-nil, append_assoc, inl, inr}
 use Rattle.tp_sender.specs.declared.transmission.Phase.{Phase}
 use Rattle.tp_sender.specs.declared.transmission.Phase.TheVariants.{Start, Bytes, Box, Fc, Gap}
-use Rattle.tp_unit.specs.Box.{Answer}
+use Rattle.tp_unit.specs.Box.{Answer, IsNeverFull, Leaves, Nothing, Stays, Went}
 use Rattle.tp_sender.specs.Runs.{HasSent, controls_in, box_after}
 use Rattle.tp_sender.specs.State.{TxTurn, tx_new, Transmission}
-use Rattle.hub_core.specs.Turns.{came_by, now_of, state_after, records_by}
-use Rattle.std.specs.Prelude.{filter, map, nat_lt}
+use Rattle.hub_core.specs.Turns.{Part, came_by, now_of, records_by, state_after, tick_after, turns_of}
+use Rattle.std.specs.Prelude.{Bool, filter, map, nat_lt}
 use Rattle.std.specs.List.{AllByRecursion, AllZip}
 use Rattle.std.proofs.lemmas.Bool.{cases_lt}
 use Rattle.std.proofs.lemmas.Bool.Decides.{nat_tests}
@@ -19,11 +19,12 @@ use Rattle.tp_sender.specs.declared.event.TxEvent.TheVariants.{Turn, Fc as CameF
 use Rattle.tp_sender.specs.declared.set.TxSet.{TxSet}
 use Rattle.tp_unit.specs.Shape.{IsShape, address_size}
 use Rattle.tp_unit.specs.Unit.{Meaning}
-use Rattle.sender_law.specs.Parts.{AnswersIn, FrameLeaves, IsAnswerIn, IsStepIn, SendsIn}
-use Rattle.gw_law.specs.Run.{AreTicks, IsEnd, IsIdle, Work, moments_of, tick_after}
+use Rattle.sender_law.specs.Parts.{AnswersIn, IsAnswerIn, IsStepIn, IsTxPart}
+use Rattle.sender_law.specs.Runs.{AreTxParts, IsTxIdle, IsTxRun, TxRun, leg_of, turns_in}
 use Rattle.sender_law.specs.Transfer.{SendsFor, Transfer, TransferLaw, has_sent, ticks_of, transfer_of}
 use Rattle.sender_law.specs.TransmissionCauses.{IsCaused, TransmissionCauses, left_in}
-use Rattle.sender_law.proofs.TxLaw.{law, so-far, world_of}
+use Rattle.sender_law.proofs.TxLaw.{law, none-going, so-far, world_of}
+use Rattle.sender_law.proofs.TxParts.{turns-in}
 use Rattle.sender_law.proofs.TxWorld.{SoFar}
 use Rattle.sender_law.proofs.TxCausesEnd.{end-answers, end-steps}
 use Rattle.sender_law.proofs.TxCausesFrames.{ended_ticks, frames_by, is_left, live_ticks}
@@ -31,8 +32,6 @@ use Rattle.sender_law.proofs.TxCausesLists.{Splits}
 use Rattle.sender_law.proofs.TxCausesMoments.{Holds, Lives, answer-step, answered-more, left-step, stays-step, turn-step}
 use Rattle.sender_law.proofs.TxCausesSteps.{Counted, Opens, OpensIn, Tells, Turned, came}
 use Rattle.gw_base.proofs.Lists.{all-front, all-join, all-weaker, zip-both}
-use Rattle.gw_law.proofs.Deliveries.{none-going}
-use Rattle.gw_law.proofs.WholeRun.{WholeRun, route}
 use Rattle.hub_core.proofs.Turns.{happened-front}
 
 -- a flow control that came in a tick
@@ -93,41 +92,51 @@ turning tx all last tick answers earlier turn are event at some happened splits 
     let T : ℕ → Type 0 = λ t. Splits all so_far t (t + 1) → Holds tx all last (Opens tx all so_far t) (answers ++ earlier) → Holds tx all last (Turned tx all so_far t) (turn ∷ (answers ++ earlier)) in
     subst T at (turn-step tx all last turn (answers ++ earlier) event happened) splits (answering tx all last tick answers earlier are some happened.2 (splits-sooner all so_far tick splits) holds)
 
-leaves-one : (tick : ℕ) (box : Option Meaning) (moment : TxTurn) (more : List TxTurn) → FrameLeaves tick box (moment ∷ more) → IsStepIn tick Left moment × (more ≡ [])
-leaves-one tick None moment more is = cc
-leaves-one tick (Some meaning) moment more is = is
-
--- a whole tick
-in-tick-by : (tx : TxSet) (all : List Answer) (last tick : ℕ) (left answers earlier : List TxTurn) (turn : TxTurn) → AllByRecursion (IsAnswerIn tick) answers → turn.event ≡ Turn → turn.did.tick ≡ tick → FrameLeaves tick (box_after (turn ∷ (answers ++ earlier))) left →
-    IsShape tx.shape → 1 ≤ tx.n_bs → HasSent tx ((left ++ turn ∷ answers) ++ earlier) → Splits all (came_by controls_in ((left ++ turn ∷ answers) ++ earlier)) tick (tick + 1) →
-    Holds tx all last (Opens tx all (came_by controls_in earlier) tick) earlier → Holds tx all last (Opens tx all (came_by controls_in ((left ++ turn ∷ answers) ++ earlier)) (tick + 1)) ((left ++ turn ∷ answers) ++ earlier)
-in-tick-by tx all last tick [] answers earlier turn are event at leaves sound some happened splits holds =
+-- nothing lies in the box
+stays-in : (tx : TxSet) (all : List Answer) (last tick : ℕ) (answers earlier : List TxTurn) (turn : TxTurn) → AllByRecursion (IsAnswerIn tick) answers → turn.event ≡ Turn → turn.did.tick ≡ tick → box_after (turn ∷ (answers ++ earlier)) ≡ None → IsShape tx.shape → 1 ≤ tx.n_bs →
+    HasSent tx (turn ∷ (answers ++ earlier)) → Splits all (came_by controls_in (turn ∷ (answers ++ earlier))) tick (tick + 1) → Holds tx all last (Opens tx all (came_by controls_in earlier) tick) earlier →
+    Holds tx all last (Opens tx all (came_by controls_in (turn ∷ (answers ++ earlier))) (tick + 1)) (turn ∷ (answers ++ earlier))
+stays-in tx all last tick answers earlier turn are event at none sound some happened splits holds =
     let ms : List TxTurn = turn ∷ (answers ++ earlier) in
     let same : came_by controls_in ms ≡ came_by controls_in (answers ++ earlier) = answered-same turn (answers ++ earlier) Turn event refl in
     let S : List Answer → Type 0 = λ l. Splits all l tick (tick + 1) in
     let H : List Answer → Type 0 = λ l. Holds tx all last (Opens tx all l (tick + 1)) ms in
     let here : Splits all (came_by controls_in (answers ++ earlier)) tick (tick + 1) = subst S same splits in
-    subst H (sym same) (stays-step tx all (came_by controls_in (answers ++ earlier)) last tick ms sound happened here leaves (turning tx all last tick answers earlier turn are event at some happened here holds))
-in-tick-by tx all last tick (m ∷ []) answers earlier turn are event at leaves sound some happened splits holds =
+    subst H (sym same) (stays-step tx all (came_by controls_in (answers ++ earlier)) last tick ms sound happened here none (turning tx all last tick answers earlier turn are event at some happened here holds))
+
+-- what lies there leaves
+goes-in : (tx : TxSet) (all : List Answer) (last tick : ℕ) (m : TxTurn) (answers earlier : List TxTurn) (turn : TxTurn) → AllByRecursion (IsAnswerIn tick) answers → turn.event ≡ Turn → turn.did.tick ≡ tick → IsStepIn tick Left m → IsShape tx.shape → 1 ≤ tx.n_bs →
+    HasSent tx (m ∷ turn ∷ (answers ++ earlier)) → Splits all (came_by controls_in (m ∷ turn ∷ (answers ++ earlier))) tick (tick + 1) → Holds tx all last (Opens tx all (came_by controls_in earlier) tick) earlier →
+    Holds tx all last (Opens tx all (came_by controls_in (m ∷ turn ∷ (answers ++ earlier))) (tick + 1)) (m ∷ turn ∷ (answers ++ earlier))
+goes-in tx all last tick m answers earlier turn are event at step sound some happened splits holds =
     let ms : List TxTurn = turn ∷ (answers ++ earlier) in
     let so_far : List Answer = came_by controls_in (answers ++ earlier) in
-    let step : IsStepIn tick Left m × ([] ≡ []) = leaves-one tick (box_after ms) m [] leaves in
-    let same : came_by controls_in (m ∷ ms) ≡ so_far = answered-same m ms Left step.0.0 refl ∙ answered-same turn (answers ++ earlier) Turn event refl in
+    let same : came_by controls_in (m ∷ ms) ≡ so_far = answered-same m ms Left step.0 refl ∙ answered-same turn (answers ++ earlier) Turn event refl in
     let S : List Answer → Type 0 = λ l. Splits all l tick (tick + 1) in
     let H : List Answer → Type 0 = λ l. Holds tx all last (Opens tx all l (tick + 1)) (m ∷ ms) in
     let T : ℕ → Type 0 = λ t. Splits all so_far t (t + 1) → Holds tx all last (Turned tx all so_far t) ms → Holds tx all last (Opens tx all so_far (t + 1)) (m ∷ ms) in
     let here : Splits all so_far tick (tick + 1) = subst S same splits in
-    subst H (sym same) (subst T step.0.1 (left-step tx all so_far last m ms step.0.0 sound some happened) here (turning tx all last tick answers earlier turn are event at some happened.2 here holds))
-in-tick-by tx all last tick (m ∷ next ∷ more) answers earlier turn are event at leaves sound some happened splits holds =
-    let step : IsStepIn tick Left m × (next ∷ more ≡ []) = leaves-one tick (box_after (turn ∷ (answers ++ earlier))) m (next ∷ more) leaves in
-    let no : next ∷ more ≡ [] = step.1 in absurd cc
+    subst H (sym same) (subst T step.1 (left-step tx all so_far last m ms step.0 sound some happened) here (turning tx all last tick answers earlier turn are event at some happened.2 here holds))
 
-in-tick : (tx : TxSet) (all : List Answer) (last tick : ℕ) (earlier moments : List TxTurn) → SendsIn tick earlier moments → IsShape tx.shape → 1 ≤ tx.n_bs → HasSent tx (moments ++ earlier) → Splits all (came_by controls_in (moments ++ earlier)) tick (tick + 1) →
-    Holds tx all last (Opens tx all (came_by controls_in earlier) tick) earlier → Holds tx all last (Opens tx all (came_by controls_in (moments ++ earlier)) (tick + 1)) (moments ++ earlier)
-in-tick tx all last tick earlier moments is sound some =
-    let P : List TxTurn → Type 0 = λ ms. HasSent tx (ms ++ earlier) → Splits all (came_by controls_in (ms ++ earlier)) tick (tick + 1) → Holds tx all last (Opens tx all (came_by controls_in earlier) tick) earlier →
-    Holds tx all last (Opens tx all (came_by controls_in (ms ++ earlier)) (tick + 1)) (ms ++ earlier) in
-    subst P (sym is.moments_are) (λ happened splits holds. in-tick-by tx all last tick is.left is.answers earlier is.turn is.answers_only is.turn_is is.turn_tick is.left_is sound some happened splits holds)
+-- a whole tick
+in-tick-by : (tx : TxSet) (full : ℕ → Bool) (all : List Answer) (last tick : ℕ) (left answers earlier : List TxTurn) (turn : TxTurn) → IsNeverFull full → AllByRecursion (IsAnswerIn tick) answers → turn.event ≡ Turn → turn.did.tick ≡ tick →
+    Leaves (IsStepIn tick Left) full tick (box_after (turn ∷ (answers ++ earlier))) left → IsShape tx.shape → 1 ≤ tx.n_bs → HasSent tx (left ++ turn ∷ (answers ++ earlier)) → Splits all (came_by controls_in (left ++ turn ∷ (answers ++ earlier))) tick (tick + 1) →
+    Holds tx all last (Opens tx all (came_by controls_in earlier) tick) earlier → Holds tx all last (Opens tx all (came_by controls_in (left ++ turn ∷ (answers ++ earlier))) (tick + 1)) (left ++ turn ∷ (answers ++ earlier))
+in-tick-by tx full all last tick left answers earlier turn never are event at (Nothing none is) sound some =
+    let ms : List TxTurn = turn ∷ (answers ++ earlier) in
+    let P : List TxTurn → Type 0 = λ l. HasSent tx (l ++ ms) → Splits all (came_by controls_in (l ++ ms)) tick (tick + 1) → Holds tx all last (Opens tx all (came_by controls_in earlier) tick) earlier → Holds tx all last (Opens tx all (came_by controls_in (l ++ ms)) (tick + 1)) (l ++ ms) in
+    subst P (sym is) (stays-in tx all last tick answers earlier turn are event at none sound some)
+in-tick-by tx full all last tick left answers earlier turn never are event at (Went meaning m lies is goes) sound some =
+    let ms : List TxTurn = turn ∷ (answers ++ earlier) in
+    let P : List TxTurn → Type 0 = λ l. HasSent tx (l ++ ms) → Splits all (came_by controls_in (l ++ ms)) tick (tick + 1) → Holds tx all last (Opens tx all (came_by controls_in earlier) tick) earlier → Holds tx all last (Opens tx all (came_by controls_in (l ++ ms)) (tick + 1)) (l ++ ms) in
+    subst P (sym is) (goes-in tx all last tick m answers earlier turn are event at goes sound some)
+in-tick-by tx full all last tick left answers earlier turn never are event at (Stays meaning lies is busy) sound some = let no : false ≡ true = sym (never tick) ∙ busy in cc
+
+in-tick : (tx : TxSet) (full : ℕ → Bool) (all : List Answer) (last : ℕ) (earlier : List TxTurn) (part : Part TxTurn) → IsNeverFull full → IsTxPart full earlier part → IsShape tx.shape → 1 ≤ tx.n_bs → HasSent tx (part.turns ++ earlier) → Splits all (came_by controls_in (part.turns ++ earlier)) part.tick (part.tick + 1) →
+    Holds tx all last (Opens tx all (came_by controls_in earlier) part.tick) earlier → Holds tx all last (Opens tx all (came_by controls_in (part.turns ++ earlier)) (part.tick + 1)) (part.turns ++ earlier)
+in-tick tx full all last earlier part never is sound some =
+    let P : List TxTurn → Type 0 = λ ms. HasSent tx ms → Splits all (came_by controls_in ms) part.tick (part.tick + 1) → Holds tx all last (Opens tx all (came_by controls_in earlier) part.tick) earlier → Holds tx all last (Opens tx all (came_by controls_in ms) (part.tick + 1)) ms in
+    subst P (sym (turns-in full earlier part is)) (in-tick-by tx full all last part.tick is.left is.answers earlier is.turn never is.answers_only is.turn_is is.turn_tick is.left_is sound some)
 
 -- the flow controls of some moments, and of those before
 answered-join : (moments earlier : List TxTurn) → came_by controls_in (moments ++ earlier) ≡ came_by controls_in earlier ++ came_by controls_in moments
@@ -142,36 +151,28 @@ came-all tick (m ∷ answers) are =
     subst A (sym (answered-more m answers (CameFc came_in.fs came_in.bs came_in.st) came_in.event_is))
     (all-join (λ (a : Answer). tick ≤ a.tick) (came_by controls_in answers) (came m.did came_in.fs came_in.bs came_in.st ∷ []) (came-all tick answers are.1) (omega (arith, came_in.at_is), tt))
 
--- what a tick's moments say of the flow controls
-record TickAnswers (tick : ℕ) (earlier moments : List TxTurn) : Type 0 where
-  now : now_of (moments ++ earlier) ≡ tick
+-- what a part says of the flow controls
+record PartAnswers (tick : ℕ) (earlier turns : List TxTurn) : Type 0 where
+  now : now_of turns ≡ tick
   came : List Answer
-  came_is : came_by controls_in (moments ++ earlier) ≡ came_by controls_in earlier ++ came
+  came_is : came_by controls_in turns ≡ came_by controls_in earlier ++ came
   came_now : AllByRecursion (λ (a : Answer). tick ≤ a.tick) came
 
-tick-answers-by : (tick : ℕ) (left answers earlier : List TxTurn) (turn : TxTurn) (box : Option Meaning) → AllByRecursion (IsAnswerIn tick) answers → turn.event ≡ Turn → turn.did.tick ≡ tick → FrameLeaves tick box left → TickAnswers tick earlier (left ++ turn ∷ answers)
-tick-answers-by tick [] answers earlier turn box are event at leaves = record {
-  now = at;
-  came = came_by controls_in answers;
-  came_is = answered-same turn (answers ++ earlier) Turn event refl ∙ answered-join answers earlier;
-  came_now = came-all tick answers are;
-}
-tick-answers-by tick (m ∷ []) answers earlier turn box are event at leaves =
-    let step : IsStepIn tick Left m × ([] ≡ []) = leaves-one tick box m [] leaves in
-    record {
-      now = step.0.1;
-      came = came_by controls_in answers;
-      came_is = answered-same m (turn ∷ (answers ++ earlier)) Left step.0.0 refl ∙ answered-same turn (answers ++ earlier) Turn event refl ∙ answered-join answers earlier;
-      came_now = came-all tick answers are;
-    }
-tick-answers-by tick (m ∷ next ∷ more) answers earlier turn box are event at leaves =
-    let step : IsStepIn tick Left m × (next ∷ more ≡ []) = leaves-one tick box m (next ∷ more) leaves in
-    let no : next ∷ more ≡ [] = step.1 in absurd cc
+part-answers-by : (full : ℕ → Bool) (tick : ℕ) (left answers earlier : List TxTurn) (turn : TxTurn) (box : Option Meaning) → AllByRecursion (IsAnswerIn tick) answers → turn.event ≡ Turn → turn.did.tick ≡ tick → Leaves (IsStepIn tick Left) full tick box left →
+    PartAnswers tick earlier (left ++ turn ∷ (answers ++ earlier))
+part-answers-by full tick left answers earlier turn box are event at leaves =
+    let P : List TxTurn → Type 0 = λ l. PartAnswers tick earlier (l ++ turn ∷ (answers ++ earlier)) in
+    let stays : PartAnswers tick earlier (turn ∷ (answers ++ earlier)) = record { now = at; came = came_by controls_in answers; came_is = answered-same turn (answers ++ earlier) Turn event refl ∙ answered-join answers earlier; came_now = came-all tick answers are } in
+    elim leaves [
+      | Nothing none is ↦ subst P (sym is) stays
+      | Went meaning m lies is goes ↦ subst P (sym is) (record { now = goes.1; came = stays.came; came_is = answered-same m (turn ∷ (answers ++ earlier)) Left goes.0 refl ∙ stays.came_is; came_now = stays.came_now })
+      | Stays meaning lies is busy ↦ subst P (sym is) stays
+    ]
 
-tick-answers : (tick : ℕ) (earlier moments : List TxTurn) → SendsIn tick earlier moments → TickAnswers tick earlier moments
-tick-answers tick earlier moments is =
-    let P : List TxTurn → Type 0 = λ ms. TickAnswers tick earlier ms in
-    subst P (sym is.moments_are) (tick-answers-by tick is.left is.answers earlier is.turn (box_after (is.turn ∷ (is.answers ++ earlier))) is.answers_only is.turn_is is.turn_tick is.left_is)
+part-answers : (full : ℕ → Bool) (earlier : List TxTurn) (part : Part TxTurn) → IsTxPart full earlier part → PartAnswers part.tick earlier (part.turns ++ earlier)
+part-answers full earlier part is =
+    let P : List TxTurn → Type 0 = λ ms. PartAnswers part.tick earlier ms in
+    subst P (sym (turns-in full earlier part is)) (part-answers-by full part.tick is.left is.answers earlier is.turn (box_after (is.turn ∷ (is.answers ++ earlier))) is.answers_only is.turn_is is.turn_tick is.left_is)
 
 splits-at : (tx : TxSet) (all : List Answer) (tick next : ℕ) (moments : List TxTurn) (rest : List Answer) → IsShape tx.shape → HasSent tx moments → now_of moments ≡ tick → all ≡ came_by controls_in moments ++ rest → AllByRecursion (λ (a : Answer). next ≤ a.tick) rest → Splits all (came_by controls_in moments) tick next
 splits-at tx all tick next moments rest sound happened at are later =
@@ -184,51 +185,61 @@ idle-any : (P Q : List ℕ → Transmission → Type 0) (ticks : List ℕ) (live
 idle-any P Q ticks None is lives = lives
 idle-any P Q ticks (Some s) is lives = cc
 
-reopens : (tx : TxSet) (all : List Answer) (last tick : ℕ) (earlier : List Work) → IsIdle earlier ⊎ (tick ≡ tick_after earlier) → Holds tx all last (Opens tx all (came_by controls_in (moments_of earlier)) (tick_after earlier)) (moments_of earlier) →
-    Holds tx all last (Opens tx all (came_by controls_in (moments_of earlier)) tick) (moments_of earlier)
+reopens : (tx : TxSet) (all : List Answer) (last tick : ℕ) (earlier : List (Part TxTurn)) → IsTxIdle (turns_of earlier) ⊎ (tick ≡ tick_after earlier) → Holds tx all last (Opens tx all (came_by controls_in (turns_of earlier)) (tick_after earlier)) (turns_of earlier) →
+    Holds tx all last (Opens tx all (came_by controls_in (turns_of earlier)) tick) (turns_of earlier)
 reopens tx all last tick earlier (inl idle) holds = record {
   told = holds.told;
   cuts = holds.cuts;
-  live = idle-any (Opens tx all (came_by controls_in (moments_of earlier)) (tick_after earlier)) (Opens tx all (came_by controls_in (moments_of earlier)) tick) (live_ticks (moments_of earlier)) (state_after tx_new (moments_of earlier)).live idle.sender holds.live;
+  live = idle-any (Opens tx all (came_by controls_in (turns_of earlier)) (tick_after earlier)) (Opens tx all (came_by controls_in (turns_of earlier)) tick) (live_ticks (turns_of earlier)) (state_after tx_new (turns_of earlier)).live idle.live holds.live;
 }
-reopens tx all last tick earlier (inr at) holds = let P : ℕ → Type 0 = λ t. Holds tx all last (Opens tx all (came_by controls_in (moments_of earlier)) t) (moments_of earlier) in subst P (sym at) holds
+reopens tx all last tick earlier (inr at) holds = let P : ℕ → Type 0 = λ t. Holds tx all last (Opens tx all (came_by controls_in (turns_of earlier)) t) (turns_of earlier) in subst P (sym at) holds
 
 -- tick by tick
-pub in-ticks : (tx : TxSet) (sizes : List ℕ) (all : List Answer) (last : ℕ) (works : List Work) (rest : List Answer) → IsShape tx.shape → 1 ≤ tx.n_bs → AreTicks sizes works → HasSent tx (moments_of works) → all ≡ came_by controls_in (moments_of works) ++ rest →
-    AllByRecursion (λ (a : Answer). tick_after works ≤ a.tick) rest → Holds tx all last (Opens tx all (came_by controls_in (moments_of works)) (tick_after works)) (moments_of works)
-in-ticks tx sizes all last [] rest sound some ticks happened are later = record { told = tt; cuts = refl; live = refl }
-in-ticks tx sizes all last (work ∷ earlier) rest sound some ticks happened are later =
-    let here : TickAnswers work.tick (moments_of earlier) work.moments = tick-answers work.tick (moments_of earlier) work.moments ticks.0.sends in
-    let before = in-ticks tx sizes all last earlier (here.came ++ rest) sound some ticks.1 (happened-front _ work.moments (moments_of earlier) happened)
-    (are ∙ ap (λ l. l ++ rest) here.came_is ∙ append_assoc (came_by controls_in (moments_of earlier)) here.came rest)
-    (all-join (λ (a : Answer). tick_after earlier ≤ a.tick) here.came rest (all-weaker (λ (a : Answer). work.tick ≤ a.tick) (λ (a : Answer). tick_after earlier ≤ a.tick) here.came (λ a le. omega (arith, le, ticks.0.later)) here.came_now)
-    (all-weaker (λ (a : Answer). work.tick + 1 ≤ a.tick) (λ (a : Answer). tick_after earlier ≤ a.tick) rest (λ a le. omega (arith, le, ticks.0.later)) later)) in
-    in-tick tx all last work.tick (moments_of earlier) work.moments ticks.0.sends sound some happened (splits-at tx all work.tick (work.tick + 1) (work.moments ++ moments_of earlier) rest sound happened here.now are later)
-    (reopens tx all last work.tick earlier ticks.0.next before)
+pub in-parts : (tx : TxSet) (full : ℕ → Bool) (all : List Answer) (last : ℕ) (parts : List (Part TxTurn)) (rest : List Answer) → IsNeverFull full → IsShape tx.shape → 1 ≤ tx.n_bs → AreTxParts full parts → HasSent tx (turns_of parts) → all ≡ came_by controls_in (turns_of parts) ++ rest →
+    AllByRecursion (λ (a : Answer). tick_after parts ≤ a.tick) rest → Holds tx all last (Opens tx all (came_by controls_in (turns_of parts)) (tick_after parts)) (turns_of parts)
+in-parts tx full all last [] rest never sound some are_parts happened are later = record { told = tt; cuts = refl; live = refl }
+in-parts tx full all last (part ∷ earlier) rest never sound some are_parts happened are later =
+    let here : PartAnswers part.tick (turns_of earlier) (part.turns ++ turns_of earlier) = part-answers full (turns_of earlier) part are_parts.0.part_is in
+    let before = in-parts tx full all last earlier (here.came ++ rest) never sound some are_parts.1 (happened-front _ part.turns (turns_of earlier) happened)
+    (are ∙ ap (λ l. l ++ rest) here.came_is ∙ append_assoc (came_by controls_in (turns_of earlier)) here.came rest)
+    (all-join (λ (a : Answer). tick_after earlier ≤ a.tick) here.came rest (all-weaker (λ (a : Answer). part.tick ≤ a.tick) (λ (a : Answer). tick_after earlier ≤ a.tick) here.came (λ a le. omega (arith, le, are_parts.0.later)) here.came_now)
+    (all-weaker (λ (a : Answer). part.tick + 1 ≤ a.tick) (λ (a : Answer). tick_after earlier ≤ a.tick) rest (λ a le. omega (arith, le, are_parts.0.later)) later)) in
+    in-tick tx full all last (turns_of earlier) part never are_parts.0.part_is sound some happened (splits-at tx all part.tick (part.tick + 1) (part.turns ++ turns_of earlier) rest sound happened here.now are later)
+    (reopens tx all last part.tick earlier are_parts.0.next before)
 
-now-within : (sizes : List ℕ) (works : List Work) (last : ℕ) → AreTicks sizes works → tick_after works ≤ last + 1 → now_of (moments_of works) ≤ last
-now-within sizes [] last ticks le = omega arith
-now-within sizes (work ∷ earlier) last ticks le = omega (arith, le, (tick-answers work.tick (moments_of earlier) work.moments ticks.0.sends).now)
+now-within : (full : ℕ → Bool) (parts : List (Part TxTurn)) (last : ℕ) → AreTxParts full parts → tick_after parts ≤ last + 1 → now_of (turns_of parts) ≤ last
+now-within full [] last are le = omega arith
+now-within full (part ∷ earlier) last are le = omega (arith, le, (part-answers full (turns_of earlier) part are.0.part_is).now)
 
-ends-at : (tx : TxSet) (all : List Answer) (last : ℕ) (ticks : List Work) → IsIdle ticks ⊎ (tick_after ticks ≡ last + 1) → Holds tx all last (Opens tx all (came_by controls_in (moments_of ticks)) (tick_after ticks)) (moments_of ticks) →
-    Holds tx all last (Opens tx all (came_by controls_in (moments_of ticks)) (last + 1)) (moments_of ticks)
-ends-at tx all last ticks (inl idle) holds = reopens tx all last (last + 1) ticks (inl idle) holds
-ends-at tx all last ticks (inr at) holds = reopens tx all last (last + 1) ticks (inr (sym at)) holds
+end-now : (last : ℕ) (end earlier : List TxTurn) → AllByRecursion (IsStepIn last RunEnd) end → now_of earlier ≤ last → now_of (end ++ earlier) ≤ last
+end-now last [] earlier ends le = le
+end-now last (m ∷ end) earlier ends le = omega (arith, ends.0.1)
+
+pub run-within : (run : TxRun) → IsTxRun run → now_of (turns_in run) ≤ run.last
+run-within run is = end-now run.last run.end (turns_of run.parts) is.ends (now-within run.full run.parts run.last is.parts_are is.in_time)
+
+ends-at : (tx : TxSet) (all : List Answer) (last : ℕ) (parts : List (Part TxTurn)) → IsTxIdle (turns_of parts) ⊎ (tick_after parts ≡ last + 1) → Holds tx all last (Opens tx all (came_by controls_in (turns_of parts)) (tick_after parts)) (turns_of parts) →
+    Holds tx all last (Opens tx all (came_by controls_in (turns_of parts)) (last + 1)) (turns_of parts)
+ends-at tx all last parts (inl idle) holds = reopens tx all last (last + 1) parts (inl idle) holds
+ends-at tx all last parts (inr at) holds = reopens tx all last (last + 1) parts (inr (sym at)) holds
 
 -- a whole run
-in-run : (tx : TxSet) (sizes : List ℕ) (path last : ℕ) (ticks : List Work) (end : Work) → IsShape tx.shape → 1 ≤ tx.n_bs → AreTicks sizes ticks → IsEnd sizes path last ticks end → HasSent tx (end.moments ++ moments_of ticks) →
-    Holds tx (came_by controls_in (end.moments ++ moments_of ticks)) last (Opens tx (came_by controls_in (end.moments ++ moments_of ticks)) (came_by controls_in (end.moments ++ moments_of ticks)) (last + 1)) (end.moments ++ moments_of ticks)
-in-run tx sizes path last ticks end sound some are ends happened =
-    let all : List Answer = came_by controls_in (end.moments ++ moments_of ticks) in
-    let same : all ≡ came_by controls_in (moments_of ticks) = end-answers last end.moments (moments_of ticks) ends.sends in
-    let before : HasSent tx (moments_of ticks) = happened-front _ end.moments (moments_of ticks) happened in
-    let so : SoFar tx.shape (world_of tx (moments_of ticks)) = so-far tx (moments_of ticks) sound before in
+in-run : (run : TxRun) → IsNeverFull run.full → 1 ≤ run.set.n_bs → IsTxRun run →
+    Holds run.set (came_by controls_in (turns_in run)) run.last (Opens run.set (came_by controls_in (turns_in run)) (came_by controls_in (turns_in run)) (run.last + 1)) (turns_in run)
+in-run run never some is =
+    let tx : TxSet = run.set in
+    let last : ℕ = run.last in
+    let earlier : List TxTurn = turns_of run.parts in
+    let all : List Answer = came_by controls_in (turns_in run) in
+    let same : all ≡ came_by controls_in earlier = end-answers last run.end earlier is.ends in
+    let before : HasSent tx earlier = happened-front _ run.end earlier is.happened in
+    let so : SoFar tx.shape (world_of tx earlier) = so-far tx earlier is.shape before in
     let A : List Answer → Type 0 = λ l. AllByRecursion (λ (a : Answer). a.tick ≤ last) l in
-    let H : List Answer → Type 0 = λ l. Holds tx all last (Opens tx all l (last + 1)) (moments_of ticks) in
-    let past : AllByRecursion (λ (a : Answer). a.tick ≤ last) (came_by controls_in (moments_of ticks)) =
-    all-weaker (λ (a : Answer). a.tick ≤ now_of (moments_of ticks)) (λ (a : Answer). a.tick ≤ last) (came_by controls_in (moments_of ticks)) (λ a le. omega (arith, le, now-within sizes ticks last are ends.in_time)) so.past in
-    end-steps tx all last end.moments (moments_of ticks) ends.sends sound happened (record { rest = []; all_is = sym (append-nil all); past = subst A (sym same) past; later = tt })
-    (subst H (sym same) (ends-at tx all last ticks ends.reached (in-ticks tx sizes all last ticks [] sound some are before (same ∙ sym (append-nil (came_by controls_in (moments_of ticks)))) tt)))
+    let H : List Answer → Type 0 = λ l. Holds tx all last (Opens tx all l (last + 1)) earlier in
+    let past : AllByRecursion (λ (a : Answer). a.tick ≤ last) (came_by controls_in earlier) =
+    all-weaker (λ (a : Answer). a.tick ≤ now_of earlier) (λ (a : Answer). a.tick ≤ last) (came_by controls_in earlier) (λ a le. omega (arith, le, now-within run.full run.parts last is.parts_are is.in_time)) so.past in
+    end-steps tx all last run.end earlier is.ends is.shape is.happened (record { rest = []; all_is = sym (append-nil all); past = subst A (sym same) past; later = tt })
+    (subst H (sym same) (ends-at tx all last run.parts is.reached (in-parts tx run.full all last run.parts [] never is.shape some is.parts_are before (same ∙ sym (append-nil (came_by controls_in earlier))) tt)))
 
 -- the records with sent bytes are those of which frames left
 has-sent-by : (sent : ℕ) (ticks : List ℕ) → Counted sent ticks → nat_lt 0 sent ≡ is_left ticks
@@ -290,13 +301,13 @@ of-moments tx last next moments sound happened idle holds =
     (zip-both (SendsFor t) (λ cut d. Tells tx all last (ticks_of cut) d) (λ cut d. IsCaused tx all last (left_in (address_size tx.shape) cut) d) sends.ended (filter has_sent (records_by moments))
     (λ cut d sent is. let T : List ℕ → Type 0 = λ l. IsCaused tx all last l d in subst T (sym sent.counts) is.caused) sends.sends told)
 
-pub causes : (o : WholeRun) → 1 ≤ o.tx.n_bs → TransmissionCauses (route o).leg
-causes o some =
-    let moments : List TxTurn = o.end.moments ++ moments_of o.ticks in
-    let holds = in-run o.tx o.sizes o.rx.path.0 o.last o.ticks o.end o.run.shape some o.run.ticks_are o.run.ends o.run.sent in
+pub causes : (run : TxRun) (budget : ℕ) → IsTxRun run → IsNeverFull run.full → 1 ≤ run.set.n_bs → TransmissionCauses (leg_of budget run)
+causes run budget is never some =
+    let turns : List TxTurn = turns_in run in
+    let holds = in-run run never some is in
     record {
-      sent = of-moments o.tx o.last (o.last + 1) moments o.run.shape o.run.sent o.run.ends.idle.sender holds;
-      unsent = zip-unsent o.tx (came_by controls_in moments) o.last (ended_ticks moments) (records_by moments) holds.told;
+      sent = of-moments run.set run.last (run.last + 1) turns is.shape is.happened is.idle holds;
+      unsent = zip-unsent run.set (came_by controls_in turns) run.last (ended_ticks turns) (records_by turns) holds.told;
     }
 
 -- what the session that is being sent waits for once a tick's work is done, and that the limit isn't over below the next tick
@@ -317,14 +328,15 @@ waits-on tx all so_far next begin ticks since (Gap until) opens = (opens.now, op
 lives-so : (P : List ℕ → Transmission → Type 0) (ticks : List ℕ) (live : Option Transmission) (s : Transmission) → live ≡ Some s → Lives P ticks live → P ticks s
 lives-so P ticks live s is lives = let L : Option Transmission → Type 0 = λ l. Lives P ticks l in subst L is lives
 
-pub after-ticks : (tx : TxSet) (sizes : List ℕ) (works : List Work) (s : Transmission) → IsShape tx.shape → 1 ≤ tx.n_bs → AreTicks sizes works → HasSent tx (moments_of works) → (state_after tx_new (moments_of works)).live ≡ Some s →
-    Opens tx (came_by controls_in (moments_of works)) (came_by controls_in (moments_of works)) (tick_after works) (live_ticks (moments_of works)) s
-after-ticks tx sizes works s sound some ticks happened is =
-    let all : List Answer = came_by controls_in (moments_of works) in
-    let holds = in-ticks tx sizes all 0 works [] sound some ticks happened (sym (append-nil all)) tt in
-    lives-so (Opens tx all all (tick_after works)) (live_ticks (moments_of works)) (state_after tx_new (moments_of works)).live s is holds.live
+pub after-parts : (tx : TxSet) (full : ℕ → Bool) (parts : List (Part TxTurn)) (s : Transmission) → IsNeverFull full → IsShape tx.shape → 1 ≤ tx.n_bs → AreTxParts full parts → HasSent tx (turns_of parts) → (state_after tx_new (turns_of parts)).live ≡ Some s →
+    Opens tx (came_by controls_in (turns_of parts)) (came_by controls_in (turns_of parts)) (tick_after parts) (live_ticks (turns_of parts)) s
+after-parts tx full parts s never sound some are happened is =
+    let all : List Answer = came_by controls_in (turns_of parts) in
+    let holds = in-parts tx full all 0 parts [] never sound some are happened (sym (append-nil all)) tt in
+    lives-so (Opens tx all all (tick_after parts)) (live_ticks (turns_of parts)) (state_after tx_new (turns_of parts)).live s is holds.live
 
-pub waits-after : (tx : TxSet) (sizes : List ℕ) (works : List Work) (s : Transmission) → IsShape tx.shape → 1 ≤ tx.n_bs → AreTicks sizes works → HasSent tx (moments_of works) → (state_after tx_new (moments_of works)).live ≡ Some s → WaitsOn tx (tick_after works) s.begin s.since s.phase
-waits-after tx sizes works s sound some ticks happened is =
-    let all : List Answer = came_by controls_in (moments_of works) in
-    waits-on tx all all (tick_after works) s.begin (live_ticks (moments_of works)) s.since s.phase (after-ticks tx sizes works s sound some ticks happened is).phase
+pub waits-after : (tx : TxSet) (full : ℕ → Bool) (parts : List (Part TxTurn)) (s : Transmission) → IsNeverFull full → IsShape tx.shape → 1 ≤ tx.n_bs → AreTxParts full parts → HasSent tx (turns_of parts) → (state_after tx_new (turns_of parts)).live ≡ Some s →
+    WaitsOn tx (tick_after parts) s.begin s.since s.phase
+waits-after tx full parts s never sound some are happened is =
+    let all : List Answer = came_by controls_in (turns_of parts) in
+    waits-on tx all all (tick_after parts) s.begin (live_ticks (turns_of parts)) s.since s.phase (after-parts tx full parts s never sound some are happened is).phase

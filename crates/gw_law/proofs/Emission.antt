@@ -1,20 +1,16 @@
 -- What the buses write in each tick, by the works of a run.
 use Rattle.std.proofs.Common.{◌≡◌, ℕ, ◌+◌, ◌≤◌, Option, None, Some, List, [], ◌∷◌, ◌++◌, length, refl, ap, sym, ◌∙◌, subst, arith, append-nil, append_assoc}
-use Rattle.tp_sender.specs.State.{TxTurn}
 use Rattle.tp_unit.specs.Box.{Written, box_then, written_of}
-use Rattle.tp_sender.specs.Runs.{box_after, left_by, written_at}
+use Rattle.tp_sender.specs.Runs.{left_by}
 use Rattle.tp_receiver.specs.State.{RxEvent, Came, Timer, FcLeft, RunEnd, RxTurn, rx_new}
 use Rattle.tp_receiver.specs.Runs.{HasReceived}
 use Rattle.hub_core.specs.Turns.{state_after}
 use Rattle.std.specs.List.{AllByRecursion}
 use Rattle.tp_receiver.specs.declared.set.RxSet.{RxSet}
-use Rattle.tp_sender.specs.declared.event.TxEvent.{TxEvent}
-use Rattle.tp_sender.specs.declared.event.TxEvent.TheVariants.{Turn, Fc, Left, RunEnd}
 use Rattle.tp_unit.specs.declared.shape.Shape.{Shape}
 use Rattle.tp_unit.specs.Unit.{BoxMeaning, Keeps, Offers, Revokes, Meaning}
 use Rattle.gw_law.specs.Emission.{BusLaw, EmissionLaw}
 use Rattle.receiver_law.specs.Channel.{WritesControl}
-use Rattle.sender_law.specs.Parts.{AnswersIn, FrameLeaves, IsAnswerIn, IsStepIn, SendsIn}
 use Rattle.gw_law.specs.Run.{AreTicks, IsEnd, Work, moments_of, tick_after, turns_of}
 use Rattle.receiver_law.specs.Parts.{CameIn, ControlLeaves, EndsReceiving, ReceivesIn}
 use Rattle.tp_unit.specs.Box.{left_in}
@@ -23,6 +19,7 @@ use Rattle.tp_receiver.specs.Runs.{control_after, control_at, control_once, cont
 use Rattle.sender_law.proofs.DataFrames.{are-data}
 use Rattle.receiver_law.proofs.Offers.{IsControl, IsControlAct, control-act, control-fits}
 use Rattle.gw_base.proofs.Lists.{all-join}
+use Rattle.gw_law.proofs.TxOfRun.{frames-of-run}
 use Rattle.gw_law.proofs.WholeRun.{WholeRun, route, works_of}
 
 emits : (budget from end : ℕ) (written : List Written) → 1 ≤ budget → Rise from written end → EmissionLaw budget written
@@ -31,36 +28,6 @@ emits budget from end written some rise = record {
   most = λ tick. let once : length (left_in tick written) ≤ 1 = at-most-once tick from end written rise in omega (arith, some, once);
   once = λ tick. at-most-once tick from end written rise;
 }
-
--- a flow control that came for the sender writes nothing
-answer-silent : (shape : Shape) (tick at : ℕ) (event : TxEvent) (lies : Option Meaning) → AnswersIn tick event at → written_at shape event at lies ≡ []
-answer-silent shape tick at Turn lies is = absurd is
-answer-silent shape tick at (Fc fs bs st) lies is = refl
-answer-silent shape tick at Left lies is = absurd is
-answer-silent shape tick at RunEnd lies is = absurd is
-
-answers-silent : (shape : Shape) (tick : ℕ) (answers earlier : List TxTurn) → AllByRecursion (IsAnswerIn tick) answers → left_by shape (answers ++ earlier) ≡ left_by shape earlier
-answers-silent shape tick [] earlier all = refl
-answers-silent shape tick (m ∷ answers) earlier all = rw (answer-silent shape tick m.did.tick m.event (box_after (answers ++ earlier)) all.0, append-nil) (answers-silent shape tick answers earlier all.1)
-
-frame-leaves : (shape : Shape) (tick : ℕ) (lies : Option Meaning) (left before : List TxTurn) → box_after before ≡ lies → FrameLeaves tick lies left → left_by shape (left ++ before) ≡ left_by shape before ++ written_of shape tick lies
-frame-leaves shape tick None left before is row = rw (row, append-nil) refl
-frame-leaves shape tick (Some meaning) [] before is row = absurd row
-frame-leaves shape tick (Some meaning) (m ∷ more) before is row = rw (row.1, row.0.0, row.0.1, is) refl
-
--- what the sender's part of a tick writes
-pub sends-written : (shape : Shape) (tick : ℕ) (earlier moments : List TxTurn) → SendsIn tick earlier moments → (lies : Option Meaning) × (left_by shape (moments ++ earlier) ≡ left_by shape earlier ++ written_of shape tick lies)
-sends-written shape tick earlier moments sends =
-    let before : List TxTurn = sends.turn ∷ (sends.answers ++ earlier) in
-    let silent : left_by shape before ≡ left_by shape earlier = rw (sends.turn_is, append-nil) (answers-silent shape tick sends.answers earlier sends.answers_only) in
-    let is : moments ++ earlier ≡ sends.left ++ before = ap (λ m. m ++ earlier) sends.moments_are ∙ append_assoc sends.left (sends.turn ∷ sends.answers) earlier in
-    (box_after before, ap (left_by shape) is ∙ frame-leaves shape tick (box_after before) sends.left before refl sends.left_is ∙ ap (λ l. l ++ written_of shape tick (box_after before)) silent)
-
-frames-rise : (shape : Shape) (sizes : List ℕ) (works : List Work) → AreTicks sizes works → Rise 0 (left_by shape (moments_of works)) (tick_after works)
-frames-rise shape sizes [] ticks = omega arith
-frames-rise shape sizes (work ∷ earlier) ticks =
-    let sent = sends-written shape work.tick (moments_of earlier) work.moments ticks.0.sends in
-    rw sent.1 (rise-written shape 0 (tick_after earlier) work.tick (left_by shape (moments_of earlier)) sent.0 ticks.0.later (frames-rise shape sizes earlier ticks.1))
 
 -- a frame that came for the receiver writes nothing
 came-silent : (shape : Shape) (tick at : ℕ) (event : RxEvent) (lies : Option Meaning) → CameIn tick event at → control_at shape event at lies ≡ []
@@ -93,19 +60,11 @@ controls-rise shape sizes (work ∷ earlier) ticks =
     rw left.1 (rise-written shape 0 (tick_after earlier) work.tick (controls_by shape (turns_of earlier)) left.0 ticks.0.later (controls-rise shape sizes earlier ticks.1))
 
 -- the end writes nothing
-end-silent : (shape : Shape) (last : ℕ) (moments earlier : List TxTurn) → AllByRecursion (IsStepIn last RunEnd) moments → left_by shape (moments ++ earlier) ≡ left_by shape earlier
-end-silent shape last [] earlier all = refl
-end-silent shape last (m ∷ moments) earlier all = rw (all.0.0, append-nil) (end-silent shape last moments earlier all.1)
-
 receiver-end-silent : (shape : Shape) (last : ℕ) (turns earlier : List RxTurn) → EndsReceiving last turns → controls_by shape (turns ++ earlier) ≡ controls_by shape earlier
 receiver-end-silent shape last [] earlier ends = absurd ends
 receiver-end-silent shape last (turn ∷ more) earlier ends = rw (ends.2, ends.0, append-nil) refl
 
 -- the ticks of what a run wrote strictly rise, up to its last tick
-pub frames-of-run-rise : (shape : Shape) (sizes : List ℕ) (path last : ℕ) (ticks : List Work) (end : Work) → AreTicks sizes ticks → IsEnd sizes path last ticks end → Rise 0 (left_by shape (moments_of (end ∷ ticks))) (last + 1)
-frames-of-run-rise shape sizes path last ticks end are ends =
-    rw (end-silent shape last end.moments (moments_of ticks) ends.sends) (rise-later 0 (tick_after ticks) (last + 1) (left_by shape (moments_of ticks)) ends.in_time (frames-rise shape sizes ticks are))
-
 pub controls-of-run-rise : (shape : Shape) (sizes : List ℕ) (path last : ℕ) (ticks : List Work) (end : Work) → AreTicks sizes ticks → IsEnd sizes path last ticks end → Rise 0 (controls_by shape (turns_of (end ∷ ticks))) (last + 1)
 controls-of-run-rise shape sizes path last ticks end are ends =
     rw (receiver-end-silent shape last end.turns (turns_of ticks) ends.receives) (rise-later 0 (tick_after ticks) (last + 1) (controls_by shape (turns_of ticks)) ends.in_time (controls-rise shape sizes ticks are))
@@ -147,7 +106,7 @@ are-controls set shape (turn ∷ earlier) happened =
 -- both buses of a run
 pub bus_law_of : (o : WholeRun) → 1 ≤ o.source_budget → 1 ≤ o.budget → BusLaw (route o)
 bus_law_of o some_source some =
-    let frames : Rise 0 (left_by o.tx.shape (moments_of (works_of o))) (o.last + 1) = frames-of-run-rise o.tx.shape o.sizes o.rx.path.0 o.last o.ticks o.end o.run.ticks_are o.run.ends in
+    let frames : Rise 0 (left_by o.tx.shape (moments_of (works_of o))) (o.last + 1) = frames-of-run o in
     let controls : Rise 0 (controls_by o.shape (turns_of (works_of o))) (o.last + 1) = controls-of-run-rise o.shape o.sizes o.rx.path.0 o.last o.ticks o.end o.run.ticks_are o.run.ends in
     record {
       frames = emits o.budget 0 (o.last + 1) (left_by o.tx.shape (moments_of (works_of o))) some frames;

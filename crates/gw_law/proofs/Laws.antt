@@ -10,7 +10,7 @@ use Rattle.gw_law.proofs.PoolRuns.{pool_of}
 use Rattle.gw_law.proofs.Records.{records_law_of}
 use Rattle.gw_law.proofs.ReceptionCauses.{reception_causes}
 use Rattle.gw_law.proofs.Timely.{timely}
-use Rattle.gw_law.proofs.TransmissionCauses.{causes}
+use Rattle.gw_law.proofs.TxOfRun.{causes-of-run}
 use Rattle.gw_law.proofs.Wholes.{route-delivers, route-each, route-source}
 use Rattle.gw_law.proofs.WholeRun.{WholeRun}
 use Rattle.tp_receiver.specs.declared.set.RxSet.{RxSet}
@@ -34,6 +34,6 @@ laws rx tx shape source_budget budget sizes last count free ticks end limits sma
       controls = flow_control_law_of o limits.n_ar;
       receptions = received.0;
       never_boxed = received.1;
-      transmissions = causes o limits.n_bs;
+      transmissions = causes-of-run o limits.n_bs;
       joint = joint_causes o limits.n_bs;
     }

@@ -2,7 +2,7 @@ mod WholeRun
 pub mod Emission
 pub mod FlowControls
 pub mod OwnCalls
-pub mod TransmissionCauses
+pub mod TxOfRun
 mod Deliveries
 mod OtherFrames
 mod EachSession

@@ -1,25 +1,20 @@
 -- Whose the records of a run are, that they lie within it, and that one follows another.
 use Rattle.std.proofs.Common.{◌≡◌, ℕ, ◌+◌, ◌≤◌, inl, inr, Option, Some, List, [], ◌∷◌, ◌++◌, length, refl, sym, ◌∙◌, subst, arith, append-nil}
-use Rattle.tp_sender.specs.Runs.{HasSent}
-use Rattle.tp_sender.specs.State.{TxTurn, tx_new, Transmission, TxDid}
 use Rattle.tp_receiver.specs.Runs.{HasReceived}
 use Rattle.tp_receiver.specs.State.{RxTurn, rx_new}
-use Rattle.hub_core.specs.Turns.{state_after, records_by, now_of}
+use Rattle.hub_core.specs.Turns.{state_after, records_by}
 use Rattle.std.specs.Prelude.{slice_get}
 use Rattle.std.specs.List.{AllByRecursion}
-use Rattle.std.proofs.lemmas.Option.{slice_get_within}
-use Rattle.hub_core.specs.declared.record.DestRecord.{DestRecord}
 use Rattle.hub_core.specs.declared.record.SessionRecord.{SessionRecord}
 use Rattle.tp_receiver.specs.declared.set.RxSet.{RxSet}
-use Rattle.tp_sender.specs.declared.set.TxSet.{TxSet}
-use Rattle.gw_law.specs.Records.{IsOfDestination, IsOfSource, RecordsLaw}
-use Rattle.gw_law.specs.Run.{Route, Work, moments_of, turns_of}
+use Rattle.gw_law.specs.Records.{IsOfSource, RecordsLaw}
+use Rattle.gw_law.specs.Run.{Route, Work, turns_of}
 use Rattle.receiver_law.proofs.FlowControls.{IsKnown, begins-at, start-at}
 use Rattle.gw_law.proofs.FlowControls.{known-of-run}
-use Rattle.gw_law.proofs.Fronts.{IsTimed, TurnIn, WorkIn, moments-in, rises-below, run-rising, run-timed, turns-in}
+use Rattle.gw_law.proofs.Fronts.{IsTimed, TurnIn, WorkIn, rises-below, run-rising, run-timed, turns-in}
 use Rattle.gw_law.proofs.JointTicks.{EndsAt, tells-now}
-use Rattle.gw_base.proofs.Lists.{all-at, all-join, all-push, all-weaker, at-next}
-use Rattle.sender_law.proofs.Origins.{InTicks, IsToldBy, OfLive, step-by, told-by}
+use Rattle.gw_base.proofs.Lists.{all-join, all-weaker}
+use Rattle.gw_law.proofs.TxOfRun.{records-of-run}
 use Rattle.gw_law.proofs.WholeRun.{WholeRun, route, works_of}
 
 -- the source's records, in turns up to a tick
@@ -44,7 +39,6 @@ records_law_of o =
     let within : AllByRecursion (WorkIn (λ (t : ℕ). t ≤ o.last)) works = rises-below o.last works (omega (arith, o.run.ends.tick_is)) (run-rising o) in
     record {
       sessions = all-weaker (λ (told : SessionRecord). (told.chan ≡ o.rx.chan) × (told.end.0 ≤ o.last)) (IsOfSource r) r.source.sessions (λ told is. record { chan = is.0; end = is.1 }) (sessions-of o.rx o.last (turns_of works) o.run.received (turns-in (λ (t : ℕ). t ≤ o.last) works timed within));
-      dests = all-weaker (IsSent o.tx o.last) (IsOfDestination r) r.leg.dests (λ told is. record { path = is.0; dest = is.1; end = is.2 }) (dests-of o.tx o.last (moments_of works) o.run.sent (moments-in (λ (t : ℕ). t ≤ o.last) works timed within));
+      dests = records-of-run o;
       sessions_follow = sessions-apart r (known-of-run o);
-      dests_follow = (dests-apart o.tx (moments_of works) o.run.sent).follow;
     }

@@ -11,7 +11,7 @@ use Rattle.tp_sender.specs.declared.set.TxSet.{TxSet}
 use Rattle.sender_law.specs.Emission.{DestRecords, IsOfDestination}
 use Rattle.sender_law.specs.Runs.{IsTxRun, TxRun, leg_of, turns_in}
 use Rattle.sender_law.proofs.Origins.{InTicks, IsToldBy, OfLive, step-by, told-by}
-use Rattle.sender_law.proofs.TransmissionCauses.{run-within}
+use Rattle.sender_law.proofs.TxCausesParts.{run-within}
 use Rattle.gw_base.proofs.Lists.{all-at, all-join, all-push, all-weaker, at-next}
 
 -- the destination's records, in moments up to a tick

@@ -13,6 +13,7 @@ pub mod TxCausesFrames
 pub mod TxCausesLeft
 pub mod TxCausesLists
 pub mod TxCausesMoments
+pub mod TxCausesParts
 pub mod TxCausesSteps
 pub mod TxCausesTurns
 pub mod TxFrames

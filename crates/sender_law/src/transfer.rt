@@ -1,7 +1,7 @@
 ghost use Rattle.std.specs.Prelude.{◌≡◌, List, filter};
 ghost use Rattle.sender_law.specs.Runs.{IsTxRun, TxRun, turns_in};
-ghost use Rattle.sender_law.specs.Transfer.{TransferLaw, is_data, transfer_of};
-ghost use Rattle.tp_attempts.specs.Seen.{Seen};
+ghost use Rattle.sender_law.specs.Transfer.{TransferLaw, transfer_of};
+ghost use Rattle.tp_attempts.specs.Seen.{Seen, is_data};
 ghost use Rattle.tp_sender.specs.Runs.{HasSent};
 ghost use Rattle.tp_sender.specs.State.{TxTurn};
 ghost use Rattle.tp_sender.specs.declared.set.TxSet.{TxSet};

@@ -28,7 +28,7 @@ use Rattle.receiver_law.proofs.Openings.{Entry, entries-are, entries_told, entry
 use Rattle.hub_core.proofs.Sides.{cells_at-there}
 use Rattle.receiver_law.proofs.SourceLaws.{idle-of, source_law_of}
 use Rattle.receiver_law.proofs.Tellings.{TellsPut}
-use Rattle.sender_law.proofs.TxLaw.{law}
+use Rattle.sender_law.proofs.TxLaw.{law, none-going}
 use Rattle.sender_law.proofs.TxReadings.{readings}
 use Rattle.gw_base.proofs.Lists.{all-weaker, mapped-at, zip-all}
 
@@ -109,7 +109,7 @@ joins rx turns tx moments v seq len runs is =
     let stored : ℕ → List ℕ = λ k. bytes_of (put_in rx turns k) in
     let put = openings rx turns runs.received in
     let puts = put.fill empty_view refl in
-    let read = readings tx moments runs.shape runs.sent empty_view refl in
+    let read = readings tx moments runs.sent empty_view refl in
     let at = mapped-at (λ (r : Reading). r.len) seq ((grows (calls_by moments) empty_view).readings tx.path.0 tx.dest.0) len (ap (λ l. slice_get l seq) read.fixed ∙ is) in
     let r : Reading = at.0 in
     let known = runs.streams.joined tx.path.0 tx.dest.0 seq r (ap (λ l. slice_get l seq) runs.readings ∙ at.1) in
@@ -172,11 +172,6 @@ sent-in P told records false is all = all
 pub all-sent : (P : DestRecord → Type 0) (records : List DestRecord) → AllByRecursion P records → AllByRecursion P (filter has_sent records)
 all-sent P [] all = tt
 all-sent P (told ∷ records) all = sent-in P told (filter has_sent records) (has_sent told) all.0 (all-sent P records all.1)
-
--- no transmission goes on where no session is being sent
-pub none-going : (t : Transfer) (now : ℕ) (live : Option Transmission) (going : List (Cut Seen)) → live ≡ None → GoesOnWith t now live going → going ≡ []
-none-going t now None going is goes = goes
-none-going t now (Some s) going is goes = cc
 
 pub delivery_law_of : (rx : RxSet) (turns : List RxTurn) (tx : TxSet) (moments : List TxTurn) (v : View) → AreWholeRuns rx turns tx moments v → DeliveryLaw (delivery_of rx turns tx moments)
 delivery_law_of rx turns tx moments v runs =

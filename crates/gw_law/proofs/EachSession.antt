@@ -53,7 +53,7 @@ pub each_session_of : (rx : RxSet) (turns : List RxTurn) (tx : TxSet) (moments :
 each_session_of rx turns tx moments v runs all =
     let so : SoFar tx.shape (world_of tx moments) = so-far tx moments runs.shape runs.sent in
     let source = source_law_of rx turns runs.received runs.idle in
-    let read = readings tx moments runs.shape runs.sent empty_view refl in
+    let read = readings tx moments runs.sent empty_view refl in
     let known : List Reading = (grows (calls_by moments) empty_view).readings tx.path.0 tx.dest.0 in
     let joined : length known ≡ (state_after tx_new moments).next = sym (length-map known (λ (r : Reading). r.len)) ∙ ap length read.fixed ∙ so.lens in
     let path : tx.path.0 ≡ rx.path.0 = ap (λ p. p.0) runs.path in

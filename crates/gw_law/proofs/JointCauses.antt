@@ -44,7 +44,7 @@ use Rattle.receiver_law.proofs.JointSessions.{IsLeft, IsPut}
 use Rattle.gw_law.proofs.JointTicks.{end-tells, moments-told}
 use Rattle.gw_law.proofs.JointWaits.{none-waits}
 use Rattle.gw_law.proofs.Timely.{timely}
-use Rattle.gw_law.proofs.TransmissionCauses.{causes}
+use Rattle.gw_law.proofs.TxOfRun.{causes-of-run}
 use Rattle.gw_base.proofs.Lists.{all-at, slice_get-more, zip-back}
 use Rattle.gw_law.proofs.Wholes.{AsFar, as-far, as-far-whole, as-far-within, route-delivers, route-source}
 use Rattle.gw_law.proofs.WholeRun.{WholeRun, route, works_of}
@@ -292,6 +292,6 @@ joint_causes o some =
     record {
       unread = route-unread o;
       short = route-short o;
-      in_time = none-waits (route o) o.run.shape source (causes o some)
+      in_time = none-waits (route o) o.run.shape source (causes-of-run o some)
           (timely o) (route-delivers o);
     }

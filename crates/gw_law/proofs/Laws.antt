@@ -9,7 +9,7 @@ use Rattle.gw_law.proofs.PoolRuns.{pool_of}
 use Rattle.gw_law.proofs.Records.{records_law_of}
 use Rattle.gw_law.proofs.RxOfRun.{flow_controls_of, receptions_of}
 use Rattle.gw_law.proofs.Timely.{timely}
-use Rattle.gw_law.proofs.TransmissionCauses.{causes}
+use Rattle.gw_law.proofs.TxOfRun.{causes-of-run}
 use Rattle.gw_law.proofs.Wholes.{route-delivers, route-each, route-source}
 use Rattle.gw_law.proofs.WholeRun.{WholeRun}
 use Rattle.tp_receiver.specs.declared.set.RxSet.{RxSet}
@@ -33,6 +33,6 @@ laws rx tx shape source_budget budget sizes last count free ticks end limits sma
       controls = flow_controls_of o limits.n_ar;
       receptions = received.0;
       never_boxed = received.1;
-      transmissions = causes o limits.n_bs;
+      transmissions = causes-of-run o limits.n_bs;
       joint = joint_causes o limits.n_bs;
     }

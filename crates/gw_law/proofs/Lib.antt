@@ -1,7 +1,7 @@
 mod WholeRun
 pub mod Emission
 pub mod OwnCalls
-pub mod TransmissionCauses
+pub mod TxOfRun
 mod Deliveries
 mod OtherFrames
 mod EachSession

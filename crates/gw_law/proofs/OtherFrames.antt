@@ -4,13 +4,13 @@ use Rattle.std.specs.Prelude.{filter}
 use Rattle.std.specs.List.{AllByRecursion, AllZip}
 use Rattle.tp_attempts.specs.Attempts.{attempts_in}
 use Rattle.tp_attempts.specs.Cuts.{Cut}
-use Rattle.tp_attempts.specs.Seen.{Seen, is_start}
+use Rattle.tp_attempts.specs.Seen.{Seen, carries, is_data}
 use Rattle.tp_attempts.specs.Walk.{Piece, Walk, joined, walk_of}
 use Rattle.hub_core.specs.declared.record.DestRecord.{DestRecord}
 use Rattle.gw_law.specs.Delivery.{Delivers, Delivery, DeliveryLaw, Names}
 use Rattle.gw_base.proofs.Lists.{all-weaker}
-use Rattle.sender_law.specs.Transfer.{Paced, has_sent, is_data}
-use Rattle.sender_law.proofs.OtherFrames.{carries, cuts-kept, kept_of, no-start, walk-kept, zip-mapped}
+use Rattle.sender_law.specs.Transfer.{Paced, has_sent}
+use Rattle.tp_attempts.proofs.Kept.{kept_of, walk-kept, zip-kept}
 
 -- what a transmission delivers
 names-kept : (d : Delivery) (out : List Seen) (told : DestRecord) → Names d told → Names (record d { frames = out }) told
@@ -41,12 +41,9 @@ delivers-kept d out cut told delivers =
 
 -- the law of delivery, with other frames between
 pub others-deliver : (d : Delivery) (out : List Seen) → DeliveryLaw d → filter (λ (s : Seen). is_data s.meaning) out ≡ d.frames → DeliveryLaw (record d { frames = out })
-others-deliver d out law is =
-    let cut : attempts_in false d.frames ≡ map (kept_of carries) (attempts_in false out) = ap (attempts_in false) (sym is) ∙ cuts-kept carries (λ (s : Seen). is_start false s.meaning) (λ s none. no-start s.meaning none) out in
-    let E : List (Cut Seen) → Type 0 = λ l. AllZip (Delivers d) l (filter has_sent d.records) in
-    record {
-      sessions = law.sessions;
-      numbered = law.numbered;
-      names = all-weaker (Names d) (Names (record d { frames = out })) d.records (λ told names. names-kept d out told names) law.names;
-      delivers = zip-mapped (kept_of carries) (Delivers d) (Delivers (record d { frames = out })) (attempts_in false out) (filter has_sent d.records) (λ one told delivers. delivers-kept d out one told delivers) (subst E cut law.delivers);
-    }
+others-deliver d out law is = record {
+  sessions = law.sessions;
+  numbered = law.numbered;
+  names = all-weaker (Names d) (Names (record d { frames = out })) d.records (λ told names. names-kept d out told names) law.names;
+  delivers = zip-kept (Delivers d) (Delivers (record d { frames = out })) out d.frames (filter has_sent d.records) (λ one told delivers. delivers-kept d out one told delivers) is law.delivers;
+}

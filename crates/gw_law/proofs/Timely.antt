@@ -59,7 +59,7 @@ joined-entered rx tx sizes works far =
     let moments : List TxTurn = moments_of works in
     let turns : List RxTurn = turns_of works in
     let so : SoFar tx.shape (world_of tx moments) = so-far tx moments far.shape far.sent in
-    let read = readings tx moments far.shape far.sent empty_view refl in
+    let read = readings tx moments far.sent empty_view refl in
     let known : List Reading = (grows (calls_by moments) empty_view).readings tx.path.0 tx.dest.0 in
     let joined : length known ≡ (state_after tx_new moments).next = sym (length-map known (λ (r : Reading). r.len)) ∙ ap length read.fixed ∙ so.lens in
     let most : (state_after tx_new moments).next ≤ length (v.sessions tx.path.0) =
@@ -107,10 +107,10 @@ cells-none (suc seq) (r ∷ known) is = cells-none seq known is
 read-put : (rx : RxSet) (tx : TxSet) (sizes : List ℕ) (works : List Work) (seq : ℕ) (known : Option Reading) → AsFar rx tx sizes works → slice_get ((grows (calls_by (moments_of works)) empty_view).readings tx.path.0 tx.dest.0) seq ≡ known →
     length (bytes_of (cells_read seq (calls_by (moments_of works)))) ≤ length (bytes_of (put_in rx (turns_of works) seq))
 read-put rx tx sizes works seq None far is =
-    let read = readings tx (moments_of works) far.shape far.sent empty_view refl in
+    let read = readings tx (moments_of works) far.sent empty_view refl in
     omega (arith, ap (λ c. length (bytes_of c)) (sym (read.cells seq) ∙ cells-none seq ((grows (calls_by (moments_of works)) empty_view).readings tx.path.0 tx.dest.0) is))
 read-put rx tx sizes works seq (Some r) far is =
-    let read = readings tx (moments_of works) far.shape far.sent empty_view refl in
+    let read = readings tx (moments_of works) far.sent empty_view refl in
     let put = (openings rx (turns_of works) far.received).fill empty_view refl in
     let known = far.joint.2.streams.joined tx.path.0 tx.dest.0 seq r (ap (λ l. slice_get l seq) far.readings ∙ is) in
     let s : Session = known.0 in

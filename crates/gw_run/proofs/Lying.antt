@@ -4,7 +4,7 @@ use Rattle.tp_sender.specs.Runs.{box_once}
 use Rattle.tp_unit.specs.Box.{box_then}
 use Rattle.tp_receiver.specs.State.{RxEvent, Came, Timer, FcLeft, RunEnd}
 use Rattle.tp_receiver.specs.Runs.{control_once}
-use Rattle.sender_law.proofs.DataFrames.{IsDataAct}
+use Rattle.tp_sender.specs.Own.{IsFittingAct}
 use Rattle.tp_sender.specs.State.{HasFrame, IsInBox, StillHasFrame, Transmission}
 use Rattle.tp_sender.specs.declared.event.TxEvent.{TxEvent}
 use Rattle.tp_sender.specs.declared.event.TxEvent.TheVariants.{Turn, Fc, Left, RunEnd}
@@ -27,7 +27,7 @@ fits-offers shape (Offers meaning) fits = fits meaning refl
 fits-offers shape Revokes fits = tt
 
 -- what a sender offers fits
-pub fits-offered : (set : TxSet) (act : BoxMeaning) → IsDataAct set act → FitsAct set.shape act
+pub fits-offered : (set : TxSet) (act : BoxMeaning) → IsFittingAct set act → FitsAct set.shape act
 fits-offered set Keeps is = tt
 fits-offered set (Offers meaning) is = is.fits
 fits-offered set Revokes is = tt

@@ -25,7 +25,7 @@ use Rattle.gw_run.specs.declared.gateway.Gateway.{Gateway}
 use Rattle.gw_run.proofs.Lying.{Both, fits-frame, fits-offered, fits-put, has-still, has-then}
 use Rattle.gw_run.proofs.RxTurns.{moves-grows}
 use Rattle.gw_run.proofs.Same.{knows-same, waits-later}
-use Rattle.sender_law.proofs.DataFrames.{data-act}
+use Rattle.tp_sender.proofs.Own.{own}
 
 -- the step is one from where the earlier ones led
 pub row-of : (tx : TxSet) (t tick : ℕ) (moments : List TxTurn) (view : View) (sender next : Sender) (lies : Option Meaning) (frames : List Written) (dests : List DestRecord) (hub new : PlainHub) (event : TxEvent) (turn : TxTurn) →
@@ -53,7 +53,7 @@ sender-moment tx t tick moments view later sender next lies now frames after des
       now = omega (arith, st.tick_is);
       since = st.since;
       lies_is = now_is ∙ ap (λ l. box_then turn.did.act (box_once event l)) stands.lies_is ∙ ap (λ e. box_then turn.did.act (box_once e (box_after moments))) (sym st.event_is);
-      fits = subst (FitsIn tx.shape) (sym now_is) (fits-put tx.shape turn.did.act (box_once event lies) (fits-offered tx turn.did.act (data-act tx (state_after tx_new moments) turn row)) (fits-frame tx.shape event lies stands.fits));
+      fits = subst (FitsIn tx.shape) (sym now_is) (fits-put tx.shape turn.did.act (box_once event lies) (fits-offered tx turn.did.act (own tx (state_after tx_new moments) turn.event turn.did row).act) (fits-frame tx.shape event lies stands.fits));
       has = both.0;
       had = both.1;
       frames_are = after_is ∙ ap (λ l. l ++ written_at tx.shape event tick lies) stands.frames_are

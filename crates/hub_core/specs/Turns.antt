@@ -1,5 +1,5 @@
 -- One vocabulary for every machine that works over a port: what it was told, what its step came to, and what its turns tell together.
-use Rattle.std.specs.Prelude.{◌≡◌, ℕ, ◌≤◌, List, [], ◌∷◌, ◌++◌}
+use Rattle.std.specs.Prelude.{◌≡◌, ℕ, ◌+◌, ◌≤◌, List, [], ◌∷◌, ◌++◌}
 use Rattle.hub_core.specs.Floors.{Floors, AreFresh}
 use Rattle.hub_core.specs.Moves.{moves_in}
 use Rattle.hub_core.specs.View.{View, Event, grows}
@@ -45,6 +45,20 @@ came_by came (turn ∷ earlier) = came_by came earlier ++ came turn.did.tick tur
 abbrev pub Happened : {E C A R S : Type 0} → (List (Turn E C A R S) → Turn E C A R S → Type 0) → List (Turn E C A R S) → Type 0
 Happened Step [] = Unit {0}
 Happened Step (turn ∷ earlier) = (now_of earlier ≤ turn.did.tick) × Step earlier turn × Happened Step earlier
+
+-- what a machine did in a tick: its turns, the newest first
+pub record Part (T : Type 0) : Type 0 where
+  pub tick : ℕ
+  pub turns : List T
+
+-- lists of parts, the newest first: all turns, and the tick after the last part's, 0 where there is none
+abbrev pub turns_of : {T : Type 0} → List (Part T) → List T
+turns_of [] = []
+turns_of (part ∷ earlier) = part.turns ++ turns_of earlier
+
+abbrev pub tick_after : {T : Type 0} → List (Part T) → ℕ
+tick_after [] = 0
+tick_after (part ∷ earlier) = part.tick + 1
 
 -- a part of a step over a port: these calls made the new view of the old one, none is older than the floors, their moves are told, and the row holds of them
 pub record Over (floors : Floors) (old new : View) (moves : List Move) (Row : List Event → Type 0) : Type 0 where

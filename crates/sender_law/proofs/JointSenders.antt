@@ -1,5 +1,5 @@
--- The readings of a view after each row of a sender's steps.
-use Rattle.std.proofs.Common.{◌≡◌, ◌≢◌, ℕ, ◌+◌, ◌%◌, ◌<◌, Bool, true, false, not, Option, Some, None, List, [], ◌∷◌, ◌++◌, length, All, refl, ap, sym, ◌∙◌, arith, append-nil}
+-- The readings of a view after a sender's steps: what its records tell is what its destination saw and read.
+use Rattle.std.proofs.Common.{◌≡◌, ◌≢◌, ℕ, ◌+◌, ◌%◌, ◌<◌, Bool, true, false, not, Option, Some, None, List, [], ◌∷◌, ◌++◌, length, All, refl, ap, sym, ◌∙◌, subst, arith, append-nil, append_assoc}
 use Rattle.tp_sender.specs.Runs.{HasSent}
 use Rattle.tp_sender.specs.State.{TxTurn, tx_new, Transmission, TxDid}
 use Rattle.hub_core.specs.Turns.{calls_by, state_after, records_by}
@@ -14,26 +14,38 @@ use Rattle.std.proofs.lemmas.List.Sums.{sum_by-append, sum_by-cons}
 use Rattle.gw_base.proofs.Cells.{length-bytes_of, length-cell_bytes}
 use Rattle.gw_base.specs.Cell.{IsCell, bytes_of, cell_bytes, count_of, counted}
 use Rattle.hub_core.specs.View.{View, Change, Event, Reading, change_at, empty_view, reading_new, grow, grows, Joining, Missed, Saw, Read, Parted}
+use Rattle.hub_core.specs.declared.port.Left.{Left as LeftOver}
 use Rattle.hub_core.specs.declared.port.Seen.{Seen}
 use Rattle.hub_core.specs.declared.record.DestRecord.{DestRecord}
 use Rattle.hub_core.specs.declared.record.DestResult.{DestResult}
-use Rattle.hub_core.specs.declared.record.DestResult.TheVariants.{Sent, SourceEnded, BsTimeout, FcOverflow, InvalidFs, CsTimeout, AsTimeout, RunEnd as EndOfRun}
-use Rattle.hub_core.specs.declared.record.TxWait.TheVariants.{Turn as ForTurn}
-use Rattle.tp_sender.specs.Table.{Ends, Fetches, FrameLeft, GoesOn, IdleRow, InAnswer, InBytes, InStart, InTurn, InWait, JoinsNext, Lacks, LiveRow, NoneStands, TxRow, fetched, in_phase, joined_in, next_part, revoked, wait_of}
-use Rattle.tp_sender.specs.Table.{AsksToWait, Continues, Due, Enough, FindsOne, FirstLeft, GapLasts, GapOver, IsInvalid, Joins, LastLeft, MayCome, NeverReached, NextLeft, NotDue, NotReached, NothingStands, NothingToSend, Overflows, Reached, Short, TooLate, WriterGone}
+use Rattle.hub_core.specs.declared.record.DestResult.TheVariants.{Sent, SourceEnded, BsTimeout, FcOverflow, InvalidFs, CsTimeout, AsTimeout, Cancelled, RunEnd as EndOfRun}
+use Rattle.tp_unit.specs.Unit.{BoxMeaning}
+use Rattle.tp_sender.specs.Effects.{AwaitsNext, IsShort, MayBe, MayEnd, MayWait, NeverComes, TxStage, ShowsEnd, TxDone, TxEffect, done_by, done_then, found_by, nothing_at, once_left, once_offered, once_waited, first_stage, record_of}
+use Rattle.tp_sender.specs.Effects.{Misses, Joins, Looks, Reads as ReadsCells, Offers, Leaves, Waits, Ends, AfterFirst, AfterNext, IsReached, GapIsOver, IsContinued, IsPaused, NoNext, NoStart, IsWhole, IsCut}
+use Rattle.tp_sender.specs.Table.{fetched, in_phase, joined_in, next_part}
 use Rattle.tp_sender.specs.declared.event.TxEvent.{TxEvent}
 use Rattle.tp_sender.specs.declared.event.TxEvent.TheVariants.{Turn, Fc as CameFc, Left, RunEnd}
 use Rattle.tp_sender.specs.declared.set.TxSet.{TxSet}
-use Rattle.tp_unit.specs.Unit.{BoxMeaning, Keeps}
-use Rattle.sender_law.proofs.JointReadings.{IsScant, Looked, NoMore, Reads, ShowsBy, WantsNext, WantsStart, boxed, reads-changed, reads-ended, reads-joined, reads-like, reads-parted}
+use Rattle.tp_sender.proofs.Effects.{HoldsOf, IsDoneLaw, of-step}
+use Rattle.tp_sender.proofs.Made.{amid}
+use Rattle.sender_law.proofs.JointReadings.{IsScant, IsWant, Looked, NoMore, Reads, ShowsBy, WantsNext, WantsStart, boxed, reads-changed, reads-ended, reads-joined, reads-like, reads-parted}
 use Rattle.hub_core.proofs.Growing.{at_two-same, grows-append}
 
 abbrev pub ReadsIn : TxSet → Bool → View → List DestRecord → ℕ → Option Transmission → (Reading → Type 0) → Type 0
 ReadsIn set ended v records next live P = Reads set ended (v.readings set.path.0 set.dest.0) records next live P
 
--- after calls, with what they came to
-abbrev pub ReadsAfter : TxSet → Bool → View → List DestRecord → ℕ → List Event → TxDid → Type 0
-ReadsAfter set ended v records next calls did = ReadsIn set ended (grows calls v) (records ++ did.records) next did.new.live NoMore
+-- what was seen last, where there was a look
+abbrev SeenBy : Option Seen → Reading → Type 0
+SeenBy None = NoMore
+SeenBy (Some look) = Looked look
+
+-- what is made of the readings; the run's end is told where it is the event
+record ReadsOn (set : TxSet) (ended : Bool) (v : View) (records : List DestRecord) (d : TxDone) : Type 0 where
+  told : d.new.event ≡ Some RunEnd → ended ≡ true
+  reads : ReadsIn set ended (grows d.calls v) (records ++ d.records) d.new.next d.new.live (SeenBy d.new.look)
+
+abbrev ReadsBy : TxSet → TxStage → TxDone → Type 0
+ReadsBy set p d = (v : View) (records : List DestRecord) (ended : Bool) → (p.event ≡ Some RunEnd → ended ≡ true) → ReadsIn set ended v records p.next p.live (SeenBy p.look) → ReadsOn set ended v records d
 
 grow-saw : (path dest seq : ℕ) (look : Seen) (v : View) → (grow (Saw path dest seq look.cells look.bytes look.writer) v).readings path dest ≡ change_at seq (λ r. record r { seen = look.cells; bytes = look.bytes; writer = look.writer }) (v.readings path dest)
 unfolding grow
@@ -55,55 +67,66 @@ grow-missed : (path dest seq : ℕ) (v : View) → (grow (Missed path dest seq) 
 unfolding grow
 grow-missed path dest seq v = refl
 
--- the session goes on, or ends
-on : (set : TxSet) (ended : Bool) (v : View) (records : List DestRecord) (next : ℕ) (s t : Transmission) (P : Reading → Type 0) (calls : List Event) (did : TxDid) → t.seq ≡ s.seq → t.len ≡ s.len → t.at ≡ s.at →
-    t.sent + boxed t.phase (next_part set t) + length t.carried ≡ s.sent + boxed s.phase (next_part set s) + length s.carried → ((s.phase ≡ Start → s.sent ≡ 0) → t.phase ≡ Start → t.sent ≡ 0) → GoesOn t calls did →
-    ReadsIn set ended v records next (Some s) P → ReadsAfter set ended v records next calls did
-on set ended v records next s t P calls did seq len at held starts row reads =
-    rw (row.calls_are, row.records, row.live, append-nil) (reads-like set ended (v.readings set.path.0 set.dest.0) records next s t P NoMore seq len at held starts (λ r so. tt) reads)
+-- where no session is sent, what was seen doesn't matter
+idle-too : (set : TxSet) (ended : Bool) (v : View) (records : List DestRecord) (next : ℕ) (P Q : Reading → Type 0) → ReadsIn set ended v records next None P → ReadsIn set ended v records next None Q
+idle-too set ended v records next P Q reads = record { number = reads.number; told = reads.told; left = reads.left; going = tt }
 
-stays : (set : TxSet) (ended : Bool) (v : View) (records : List DestRecord) (next : ℕ) (s : Transmission) (P : Reading → Type 0) (calls : List Event) (did : TxDid) → GoesOn s calls did → ReadsIn set ended v records next (Some s) P → ReadsAfter set ended v records next calls did
-stays set ended v records next s P calls did row reads = on set ended v records next s s P calls did refl refl refl refl (λ early. early) row reads
-
-ends : (set : TxSet) (ended : Bool) (v : View) (records : List DestRecord) (next : ℕ) (s : Transmission) (sent : ℕ) (P : Reading → Type 0) (act : BoxMeaning) (how : DestResult) (calls : List Event) (did : TxDid) →
-    ((r : Reading) → r.len ≡ s.len → length r.cells ≡ s.at → s.sent + boxed s.phase (next_part set s) + length s.carried ≡ counted r.cells → (s.phase ≡ Start → s.sent ≡ 0) → P r → ShowsBy set ended sent (record r { stands = false }) how) →
-    Ends set (record s { sent = sent }) act how calls did → ReadsIn set ended v records next (Some s) P → ReadsAfter set ended v records next calls did
-ends set ended v records next s sent P act how calls did shows row reads =
-    rw (row.calls_are, row.records, row.live, grow-parted set.path.0 set.dest.0 s.seq (freed_by row.left) v)
-    (reads-parted set ended (v.readings set.path.0 set.dest.0) records next s P _ refl shows reads)
-
--- a look
+-- a look, and cells that are read
 looks : (set : TxSet) (ended : Bool) (v : View) (records : List DestRecord) (next : ℕ) (s : Transmission) (P : Reading → Type 0) (look : Seen) → ReadsIn set ended v records next (Some s) P →
     ReadsIn set ended (grow (Saw set.path.0 set.dest.0 s.seq look.cells look.bytes look.writer) v) records next (Some s) (Looked look)
 looks set ended v records next s P look reads =
     rw (grow-saw set.path.0 set.dest.0 s.seq look v)
     (reads-changed set ended (v.readings set.path.0 set.dest.0) records next s s P (Looked look) (λ r. record r { seen = look.cells; bytes = look.bytes; writer = look.writer }) refl refl (λ r. refl) (λ r. refl) (λ r is. is) (λ r is. is) (λ early. early) (λ r so. (refl, refl, refl)) reads)
 
--- cells are read
-reads-cells : (set : TxSet) (ended : Bool) (v : View) (records : List DestRecord) (next : ℕ) (s t : Transmission) (look : Seen) (cells : List ℕ) → All IsCell cells → t.seq ≡ s.seq → t.len ≡ s.len → t.at ≡ s.at + length cells → t.sent ≡ s.sent → t.phase ≡ s.phase →
-    length t.carried ≡ length s.carried + counted cells → ReadsIn set ended v records next (Some s) (Looked look) →
-    ReadsIn set ended (grows (map (Read set.path.0 set.dest.0 s.seq) cells) v) records next (Some t) (Looked look)
+seen-still : (look : Option Seen) (r : Reading) (cells : List ℕ) → SeenBy look r → SeenBy look (record r { cells = cells })
+seen-still None r cells so = tt
+seen-still (Some look) r cells so = so
+
+reads-cells : (set : TxSet) (ended : Bool) (v : View) (records : List DestRecord) (next : ℕ) (s t : Transmission) (look : Option Seen) (cells : List ℕ) → All IsCell cells → t.seq ≡ s.seq → t.len ≡ s.len → t.at ≡ s.at + length cells → t.sent ≡ s.sent → t.phase ≡ s.phase →
+    length t.carried ≡ length s.carried + counted cells → ReadsIn set ended v records next (Some s) (SeenBy look) →
+    ReadsIn set ended (grows (map (Read set.path.0 set.dest.0 s.seq) cells) v) records next (Some t) (SeenBy look)
 reads-cells set ended v records next s t look [] all seq len at sent phase carried reads =
-    reads-like set ended (v.readings set.path.0 set.dest.0) records next s t (Looked look) (Looked look) seq len (omega (arith, at))
+    reads-like set ended (v.readings set.path.0 set.dest.0) records next s t (SeenBy look) (SeenBy look) seq len (omega (arith, at))
     (rw (sent, phase, len) (omega (arith, carried))) (λ early is. sent ∙ early (sym phase ∙ is)) (λ r so. so) reads
 reads-cells set ended v records next s t look (cell ∷ cells) all seq len at sent phase carried reads =
     let u : Transmission = record s { at = s.at + 1; carried = s.carried ++ cell_bytes cell } in
     let size : length (cell_bytes cell) ≡ count_of cell = length-cell_bytes cell (All-head IsCell cell cells all) in
     let more : length u.carried ≡ length s.carried + count_of cell = omega (arith, length-append s.carried (cell_bytes cell), size) in
-    let one : ReadsIn set ended (grow (Read set.path.0 set.dest.0 s.seq cell) v) records next (Some u) (Looked look) =
+    let one : ReadsIn set ended (grow (Read set.path.0 set.dest.0 s.seq cell) v) records next (Some u) (SeenBy look) =
     rw (grow-read set.path.0 set.dest.0 s.seq cell v)
-    (reads-changed set ended (v.readings set.path.0 set.dest.0) records next s u (Looked look) (Looked look) (λ r. record r { cells = r.cells ++ cell ∷ [] }) refl refl (λ r. refl) (λ r. refl)
-    (λ r is. omega (arith, length-append r.cells (cell ∷ []), is)) (λ r is. omega (arith, is, more, sum_by-append count_of r.cells (cell ∷ []), sum_by-cons count_of cell [])) (λ early. early) (λ r so. so) reads) in
+    (reads-changed set ended (v.readings set.path.0 set.dest.0) records next s u (SeenBy look) (SeenBy look) (λ r. record r { cells = r.cells ++ cell ∷ [] }) refl refl (λ r. refl) (λ r. refl)
+    (λ r is. omega (arith, length-append r.cells (cell ∷ []), is)) (λ r is. omega (arith, is, more, sum_by-append count_of r.cells (cell ∷ []), sum_by-cons count_of cell [])) (λ early. early)
+    (λ r so. seen-still look r (r.cells ++ cell ∷ []) so) reads) in
     reads-cells set ended (grow (Read set.path.0 set.dest.0 s.seq cell) v) records next u t look cells (All-tail IsCell cell cells all) seq len (omega (arith, at)) sent phase (omega (arith, carried, more, sum_by-cons count_of cell cells)) one
 
-fetches-so : (set : TxSet) (ended : Bool) (v : View) (records : List DestRecord) (next : ℕ) (s : Transmission) (P : Reading → Type 0) (look : Seen) (cells : List ℕ) (calls more : List Event) (did : TxDid) → (row : Fetches set s look cells calls more) → ReadsIn set ended v records next (Some s) P →
-    ((w : View) → ReadsIn set ended w records next (Some (fetched cells s)) (Looked look) → ReadsAfter set ended w records next more did) → ReadsAfter set ended v records next calls did
-fetches-so set ended v records next s P look cells calls more did row reads then =
-    let saw : View = grow (Saw set.path.0 set.dest.0 s.seq look.cells look.bytes look.writer) v in
-    let w : View = grows (map (Read set.path.0 set.dest.0 s.seq) cells) saw in
-    let size : length (s.carried ++ bytes_of cells) ≡ length s.carried + counted cells = omega (arith, length-append s.carried (bytes_of cells), length-bytes_of cells row.cells_only) in
-    rw (row.calls_are, grows-append (map (Read set.path.0 set.dest.0 s.seq) cells) more saw)
-    (then w (reads-cells set ended saw records next s (fetched cells s) look cells row.cells_only refl refl refl refl refl size (looks set ended v records next s P look reads)))
+-- the session goes on with the same reading
+on : (set : TxSet) (ended : Bool) (v : View) (records : List DestRecord) (next : ℕ) (look : Option Seen) (s t : Transmission) → t.seq ≡ s.seq → t.len ≡ s.len → t.at ≡ s.at →
+    t.sent + boxed t.phase (next_part set t) + length t.carried ≡ s.sent + boxed s.phase (next_part set s) + length s.carried → (t.phase ≡ Start → ⊥) →
+    ReadsIn set ended v records next (Some s) (SeenBy look) → ReadsIn set ended v (records ++ []) next (Some t) (SeenBy look)
+on set ended v records next look s t seq len at held begun reads =
+    rw append-nil (reads-like set ended (v.readings set.path.0 set.dest.0) records next s t (SeenBy look) (SeenBy look) seq len at held (λ early is. absurd (begun is)) (λ r so. so) reads)
+
+leaves : (set : TxSet) (ended : Bool) (v : View) (records : List DestRecord) (next tick sent number : ℕ) (look : Option Seen) (s : Transmission) (phase : Phase) → s.phase ≡ Box → AwaitsNext set tick s sent number phase →
+    ReadsIn set ended v records next (Some s) (SeenBy look) → ReadsIn set ended v (records ++ []) next (Some (once_left tick sent number phase s)) (SeenBy look)
+leaves set ended v records next tick sent number look s phase box (AfterFirst first more same is) reads =
+    let part : ℕ = next_part set s in
+    on set ended v records next look s (once_left tick sent number phase s) refl refl refl (rw (is, box) (omega (arith, first, more))) (λ start. let no : Fc ≡ Start = sym is ∙ start in cc) reads
+leaves set ended v records next tick sent number look s phase box (AfterNext some more same is) reads =
+    let part : ℕ = next_part set s in
+    on set ended v records next look s (once_left tick sent number phase s) refl refl refl (rw (is, box) (omega (arith, more))) (λ start. let no : Gap (record { 0 = tick + 1 }) ≡ Start = sym is ∙ start in cc) reads
+
+waits : (set : TxSet) (ended : Bool) (v : View) (records : List DestRecord) (next tick : ℕ) (look : Option Seen) (s : Transmission) (phase : Phase) (event : TxEvent) → MayWait tick event s.phase phase →
+    ReadsIn set ended v records next (Some s) (SeenBy look) → ReadsIn set ended v (records ++ []) next (Some (in_phase phase tick s)) (SeenBy look)
+waits set ended v records next tick look s phase event (IsReached at was is) reads = on set ended v records next look s (in_phase phase tick s) refl refl refl (rw (is, was) refl) (λ start. let no : Bytes ≡ Start = sym is ∙ start in cc) reads
+waits set ended v records next tick look s phase event (GapIsOver until at was le is) reads = on set ended v records next look s (in_phase phase tick s) refl refl refl (rw (is, was) refl) (λ start. let no : Bytes ≡ Start = sym is ∙ start in cc) reads
+waits set ended v records next tick look s phase event (IsContinued bs st at was is) reads = on set ended v records next look s (in_phase phase tick s) refl refl refl (rw (is, was) refl) (λ start. let no : Bytes ≡ Start = sym is ∙ start in cc) reads
+waits set ended v records next tick look s phase event (IsPaused bs st at was is) reads = on set ended v records next look s (in_phase phase tick s) refl refl refl (rw (is, was) refl) (λ start. let no : Fc ≡ Start = sym is ∙ start in cc) reads
+
+told-on : (tick : ℕ) (event : TxEvent) (was now : Phase) → MayWait tick event was now → once_waited (Some event) ≡ Some RunEnd → ⊥
+told-on tick event was now (IsReached at is same) told = let no : once_waited (Some Turn) ≡ Some RunEnd = ap (λ e. once_waited (Some e)) (sym at) ∙ told in cc
+told-on tick event was now (GapIsOver until at is le same) told = let no : once_waited (Some Turn) ≡ Some RunEnd = ap (λ e. once_waited (Some e)) (sym at) ∙ told in cc
+told-on tick event was now (IsContinued bs st at is same) told = let no : once_waited (Some (CameFc 0 bs st)) ≡ Some RunEnd = ap (λ e. once_waited (Some e)) (sym at) ∙ told in cc
+told-on tick event was now (IsPaused bs st at is same) told = let no : once_waited (Some (CameFc 1 bs st)) ≡ Some RunEnd = ap (λ e. once_waited (Some e)) (sym at) ∙ told in cc
 
 -- fewer bytes than the next frame takes
 scant : (set : TxSet) (s : Transmission) (look : Seen) (r : Reading) → s.at ≡ look.cells → length s.carried < next_part set s → boxed s.phase (next_part set s) ≡ 0 → r.len ≡ s.len → length r.cells ≡ s.at →
@@ -112,78 +135,87 @@ scant set s look r all few clear len at held seen =
     let sum : s.sent + length s.carried ≡ counted r.cells = (let plain : s.sent + 0 + length s.carried ≡ counted r.cells = rw clear at held in omega (arith, plain)) in
     record { all = omega (arith, all, at, seen); least = omega (arith, sum); few = rw len (let part : ℕ = next_part set s in omega (arith, sum, few)) }
 
-lacks : (set : TxSet) (ended : Bool) (v : View) (records : List DestRecord) (next : ℕ) (s : Transmission) (look : Seen) (calls : List Event) (did : TxDid) → s.at ≡ look.cells → length s.carried < next_part set s → boxed s.phase (next_part set s) ≡ 0 → Lacks set s look calls did →
-    ReadsIn set ended v records next (Some s) (Looked look) → ReadsAfter set ended v records next calls did
-lacks set ended v records next s look calls did all few clear (WriterGone gone row) reads =
-    ends set ended v records next s s.sent (Looked look) Keeps SourceEnded calls did (λ r len at held early so. (so.2 ∙ gone, WantsNext (scant set s look (record r { stands = false }) all few clear len at held so.0))) row reads
-lacks set ended v records next s look calls did all few clear (TooLate there late row) reads =
-    ends set ended v records next s s.sent (Looked look) Keeps (CsTimeout look.bytes) calls did (λ r len at held early so. (so.1, scant set s look (record r { stands = false }) all few clear len at held so.0)) row reads
-lacks set ended v records next s look calls did all few clear (MayCome there early row) reads = stays set ended v records next s (Looked look) calls did row reads
-
-in-bytes : (set : TxSet) (ended : Bool) (v : View) (records : List DestRecord) (next : ℕ) (s : Transmission) (P : Reading → Type 0) (calls : List Event) (did : TxDid) → boxed s.phase (next_part set s) ≡ 0 → InBytes set s calls did → ReadsIn set ended v records next (Some s) P →
-    ReadsAfter set ended v records next calls did
-in-bytes set ended v records next s P calls did clear (Enough look cells fetches row) reads =
-    fetches-so set ended v records next s P look cells calls [] did fetches reads (λ w read.
-    let t : Transmission = fetched cells s in
-    let u : Transmission = in_phase Box did.tick (record t { carried = drop (next_part set t) t.carried }) in
-    let part : ℕ = next_part set t in
-    rw (row.records, row.live, append-nil) (reads-like set ended (w.readings set.path.0 set.dest.0) records next t u (Looked look) NoMore refl refl refl
-    (rw clear (omega (arith, length-drop (next_part set t) t.carried, row.enough))) (λ early is. cc) (λ r so. tt) read))
-in-bytes set ended v records next s P calls did clear (Short look cells more fetches short row) reads =
-    fetches-so set ended v records next s P look cells calls more did fetches reads (λ w read. lacks set ended w records next (fetched cells s) look more did short.all short.few clear row read)
-
 never-reached : (bytes len threshold cells : ℕ) (store : Bool) → ((bytes == len) || (not store && nat_le threshold cells)) ≡ false → (bytes ≢ len) × (store ≡ false → cells < threshold)
 never-reached bytes len threshold cells store is = (λ same. grind (arith, nat_tests, same), λ none. grind (arith, nat_tests, none))
 
-in-start : (set : TxSet) (ended : Bool) (v : View) (records : List DestRecord) (next : ℕ) (s : Transmission) (P : Reading → Type 0) (calls : List Event) (did : TxDid) → s.phase ≡ Start → InStart set s calls did → ReadsIn set ended v records next (Some s) P → ReadsAfter set ended v records next calls did
-in-start set ended v records next s P calls did at (Reached look more are reached row) reads =
-    let clear : boxed s.phase (next_part set s) ≡ 0 = ap (λ p. boxed p (next_part set s)) at in
-    let w : View = grow (Saw set.path.0 set.dest.0 s.seq look.cells look.bytes look.writer) v in
-    rw are (in-bytes set ended w records next (in_phase Bytes did.tick s) NoMore more did refl row
-    (reads-like set ended (w.readings set.path.0 set.dest.0) records next s (in_phase Bytes did.tick s) (Looked look) NoMore refl refl refl (rw clear refl) (λ early is. cc) (λ r so. tt) (looks set ended v records next s P look reads)))
-in-start set ended v records next s P calls did at (NeverReached look more are reached gone row) reads =
+-- what a session that is cut short shows, by what was seen last and what was read
+record IsHeld (set : TxSet) (s : Transmission) (r : Reading) : Type 0 where
+  len : r.len ≡ s.len
+  at : length r.cells ≡ s.at
+  held : s.sent + boxed s.phase (next_part set s) + length s.carried ≡ counted r.cells
+  early : s.phase ≡ Start → s.sent ≡ 0
+
+short : (set : TxSet) (s : Transmission) (look : Seen) (r : Reading) → IsShort set s look → IsHeld set s r → Looked look r → IsScant set s.sent (record r { stands = false })
+short set s look r is held so = scant set s look (record r { stands = false }) is.all is.few (ap (λ p. boxed p (next_part set s)) is.phase) held.len held.at held.held so.0
+
+wants : (set : TxSet) (s : Transmission) (look : Seen) (r : Reading) → NeverComes set s look → IsHeld set s r → Looked look r → IsWant set s.sent (record r { stands = false })
+wants set s look r (NoNext is) held so = WantsNext (short set s look r is held so)
+wants set s look r (NoStart start reached) held so =
     let never : (look.bytes ≢ s.len) × (set.store ≡ false → look.cells < set.threshold) = never-reached look.bytes s.len set.threshold look.cells set.store reached in
-    rw are (ends set ended (grow (Saw set.path.0 set.dest.0 s.seq look.cells look.bytes look.writer) v) records next s s.sent (Looked look) Keeps SourceEnded more did
-    (λ r len ats held early so. (so.2 ∙ gone, WantsStart (early at) (λ same. never.0 (sym so.1 ∙ same ∙ len)) (λ none. omega (arith, never.1 none, so.0)))) row (looks set ended v records next s P look reads))
-in-start set ended v records next s P calls did at (NotReached look more are reached stands row) reads =
-    rw are (stays set ended (grow (Saw set.path.0 set.dest.0 s.seq look.cells look.bytes look.writer) v) records next s (Looked look) more did row (looks set ended v records next s P look reads))
+    WantsStart (held.early start) (λ same. never.0 (sym so.1 ∙ same ∙ held.len)) (λ none. omega (arith, never.1 none, so.0))
 
-in-wait : (set : TxSet) (ended : Bool) (v : View) (records : List DestRecord) (next : ℕ) (s : Transmission) (limit : ℕ) (how : DestResult) (calls : List Event) (did : TxDid) → ((r : Reading) → ShowsBy set ended s.sent r how) → InWait set s limit how calls did →
-    ReadsIn set ended v records next (Some s) NoMore → ReadsAfter set ended v records next calls did
-in-wait set ended v records next s limit how calls did shows (Due late row) reads = ends set ended v records next s s.sent NoMore (revoked s.phase) how calls did (λ r len at held early so. shows (record r { stands = false })) row reads
-in-wait set ended v records next s limit how calls did shows (NotDue early row) reads = stays set ended v records next s NoMore calls did row reads
+shows : (set : TxSet) (ended : Bool) (event : TxEvent) (look : Option Seen) (s : Transmission) (result : DestResult) (r : Reading) → (Some event ≡ Some RunEnd → ended ≡ true) → ShowsEnd set event look s result → IsHeld set s r → SeenBy look r →
+    ShowsBy set ended s.sent (record r { stands = false }) result
+shows set ended event look s Sent r told is held so = absurd is
+shows set ended event None s SourceEnded r told is held so = absurd is
+shows set ended event (Some look) s SourceEnded r told is held so = (so.2 ∙ is.0, wants set s look r is.1 held so)
+shows set ended event look s BsTimeout r told is held so = tt
+shows set ended event look s FcOverflow r told is held so = tt
+shows set ended event look s (InvalidFs status) r told is held so = tt
+shows set ended event None s (CsTimeout seen) r told is held so = absurd is
+shows set ended event (Some look) s (CsTimeout seen) r told is held so = (so.1 ∙ is.0, short set s look r is.1 held so)
+shows set ended event look s AsTimeout r told is held so = tt
+shows set ended event look s Cancelled r told is held so = tt
+shows set ended event look s (EndOfRun wait since) r told is held so = told (ap (λ e. Some e) is)
 
-in-turn : (set : TxSet) (ended : Bool) (v : View) (records : List DestRecord) (next : ℕ) (s : Transmission) (phase : Phase) (calls : List Event) (did : TxDid) → s.phase ≡ phase → InTurn set s phase calls did → ReadsIn set ended v records next (Some s) NoMore →
-    ReadsAfter set ended v records next calls did
-in-turn set ended v records next s Start calls did at row reads = in-start set ended v records next s NoMore calls did at row reads
-in-turn set ended v records next s Bytes calls did at row reads = in-bytes set ended v records next s NoMore calls did (ap (λ p. boxed p (next_part set s)) at) row reads
-in-turn set ended v records next s Box calls did at row reads = in-wait set ended v records next s set.n_as AsTimeout calls did (λ r. tt) row reads
-in-turn set ended v records next s Fc calls did at row reads = in-wait set ended v records next s set.n_bs BsTimeout calls did (λ r. tt) row reads
-in-turn set ended v records next s (Gap until) calls did at (GapOver over row) reads =
-    in-bytes set ended v records next (in_phase Bytes did.tick s) NoMore calls did refl row
-    (reads-like set ended (v.readings set.path.0 set.dest.0) records next s (in_phase Bytes did.tick s) NoMore NoMore refl refl refl (rw at refl) (λ early is. cc) (λ r so. tt) reads)
-in-turn set ended v records next s (Gap until) calls did at (GapLasts early row) reads = stays set ended v records next s NoMore calls did row reads
-
-in-answer : (set : TxSet) (ended : Bool) (v : View) (records : List DestRecord) (next : ℕ) (s : Transmission) (phase : Phase) (fs : ℕ) (calls : List Event) (did : TxDid) → s.phase ≡ phase → InAnswer set s phase fs calls did → ReadsIn set ended v records next (Some s) NoMore →
-    ReadsAfter set ended v records next calls did
-in-answer set ended v records next s Start fs calls did at row reads = stays set ended v records next s NoMore calls did row reads
-in-answer set ended v records next s Bytes fs calls did at row reads = stays set ended v records next s NoMore calls did row reads
-in-answer set ended v records next s Box fs calls did at row reads = stays set ended v records next s NoMore calls did row reads
-in-answer set ended v records next s Fc fs calls did at (Continues zero row) reads = on set ended v records next s (in_phase Bytes did.tick s) NoMore calls did refl refl refl (rw at refl) (λ early is. cc) row reads
-in-answer set ended v records next s Fc fs calls did at (AsksToWait one row) reads = on set ended v records next s (in_phase Fc did.tick s) NoMore calls did refl refl refl (rw at refl) (λ early is. cc) row reads
-in-answer set ended v records next s Fc fs calls did at (Overflows two row) reads = ends set ended v records next s s.sent NoMore Keeps FcOverflow calls did (λ r len ats held early so. tt) row reads
-in-answer set ended v records next s Fc fs calls did at (IsInvalid more row) reads = ends set ended v records next s s.sent NoMore Keeps (InvalidFs fs) calls did (λ r len ats held early so. tt) row reads
-in-answer set ended v records next s (Gap until) fs calls did at row reads = stays set ended v records next s NoMore calls did row reads
-
-frame-left : (set : TxSet) (ended : Bool) (v : View) (records : List DestRecord) (next : ℕ) (s : Transmission) (calls : List Event) (did : TxDid) → s.phase ≡ Box → FrameLeft set s calls did → ReadsIn set ended v records next (Some s) NoMore → ReadsAfter set ended v records next calls did
-frame-left set ended v records next s calls did at (LastLeft whole row) reads =
-    ends set ended v records next s s.len NoMore Keeps Sent calls did
-    (λ r len ats held early so. (sym len, let part : ℕ = next_part set s in let all : s.sent + next_part set s + length s.carried ≡ counted r.cells = rw at at held in omega (arith, whole, all))) row reads
-frame-left set ended v records next s calls did at (FirstLeft zero more row) reads =
+shows-end : (set : TxSet) (ended : Bool) (event : TxEvent) (look : Option Seen) (s : Transmission) (sent : ℕ) (act : BoxMeaning) (result : DestResult) (r : Reading) → (Some event ≡ Some RunEnd → ended ≡ true) → MayEnd set event look s sent act result → IsHeld set s r → SeenBy look r →
+    ShowsBy set ended sent (record r { stands = false }) result
+shows-end set ended event look s sent act result r told (IsWhole left box whole all keeps is) held so =
     let part : ℕ = next_part set s in
-    on set ended v records next s (in_phase Fc did.tick (record s { sent = next_part set s })) NoMore calls did refl refl refl (rw at (omega (arith, zero))) (λ early is. cc) row reads
-frame-left set ended v records next s calls did at (NextLeft some more row) reads =
-    on set ended v records next s (in_phase (Gap (record { 0 = did.tick + 1 })) did.tick (record s { sent = s.sent + next_part set s; number = (s.number + 1) % 16 })) NoMore calls did refl refl refl (rw at (omega arith)) (λ early is. cc) row reads
+    let sum : s.sent + next_part set s + length s.carried ≡ counted r.cells = rw box at held.held in
+    rw (is, all) (sym held.len, omega (arith, whole, sum))
+shows-end set ended event look s sent act result r told (IsCut out other same keeps is) held so = rw same (shows set ended event look s result r told is held so)
+
+ends : (set : TxSet) (ended : Bool) (v : View) (records : List DestRecord) (next tick sent : ℕ) (look : Option Seen) (s : Transmission) (act : BoxMeaning) (result : DestResult) (left : LeftOver) (event : TxEvent) → (Some event ≡ Some RunEnd → ended ≡ true) → MayEnd set event look s sent act result →
+    ReadsIn set ended v records next (Some s) (SeenBy look) → ReadsIn set ended (grow (Parted set.path.0 set.dest.0 s.seq (freed_by left)) v) (records ++ record_of set tick s sent result ∷ []) next None (SeenBy look)
+ends set ended v records next tick sent look s act result left event told may reads =
+    idle-too set ended (grow (Parted set.path.0 set.dest.0 s.seq (freed_by left)) v) (records ++ record_of set tick s sent result ∷ []) next NoMore (SeenBy look)
+    (rw (grow-parted set.path.0 set.dest.0 s.seq (freed_by left) v) (reads-parted set ended (v.readings set.path.0 set.dest.0) records next s (SeenBy look) (record_of set tick s sent result) refl
+    (λ r len at held early so. shows-end set ended event look s sent act result r told may (record { len = len; at = at; held = held; early = early }) so) reads))
+
+-- each effect
+each : (set : TxSet) (tick : ℕ) (event : TxEvent) (look : Option Seen) (next : ℕ) (effect : TxEffect) → MayBe set tick event look effect → ReadsBy set (amid event look next (found_by effect)) (done_by set tick (amid event look next (found_by effect)) effect)
+each set tick event look next Misses may v records ended told reads = record {
+  told = λ no. cc;
+  reads = rw (append-nil, grow-missed set.path.0 set.dest.0 next v) reads;
+}
+each set tick event look next (Joins buf len) may v records ended told reads = record {
+  told = told;
+  reads = rw (append-nil, grow-joining set.path.0 set.dest.0 next buf len v)
+      (reads-joined set ended (v.readings set.path.0 set.dest.0) records next buf len (joined_in tick next len) refl refl refl refl refl refl (idle-too set ended v records next (SeenBy look) NoMore reads));
+}
+each set tick event look next (Looks s seen) may v records ended told reads = record { told = told; reads = rw append-nil (looks set ended v records next s (SeenBy look) seen reads) }
+each set tick event look next (ReadsCells s cells) may v records ended told reads = record {
+  told = told;
+  reads = rw append-nil (reads-cells set ended v records next s (fetched cells s) look cells may.1 refl refl refl refl refl (omega (arith, length-append s.carried (bytes_of cells), length-bytes_of cells may.1)) reads);
+}
+each set tick event look next (Offers s) may v records ended told reads = record {
+  told = λ no. cc;
+  reads = on set ended v records next look s (once_offered set tick s) refl refl refl (rw may.phase (omega (arith, length-drop (next_part set s) s.carried, may.enough))) (λ start. cc) reads;
+}
+each set tick event look next (Leaves s sent number phase) may v records ended told reads = record { told = λ no. cc; reads = leaves set ended v records next tick sent number look s phase may.box may.next reads }
+each set tick event look next (Waits s phase) may v records ended told reads = record { told = λ is. absurd (told-on tick event s.phase phase may is); reads = waits set ended v records next tick look s phase event may reads }
+each set tick event look next (Ends s sent act result left) may v records ended told reads = record { told = λ no. cc; reads = ends set ended v records next tick sent look s act result left event told may reads }
+
+law : (set : TxSet) (tick : ℕ) → IsDoneLaw set tick (ReadsBy set)
+law set tick = record {
+  none = λ p v records ended told reads. record { told = told; reads = rw append-nil reads };
+  then = λ p first later one two v records ended told reads.
+  let before = one v records ended told reads in
+  let after = two (grows first.calls v) (records ++ first.records) ended before.told before.reads in
+  record { told = after.told; reads = rw (grows-append first.calls later.calls v, ← append_assoc records first.records later.records) after.reads };
+  each = each set tick;
+}
 
 -- the run's end is told
 abbrev pub ends_by : TxEvent → Bool → Bool
@@ -192,48 +224,30 @@ ends_by (CameFc fs bs st) before = before
 ends_by Left before = before
 ends_by RunEnd before = true
 
-live-row : (set : TxSet) (ended : Bool) (v : View) (records : List DestRecord) (next : ℕ) (s : Transmission) (event : TxEvent) (calls : List Event) (did : TxDid) → LiveRow set s event calls did → ReadsIn set ended v records next (Some s) NoMore →
-    ReadsAfter set (ends_by event ended) v records next calls did
-live-row set ended v records next s Turn calls did row reads = in-turn set ended v records next s s.phase calls did refl row reads
-live-row set ended v records next s (CameFc fs bs st) calls did row reads = in-answer set ended v records next s s.phase fs calls did refl row reads
-live-row set ended v records next s Left calls did row reads = frame-left set ended v records next s calls did row.0 row.1 reads
-live-row set ended v records next s RunEnd calls did row reads =
-    ends set true v records next s s.sent NoMore (revoked s.phase) (EndOfRun (wait_of s.phase) (record { 0 = s.since })) calls did (λ r len at held early so. refl) row (reads-ended set ended (v.readings set.path.0 set.dest.0) records next (Some s) NoMore reads)
-
-none-stands : (set : TxSet) (ended : Bool) (v : View) (records : List DestRecord) (next : ℕ) (m : TxTurn) → NoneStands set next m.did → ReadsIn set ended v records next None NoMore → ReadsAfter set ended v records m.did.new.next m.did.calls m.did
-none-stands set ended v records next m row reads = rw (row.calls_are, row.records, row.live, row.next_is, append-nil, grow-missed set.path.0 set.dest.0 next v) reads
-
-joins-so : (set : TxSet) (ended : Bool) (v : View) (records : List DestRecord) (next buf len : ℕ) (more : List Event) (m : TxTurn) → JoinsNext set next buf len more m.did → ReadsIn set ended v records next None NoMore →
-    ((w : View) → ReadsIn set ended w records (next + 1) (Some (joined_in m.did.tick next len)) NoMore → ReadsAfter set ended w records (next + 1) more m.did) → ReadsAfter set ended v records m.did.new.next m.did.calls m.did
-joins-so set ended v records next buf len more m row reads then =
-    let w : View = grow (Joining set.path.0 set.dest.0 next buf len) v in
-    rw (row.calls_are, row.next_is) (then w (rw (grow-joining set.path.0 set.dest.0 next buf len v)
-    (reads-joined set ended (v.readings set.path.0 set.dest.0) records next buf len (joined_in m.did.tick next len) refl refl refl refl refl refl reads)))
-
-idle-row : (set : TxSet) (ended : Bool) (v : View) (records : List DestRecord) (next : ℕ) (event : TxEvent) (m : TxTurn) → IdleRow set next event m.did → ReadsIn set ended v records next None NoMore → ReadsAfter set (ends_by event ended) v records m.did.new.next m.did.calls m.did
-idle-row set ended v records next Turn m (NothingToSend row) reads = none-stands set ended v records next m row reads
-idle-row set ended v records next Turn m (Joins buf len more row start) reads =
-    joins-so set ended v records next buf len more m row reads (λ w here. in-start set ended w records (next + 1) (joined_in m.did.tick next len) NoMore more m.did refl start here)
-idle-row set ended v records next (CameFc fs bs st) m row reads = rw (row.calls_are, row.records, row.live, row.next_is, append-nil) reads
-idle-row set ended v records next Left m row reads = absurd row
-idle-row set ended v records next RunEnd m (NothingStands row) reads = none-stands set true v records next m row (reads-ended set ended (v.readings set.path.0 set.dest.0) records next None NoMore reads)
-idle-row set ended v records next RunEnd m (FindsOne buf len more row end) reads =
-    let s : Transmission = joined_in m.did.tick next len in
-    joins-so set true v records next buf len more m row (reads-ended set ended (v.readings set.path.0 set.dest.0) records next None NoMore reads)
-    (λ w here. ends set true w records (next + 1) s s.sent NoMore Keeps (EndOfRun ForTurn (record { 0 = m.did.tick })) more m.did (λ r len at held early so. refl) end here)
-
-row-by : (set : TxSet) (ended : Bool) (v : View) (records : List DestRecord) (next : ℕ) (live : Option Transmission) (m : TxTurn) → TxRow set next live m.event m.did → ReadsIn set ended v records next live NoMore → ReadsAfter set (ends_by m.event ended) v records m.did.new.next m.did.calls m.did
-row-by set ended v records next None m row reads = idle-row set ended v records next m.event m row reads
-row-by set ended v records next (Some s) m row reads = rw row.1 (live-row set ended v records next s m.event m.did.calls m.did row.0 reads)
-
--- whether the run's end was told
 abbrev pub has_ended : List TxTurn → Bool
 has_ended [] = false
 has_ended (m ∷ earlier) = ends_by m.event (has_ended earlier)
+
+told-so : (event : TxEvent) (ended : Bool) → Some event ≡ Some RunEnd → ends_by event ended ≡ true
+told-so event ended is = let same : event ≡ RunEnd = cc in rw same refl
+
+reads-told : (set : TxSet) (event : TxEvent) (ended : Bool) (v : View) (records : List DestRecord) (next : ℕ) (live : Option Transmission) → ReadsIn set ended v records next live NoMore → ReadsIn set (ends_by event ended) v records next live NoMore
+reads-told set Turn ended v records next live reads = reads
+reads-told set (CameFc fs bs st) ended v records next live reads = reads
+reads-told set Left ended v records next live reads = reads
+reads-told set RunEnd ended v records next live reads = reads-ended set ended (v.readings set.path.0 set.dest.0) records next live NoMore reads
+
+no-more : (set : TxSet) (ended : Bool) (v : View) (records : List DestRecord) (next : ℕ) (live : Option Transmission) (P : Reading → Type 0) → ReadsIn set ended v records next live P → ReadsIn set ended v records next live NoMore
+no-more set ended v records next None P reads = idle-too set ended v records next P NoMore reads
+no-more set ended v records next (Some s) P reads = reads-like set ended (v.readings set.path.0 set.dest.0) records next s s P NoMore refl refl refl refl (λ early. early) (λ r so. tt) reads
 
 -- a whole run
 pub known-readings : (set : TxSet) (moments : List TxTurn) → HasSent set moments → ReadsIn set (has_ended moments) (grows (calls_by moments) empty_view) (records_by moments) (state_after tx_new moments).next (state_after tx_new moments).live NoMore
 known-readings set [] happened = record { number = refl; told = tt; left = λ k r is left. cc; going = tt }
 known-readings set (m ∷ earlier) happened =
-    rw (grows-append (calls_by earlier) m.did.calls empty_view)
-    (row-by set (has_ended earlier) (grows (calls_by earlier) empty_view) (records_by earlier) (state_after tx_new earlier).next (state_after tx_new earlier).live m happened.1.1 (known-readings set earlier happened.2))
+    let v : View = grows (calls_by earlier) empty_view in
+    let old = state_after tx_new earlier in
+    let ended : Bool = ends_by m.event (has_ended earlier) in
+    let is : HoldsOf (ReadsBy set) old m.event m.did = of-step set (ReadsBy set) old m.event m.did (law set m.did.tick) happened.1.1 in
+    let reads = is.holds v (records_by earlier) ended (told-so m.event (has_ended earlier)) (reads-told set m.event (has_ended earlier) v (records_by earlier) old.next old.live (known-readings set earlier happened.2)) in
+    rw (grows-append (calls_by earlier) m.did.calls empty_view) (no-more set ended (grows m.did.calls v) (records_by earlier ++ m.did.records) m.did.new.next m.did.new.live (SeenBy is.look) reads.reads)

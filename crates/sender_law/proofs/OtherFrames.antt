@@ -3,74 +3,18 @@ use Rattle.std.proofs.Common.{◌≡◌, ℕ, ◌≤◌, Bool, true, false, cond
 use Rattle.std.specs.Prelude.{filter, fold}
 use Rattle.std.specs.List.{AllByRecursion, AllZip}
 use Rattle.tp_attempts.specs.Attempts.{attempts_in}
-use Rattle.tp_attempts.specs.Cuts.{Cut, before_start, cuts}
-use Rattle.tp_attempts.specs.Seen.{Seen, is_start}
-use Rattle.tp_attempts.specs.Walk.{Piece, Walk, begun, joined, look, walk_of}
+use Rattle.tp_attempts.specs.Cuts.{Cut}
+use Rattle.tp_attempts.specs.Seen.{Seen, carries, is_data, is_start}
+use Rattle.tp_attempts.specs.Walk.{Piece, Walk, joined, walk_of}
+use Rattle.tp_attempts.proofs.Kept.{cuts-kept, kept_of, no-start, walk-kept, zip-kept, zip-mapped}
 use Rattle.tp_sender.specs.State.{Transmission}
 use Rattle.tp_unit.specs.Unit.{Meaning, SingleFrame, FirstFrame, ConsecutiveFrame, FlowControl, NoUnit}
 use Rattle.gw_base.proofs.Lists.{all-weaker}
-use Rattle.sender_law.specs.Transfer.{GoesOnWith, Paced, Sends, SendsFor, Tells, Transfer, TransferLaw, has_sent, is_consecutive, is_data}
-
--- a cut without the items that aren't kept
-abbrev pub kept_of : {T : Type 0} → (T → Bool) → Cut T → Cut T
-kept_of keep cut = record { start = cut.start; after = filter keep cut.after }
-
--- starts are kept
-abbrev pub Keeps : {T : Type 0} → (keep starts : T → Bool) → Type 0
-Keeps {T = T} keep starts = (x : T) → keep x ≡ false → starts x ≡ false
-
-before-one : {T : Type 0} (keep starts : T → Bool) (x : T) (xs : List T) (kept start : Bool) → keep x ≡ kept → starts x ≡ start → Keeps keep starts → before_start starts (filter keep xs) ≡ filter keep (before_start starts xs) →
-    before_start starts (cond kept (x ∷ filter keep xs) (filter keep xs)) ≡ filter keep (cond start [] (x ∷ before_start starts xs))
-before-one keep starts x xs true true is starts_is on later = rw starts_is refl
-before-one keep starts x xs true false is starts_is on later = rw (starts_is, is) (ap (λ l. x ∷ l) later)
-before-one keep starts x xs false true is starts_is on later = let clash : true ≡ false = sym starts_is ∙ on x is in cc
-before-one keep starts x xs false false is starts_is on later = rw is later
-
-before-kept : {T : Type 0} (keep starts : T → Bool) → Keeps keep starts → (xs : List T) → before_start starts (filter keep xs) ≡ filter keep (before_start starts xs)
-before-kept keep starts on [] = refl
-before-kept keep starts on (x ∷ xs) = before-one keep starts x xs (keep x) (starts x) refl refl on (before-kept keep starts on xs)
-
-cuts-one : {T : Type 0} (keep starts : T → Bool) (x : T) (xs : List T) (kept start : Bool) → keep x ≡ kept → starts x ≡ start → Keeps keep starts → cuts starts (filter keep xs) ≡ map (kept_of keep) (cuts starts xs) →
-    cuts starts (cond kept (x ∷ filter keep xs) (filter keep xs)) ≡ map (kept_of keep) (cond start (record { start = x; after = before_start starts xs } ∷ cuts starts xs) (cuts starts xs))
-cuts-one keep starts x xs true true is starts_is on later = rw (starts_is, before-kept keep starts on xs) (ap (λ l. record { start = x; after = filter keep (before_start starts xs) } ∷ l) later)
-cuts-one keep starts x xs true false is starts_is on later = rw starts_is later
-cuts-one keep starts x xs false true is starts_is on later = let clash : true ≡ false = sym starts_is ∙ on x is in cc
-cuts-one keep starts x xs false false is starts_is on later = later
-
--- the cuts of what is kept
-pub cuts-kept : {T : Type 0} (keep starts : T → Bool) → Keeps keep starts → (xs : List T) → cuts starts (filter keep xs) ≡ map (kept_of keep) (cuts starts xs)
-cuts-kept keep starts on [] = refl
-cuts-kept keep starts on (x ∷ xs) = cuts-one keep starts x xs (keep x) (starts x) refl refl on (cuts-kept keep starts on xs)
-
--- a frame without data is no start, and reassembly passes over it
-pub no-start : (meaning : Meaning) → is_data meaning ≡ false → is_start false meaning ≡ false
-no-start (SingleFrame bytes) is = cc
-no-start (FirstFrame len bytes) is = cc
-no-start (ConsecutiveFrame number bytes) is = refl
-no-start (FlowControl status block_size separation) is = refl
-no-start (NoUnit why) is = refl
-
-look-passed : (address : ℕ) (walk : Walk) (frame : Seen) (meaning : Meaning) → frame.meaning ≡ meaning → is_data meaning ≡ false → look address walk frame ≡ walk
-look-passed address walk frame (SingleFrame bytes) at is = cc
-look-passed address walk frame (FirstFrame len bytes) at is = cc
-look-passed address walk frame (ConsecutiveFrame number bytes) at is = cc
-look-passed address walk frame (FlowControl status block_size separation) at is = rw at refl
-look-passed address walk frame (NoUnit why) at is = rw at refl
-
-abbrev pub carries : Seen → Bool
-carries frame = is_data frame.meaning
-
-looks-one : (address : ℕ) (walk : Walk) (x : Seen) (xs : List Seen) (kept : Bool) → is_data x.meaning ≡ kept → ((w : Walk) → fold (look address) w (filter carries xs) ≡ fold (look address) w xs) →
-    fold (look address) walk (cond kept (x ∷ filter carries xs) (filter carries xs)) ≡ fold (look address) (look address walk x) xs
-looks-one address walk x xs true is later = later (look address walk x)
-looks-one address walk x xs false is later = later walk ∙ ap (λ (w : Walk). fold (look address) w xs) (sym (look-passed address walk x x.meaning refl is))
-
-looks-kept : (address : ℕ) (walk : Walk) (frames : List Seen) → fold (look address) walk (filter carries frames) ≡ fold (look address) walk frames
-looks-kept address walk [] = refl
-looks-kept address walk (x ∷ xs) = looks-one address walk x xs (is_data x.meaning) refl (λ w. looks-kept address w xs)
-
-pub walk-kept : (address : ℕ) (cut : Cut Seen) → walk_of address (kept_of carries cut) ≡ walk_of address cut
-walk-kept address cut = looks-kept address (begun cut.start) cut.after
+use Rattle.tp_unit.specs.Box.{Written}
+use Rattle.tp_unit.specs.Shape.{address_size}
+use Rattle.sender_law.specs.Channel.{DestChannel}
+use Rattle.sender_law.specs.TransmissionCauses.{IsCaused, IsCausedWith, TransmissionCauses, left_in}
+use Rattle.sender_law.specs.Transfer.{seen_of, GoesOnWith, Paced, Sends, SendsFor, Tells, Transfer, TransferLaw, has_sent, is_consecutive}
 
 -- consecutive frames are data
 filter-one : (x : Seen) (xs : List Seen) (meaning : Meaning) → x.meaning ≡ meaning → filter (λ (s : Seen). is_consecutive s.meaning) (filter carries xs) ≡ filter (λ (s : Seen). is_consecutive s.meaning) xs →
@@ -121,12 +65,6 @@ map-split f (x ∷ xs) (y ∷ front) back is =
     let one : f x ≡ y = cc in
     record { first = x ∷ so.first; rest = so.rest; is = ap (λ l. x ∷ l) so.is; front_is = ap (λ l. f x ∷ l) so.front_is ∙ ap (λ z. z ∷ front) one; back_is = so.back_is }
 
-pub zip-mapped : {A B C : Type 0} (f : A → B) (P : B → C → Type 0) (Q : A → C → Type 0) (xs : List A) (ys : List C) → ((x : A) (y : C) → P (f x) y → Q x y) → AllZip P (map f xs) ys → AllZip Q xs ys
-zip-mapped f P Q [] [] on all = tt
-zip-mapped f P Q [] (y ∷ ys) on all = absurd all
-zip-mapped f P Q (x ∷ xs) [] on all = absurd all
-zip-mapped f P Q (x ∷ xs) (y ∷ ys) on all = (on x y all.0, zip-mapped f P Q xs ys on all.1)
-
 goes-kept : (t : Transfer) (out : List Seen) (now : ℕ) (live : Option Transmission) (going : List (Cut Seen)) → GoesOnWith t now live (map (kept_of carries) going) → GoesOnWith (with_frames t out) now live going
 goes-kept t out now None [] goes = refl
 goes-kept t out now None (cut ∷ more) goes = cc
@@ -151,3 +89,14 @@ others-pass t out law is =
       sends = zip-mapped (kept_of carries) (SendsFor t) (SendsFor (with_frames t out)) split.first (filter has_sent t.records) (λ one told sends. sends-kept t out told.seq told.sent told.begin.0 told.end.0 one sends) (subst E (sym split.front_is) law.sends);
       goes_on = goes-kept t out t.now t.live split.rest (subst G (sym split.back_is) law.goes_on);
     }
+
+-- the causes, with other frames between
+consecutive-left : (address : ℕ) (cut : Cut Seen) → left_in address (kept_of carries cut) ≡ left_in address cut
+consecutive-left address cut = ap (λ (w : Walk). map (λ (piece : Piece). piece.at) w.pieces) (walk-kept address cut)
+
+pub others-caused : (c : DestChannel) (out : List Written) → TransmissionCauses c → filter carries (map (seen_of (address_size c.tx.shape)) out) ≡ map (seen_of (address_size c.tx.shape)) c.frames → TransmissionCauses (record c { frames = out })
+others-caused c out causes is = record {
+  sent = zip-kept (IsCausedWith c) (IsCausedWith (record c { frames = out })) (map (seen_of (address_size c.tx.shape)) out) (map (seen_of (address_size c.tx.shape)) c.frames) (filter has_sent c.dests)
+      (λ cut told caused. subst (λ (ticks : List ℕ). IsCaused c.tx c.answers c.last ticks told) (consecutive-left (address_size c.tx.shape) cut) caused) is causes.sent;
+  unsent = causes.unsent;
+}

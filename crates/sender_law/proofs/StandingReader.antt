@@ -1,26 +1,22 @@
 -- What a sender's steps leave standing of its destination's readings.
 use Rattle.std.proofs.Common.{◌≡◌, ℕ, ◌+◌, Option, Some, None, option_map, List, [], ◌∷◌, ◌++◌, refl, ap, sym, ◌∙◌, subst, append-nil}
-use Rattle.tp_sender.specs.declared.transmission.Phase.{Phase}
-use Rattle.tp_sender.specs.declared.transmission.Phase.TheVariants.{Start, Bytes, Box, Fc, Gap}
 use Rattle.tp_sender.specs.Runs.{HasSent}
-use Rattle.tp_sender.specs.State.{TxTurn, tx_new, Transmission, TxDid}
+use Rattle.tp_sender.specs.State.{TxTurn, tx_new, Transmission}
 use Rattle.hub_core.specs.Turns.{calls_by, state_after}
 use Rattle.hub_core.specs.Calls.{freed_by}
 use Rattle.std.specs.Prelude.{false, map}
 use Rattle.std.specs.List.{AllByRecursion}
 use Rattle.hub_core.specs.View.{View, Event, Reading, at_two, change_at, reading_new, grow, grows, Joining, Missed, Read, Parted}
 use Rattle.hub_core.specs.declared.port.Seen.{Seen}
-use Rattle.hub_core.specs.declared.record.DestResult.{DestResult}
-use Rattle.hub_core.specs.declared.record.DestResult.TheVariants.{Sent, SourceEnded, BsTimeout, FcOverflow, InvalidFs, CsTimeout, AsTimeout, RunEnd as EndOfRun}
 use Rattle.hub_core.specs.declared.port.Left.{Left as LeftOver}
 use Rattle.hub_core.specs.declared.port.Left.TheVariants.{Others, Last}
-use Rattle.hub_core.specs.declared.record.TxWait.TheVariants.{Turn as ForTurn}
 use Rattle.tp_sender.specs.declared.event.TxEvent.{TxEvent}
-use Rattle.tp_sender.specs.declared.event.TxEvent.TheVariants.{Turn, Fc as CameFc, Left, RunEnd}
 use Rattle.tp_sender.specs.declared.set.TxSet.{TxSet}
-use Rattle.tp_sender.specs.Table.{Ends, FrameLeft, GoesOn, IdleRow, InAnswer, InBytes, InStart, InTurn, InWait, JoinsNext, Lacks, LiveRow, NoneStands, TxRow, all_sent, fetched, in_phase, joined_in, look_at, revoked, wait_of}
-use Rattle.tp_sender.specs.Table.{AsksToWait, Continues, Due, Enough, FindsOne, FirstLeft, GapLasts, GapOver, IsInvalid, Joins, LastLeft, MayCome, NeverReached, NextLeft, NotDue, NotReached, NothingStands, NothingToSend, Overflows, Reached, Short, TooLate, WriterGone}
-use Rattle.tp_unit.specs.Unit.{BoxMeaning, Keeps}
+use Rattle.tp_sender.specs.Effects.{MayBe, TxStage, TxDone, TxEffect, done_by, done_then, found_by}
+use Rattle.tp_sender.specs.Effects.{Misses, Joins, Looks, Reads, Offers, Leaves, Waits, Ends}
+use Rattle.tp_sender.specs.Table.{look_at}
+use Rattle.tp_sender.proofs.Effects.{HoldsOf, IsDoneLaw, of-step}
+use Rattle.tp_sender.proofs.Made.{amid}
 use Rattle.hub_core.proofs.Standing.{Frees, Stands, WasRead, read-changed, read-joined, read-left, stands-read}
 use Rattle.hub_core.proofs.Growing.{at_two-same, grows-append}
 
@@ -32,12 +28,12 @@ session_of live = option_map (λ (s : Transmission). s.seq) live
 abbrev pub Steps : TxSet → ℕ → Option ℕ → List Event → ℕ → Option ℕ → Type 0
 Steps set m going calls k after = (dests n : ℕ) (writes : Option ℕ) (v : View) → Stands set.path.0 set.dest.0 dests n writes m going v → Stands set.path.0 set.dest.0 dests n writes k after (grows calls v)
 
--- the same of a session that is sent
-abbrev pub DidSteps : TxSet → ℕ → ℕ → List Event → TxDid → Type 0
-DidSteps set m seq calls did = Steps set m (Some seq) calls m (session_of did.new.live)
+-- what calls lead to
+abbrev StepsOf : TxSet → TxStage → TxDone → Type 0
+StepsOf set p d = Steps set p.next (session_of p.live) d.calls d.new.next (session_of d.new.live)
 
-silent : (set : TxSet) (m : ℕ) (going : Option ℕ) (calls : List Event) → calls ≡ [] → Steps set m going calls m going
-silent set m going calls is = rw is (λ dests n writes v so. so)
+silent : (set : TxSet) (m : ℕ) (going : Option ℕ) → Steps set m going [] m going
+silent set m going dests n writes v so = so
 
 parts : (set : TxSet) (a b c : ℕ) (x y z : Option ℕ) (calls before rest : List Event) → calls ≡ before ++ rest → Steps set a x before b y → Steps set b y rest c z → Steps set a x calls c z
 parts set a b c x y z calls before rest is first second dests n writes v so =
@@ -87,89 +83,28 @@ parted set m seq left dests n writes v so =
     stands-read set.path.0 set.dest.0 dests n m m writes (Some seq) None v (grow (Parted set.path.0 set.dest.0 seq (freed_by left)) v) (freed_by left) later refl refl (frees left) (at_two-same set.path.0 set.dest.0 later v.readings)
     (read-left m seq known so.read) so
 
--- after a look, and after cells were read
-then-saw : (set : TxSet) (m k : ℕ) (going after : Option ℕ) (s : Transmission) (look : Seen) (calls more : List Event) → calls ≡ look_at set s look ∷ more → Steps set m going more k after → Steps set m going calls k after
-then-saw set m k going after s look calls more is later = parts set m m k going going after calls (look_at set s look ∷ []) more is (saw set m going s look) later
+reads : (set : TxSet) (m seq : ℕ) (going : Option ℕ) (cells : List ℕ) → Steps set m going (map (Read set.path.0 set.dest.0 seq) cells) m going
+reads set m seq going [] = silent set m going
+reads set m seq going (cell ∷ cells) =
+    parts set m m m going going going (map (Read set.path.0 set.dest.0 seq) (cell ∷ cells)) (Read set.path.0 set.dest.0 seq cell ∷ []) (map (Read set.path.0 set.dest.0 seq) cells) refl (read set m seq cell going) (reads set m seq going cells)
 
-then-read : (set : TxSet) (m k seq : ℕ) (going after : Option ℕ) (cells : List ℕ) (more : List Event) → Steps set m going more k after → Steps set m going (map (Read set.path.0 set.dest.0 seq) cells ++ more) k after
-then-read set m k seq going after [] more later = later
-then-read set m k seq going after (cell ∷ cells) more later =
-    parts set m m k going going after (map (Read set.path.0 set.dest.0 seq) (cell ∷ cells) ++ more) (Read set.path.0 set.dest.0 seq cell ∷ []) (map (Read set.path.0 set.dest.0 seq) cells ++ more) refl (read set m seq cell going) (then-read set m k seq going after cells more later)
+-- each effect
+each : (set : TxSet) (tick : ℕ) (event : TxEvent) (look : Option Seen) (next : ℕ) (effect : TxEffect) → MayBe set tick event look effect → StepsOf set (amid event look next (found_by effect)) (done_by set tick (amid event look next (found_by effect)) effect)
+each set tick event look next Misses may = missed set next next None
+each set tick event look next (Joins buf len) may = joining set next next buf len
+each set tick event look next (Looks s seen) may = saw set next (Some s.seq) s seen
+each set tick event look next (Reads s cells) may = reads set next s.seq (Some s.seq) cells
+each set tick event look next (Offers s) may = silent set next (Some s.seq)
+each set tick event look next (Leaves s sent number phase) may = silent set next (Some s.seq)
+each set tick event look next (Waits s phase) may = silent set next (Some s.seq)
+each set tick event look next (Ends s sent act result left) may = parted set next s.seq left
 
--- the rows
-ends : (set : TxSet) (m : ℕ) (s : Transmission) (act : BoxMeaning) (result : DestResult) (calls : List Event) (did : TxDid) → Ends set s act result calls did → DidSteps set m s.seq calls did
-ends set m s act result calls did row = rw (row.calls_are, row.live) (parted set m s.seq row.left)
-
-on : (set : TxSet) (m : ℕ) (s : Transmission) (calls : List Event) (did : TxDid) → GoesOn s calls did → DidSteps set m s.seq calls did
-on set m s calls did row = rw (row.calls_are, row.live) (silent set m (Some s.seq) [] refl)
-
-lacks : (set : TxSet) (m : ℕ) (s : Transmission) (look : Seen) (calls : List Event) (did : TxDid) → Lacks set s look calls did → DidSteps set m s.seq calls did
-lacks set m s look calls did (WriterGone gone row) = ends set m s Keeps SourceEnded calls did row
-lacks set m s look calls did (TooLate there late row) = ends set m s Keeps (CsTimeout look.bytes) calls did row
-lacks set m s look calls did (MayCome there early row) = on set m s calls did row
-
-in-bytes : (set : TxSet) (m : ℕ) (s : Transmission) (calls : List Event) (did : TxDid) → InBytes set s calls did → DidSteps set m s.seq calls did
-in-bytes set m s calls did (Enough look cells fetches row) =
-    then-saw set m m (Some s.seq) (session_of did.new.live) s look calls _ fetches.calls_are (then-read set m m s.seq (Some s.seq) (session_of did.new.live) cells [] (rw row.live (silent set m (Some s.seq) [] refl)))
-in-bytes set m s calls did (Short look cells more fetches short row) =
-    then-saw set m m (Some s.seq) (session_of did.new.live) s look calls _ fetches.calls_are (then-read set m m s.seq (Some s.seq) (session_of did.new.live) cells more (lacks set m (fetched cells s) look more did row))
-
-in-start : (set : TxSet) (m : ℕ) (s : Transmission) (calls : List Event) (did : TxDid) → InStart set s calls did → DidSteps set m s.seq calls did
-in-start set m s calls did (Reached look more are reached row) = then-saw set m m (Some s.seq) (session_of did.new.live) s look calls more are (in-bytes set m (in_phase Bytes did.tick s) more did row)
-in-start set m s calls did (NeverReached look more are reached gone row) = then-saw set m m (Some s.seq) (session_of did.new.live) s look calls more are (ends set m s Keeps SourceEnded more did row)
-in-start set m s calls did (NotReached look more are reached stands row) = then-saw set m m (Some s.seq) (session_of did.new.live) s look calls more are (on set m s more did row)
-
-in-wait : (set : TxSet) (m : ℕ) (s : Transmission) (limit : ℕ) (result : DestResult) (calls : List Event) (did : TxDid) → InWait set s limit result calls did → DidSteps set m s.seq calls did
-in-wait set m s limit result calls did (Due late row) = ends set m s (revoked s.phase) result calls did row
-in-wait set m s limit result calls did (NotDue early row) = on set m s calls did row
-
-in-turn : (set : TxSet) (m : ℕ) (s : Transmission) (phase : Phase) (calls : List Event) (did : TxDid) → InTurn set s phase calls did → DidSteps set m s.seq calls did
-in-turn set m s Start calls did row = in-start set m s calls did row
-in-turn set m s Bytes calls did row = in-bytes set m s calls did row
-in-turn set m s Box calls did row = in-wait set m s set.n_as AsTimeout calls did row
-in-turn set m s Fc calls did row = in-wait set m s set.n_bs BsTimeout calls did row
-in-turn set m s (Gap until) calls did (GapOver over row) = in-bytes set m (in_phase Bytes did.tick s) calls did row
-in-turn set m s (Gap until) calls did (GapLasts early row) = on set m s calls did row
-
-in-answer : (set : TxSet) (m : ℕ) (s : Transmission) (phase : Phase) (fs : ℕ) (calls : List Event) (did : TxDid) → InAnswer set s phase fs calls did → DidSteps set m s.seq calls did
-in-answer set m s Start fs calls did row = on set m s calls did row
-in-answer set m s Bytes fs calls did row = on set m s calls did row
-in-answer set m s Box fs calls did row = on set m s calls did row
-in-answer set m s Fc fs calls did (Continues zero row) = on set m (in_phase Bytes did.tick s) calls did row
-in-answer set m s Fc fs calls did (AsksToWait one row) = on set m (in_phase Fc did.tick s) calls did row
-in-answer set m s Fc fs calls did (Overflows two row) = ends set m s Keeps FcOverflow calls did row
-in-answer set m s Fc fs calls did (IsInvalid more row) = ends set m s Keeps (InvalidFs fs) calls did row
-in-answer set m s (Gap until) fs calls did row = on set m s calls did row
-
-frame-left : (set : TxSet) (m : ℕ) (s : Transmission) (calls : List Event) (did : TxDid) → FrameLeft set s calls did → DidSteps set m s.seq calls did
-frame-left set m s calls did (LastLeft whole row) = ends set m (all_sent s) Keeps Sent calls did row
-frame-left set m s calls did (FirstLeft zero more row) = rw (row.calls_are, row.live) (silent set m (Some s.seq) [] refl)
-frame-left set m s calls did (NextLeft some more row) = rw (row.calls_are, row.live) (silent set m (Some s.seq) [] refl)
-
-live-row : (set : TxSet) (m : ℕ) (s : Transmission) (event : TxEvent) (calls : List Event) (did : TxDid) → LiveRow set s event calls did → DidSteps set m s.seq calls did
-live-row set m s Turn calls did row = in-turn set m s s.phase calls did row
-live-row set m s (CameFc fs bs st) calls did row = in-answer set m s s.phase fs calls did row
-live-row set m s Left calls did row = frame-left set m s calls did row.1
-live-row set m s RunEnd calls did row = ends set m s (revoked s.phase) (EndOfRun (wait_of s.phase) (record { 0 = s.since })) calls did row
-
-none-stands : (set : TxSet) (next : ℕ) (m : TxTurn) → NoneStands set next m.did → Steps set next None m.did.calls m.did.new.next (session_of m.did.new.live)
-none-stands set next m row = rw (row.calls_are, row.live, row.next_is) (missed set next next None)
-
-joins : (set : TxSet) (next buf len : ℕ) (more : List Event) (m : TxTurn) → JoinsNext set next buf len more m.did → DidSteps set (next + 1) next more m.did → Steps set next None m.did.calls m.did.new.next (session_of m.did.new.live)
-joins set next buf len more m row later =
-    rw row.next_is (parts set next (next + 1) (next + 1) None (Some next) (session_of m.did.new.live) m.did.calls (Joining set.path.0 set.dest.0 next buf len ∷ []) more row.calls_are (joining set next next buf len) later)
-
-idle-row : (set : TxSet) (next : ℕ) (event : TxEvent) (m : TxTurn) → IdleRow set next event m.did → Steps set next None m.did.calls m.did.new.next (session_of m.did.new.live)
-idle-row set next Turn m (NothingToSend row) = none-stands set next m row
-idle-row set next Turn m (Joins buf len more row start) = joins set next buf len more m row (in-start set (next + 1) (joined_in m.did.tick next len) more m.did start)
-idle-row set next (CameFc fs bs st) m row = rw (row.calls_are, row.live, row.next_is) (silent set next None [] refl)
-idle-row set next Left m row = absurd row
-idle-row set next RunEnd m (NothingStands row) = none-stands set next m row
-idle-row set next RunEnd m (FindsOne buf len more row end) = joins set next buf len more m row (ends set (next + 1) (joined_in m.did.tick next len) Keeps (EndOfRun ForTurn (record { 0 = m.did.tick })) more m.did end)
-
-row-by : (set : TxSet) (next : ℕ) (live : Option Transmission) (m : TxTurn) → TxRow set next live m.event m.did → Steps set next (session_of live) m.did.calls m.did.new.next (session_of m.did.new.live)
-row-by set next None m row = idle-row set next m.event m row
-row-by set next (Some s) m row = rw row.1 (live-row set next s m.event m.did.calls m.did row.0)
+law : (set : TxSet) (tick : ℕ) → IsDoneLaw set tick (StepsOf set)
+law set tick = record {
+  none = λ p. silent set p.next (session_of p.live);
+  then = λ p first later one two. parts set p.next first.new.next later.new.next (session_of p.live) (session_of first.new.live) (session_of later.new.live) (first.calls ++ later.calls) first.calls later.calls refl one two;
+  each = each set tick;
+}
 
 -- the moments after earlier ones
 pub moments-step : (set : TxSet) (moments earlier : List TxTurn) → HasSent set (moments ++ earlier) →
@@ -178,4 +113,4 @@ moments-step set [] earlier happened = λ dests n writes v so. so
 moments-step set (m ∷ moments) earlier happened =
     let next : ℕ = (state_after tx_new (moments ++ earlier)).next in
     let live : Option Transmission = (state_after tx_new (moments ++ earlier)).live in
-    parts set (state_after tx_new earlier).next next m.did.new.next (session_of (state_after tx_new earlier).live) (session_of live) (session_of m.did.new.live) (calls_by moments ++ m.did.calls) (calls_by moments) m.did.calls refl (moments-step set moments earlier happened.2) (row-by set next live m happened.1.1)
+    parts set (state_after tx_new earlier).next next m.did.new.next (session_of (state_after tx_new earlier).live) (session_of live) (session_of m.did.new.live) (calls_by moments ++ m.did.calls) (calls_by moments) m.did.calls refl (moments-step set moments earlier happened.2) (of-step set (StepsOf set) (state_after tx_new (moments ++ earlier)) m.event m.did (law set m.did.tick) happened.1.1).holds

@@ -18,7 +18,7 @@ use Rattle.sender_law.specs.TransmissionCauses.{AwaitsSince, IsAllowed, IsInTime
 use Rattle.gw_base.proofs.Lists.{all-push, all-weaker}
 use Rattle.sender_law.proofs.TxCausesLists.{Splits, answer-above, answer-late, answers-so-far, last_of-next, latest-same, left-all, left-next, none-after}
 use Rattle.sender_law.proofs.TxCausesSteps.{AllowedFrom, Comes, Continued, Counted, InGapNow, Opens, OpensIn, Stands, Turned, TurnedIn, Waits, Goes, ends, none-by}
-use Rattle.sender_law.proofs.TxLaw.{part-some}
+use Rattle.sender_law.proofs.TxSteps.{part-some}
 
 -- the two say of one first frame whether it is answered
 both-say : (all so_far : List Answer) (now first : ℕ) (ticks : List ℕ) (waited : ℕ) (a : Answer) → Splits all so_far now (now + 1) → ticks ≡ first ∷ [] → answer_after first all ≡ Some a → a.tick ≤ now → AwaitsSince so_far ticks waited → ⊥

@@ -12,7 +12,6 @@ use Rattle.tp_sender.specs.declared.set.TxSet.{TxSet}
 use Rattle.tp_sender.specs.Table.{IdleRow, IdleTurn, Joins, LiveRow, NothingToSend, TxRow, joined_in}
 use Rattle.tp_unit.specs.Shape.{IsShape}
 use Rattle.tp_unit.specs.Unit.{Meaning}
-use Rattle.sender_law.specs.Parts.{FrameLeaves}
 use Rattle.sender_law.proofs.TxLaw.{so-far, world_of}
 use Rattle.sender_law.proofs.TxLeft.{in-box}
 use Rattle.sender_law.proofs.TxMoves.{lives-some}
@@ -147,18 +146,18 @@ left-step tx all so_far last m earlier at sound some happened splits holds =
     left-by tx all so_far last m earlier (state_after tx_new earlier).live at sound some happened.2 splits holds.told holds.cuts refl holds.live happened.1.1
 
 -- nothing lies in the box
-stays-by : (tx : TxSet) (all so_far : List Answer) (tick : ℕ) (moments : List TxTurn) (live : Option Transmission) → IsShape tx.shape → HasSent tx moments → Splits all so_far tick (tick + 1) → FrameLeaves tick (box_after moments) [] →
+stays-by : (tx : TxSet) (all so_far : List Answer) (tick : ℕ) (moments : List TxTurn) (live : Option Transmission) → IsShape tx.shape → HasSent tx moments → Splits all so_far tick (tick + 1) → box_after moments ≡ None →
     (state_after tx_new moments).live ≡ live → Lives (Turned tx all so_far tick) (live_ticks moments) live → Lives (Opens tx all so_far (tick + 1)) (live_ticks moments) live
-stays-by tx all so_far tick moments None sound happened splits leaves is lives = lives
-stays-by tx all so_far tick moments (Some s) sound happened splits leaves is lives =
+stays-by tx all so_far tick moments None sound happened splits none is lives = lives
+stays-by tx all so_far tick moments (Some s) sound happened splits none is lives =
     stays tx all so_far tick (live_ticks moments) s splits
     (λ phase.
     let so : SoFar tx.shape (world_of tx moments) = so-far tx moments sound happened in
     let on : GoesOn tx.shape (world_of tx moments) s so.going = lives-some tx.shape (world_of tx moments) (state_after tx_new moments).live s so.going is so.lives in
     let boxed : IsBoxed tx.shape s.len s.sent s.number (box_after moments) on.offered = in-box tx.shape s.len s.sent s.number s.phase (box_after moments) on.offered phase on.box in
-    let F : Option Meaning → Type 0 = λ b. FrameLeaves tick b [] in
-    subst F boxed.lies leaves) lives
+    let no : None ≡ Some _ = sym none ∙ boxed.lies in
+    cc) lives
 
-pub stays-step : (tx : TxSet) (all so_far : List Answer) (last tick : ℕ) (moments : List TxTurn) → IsShape tx.shape → HasSent tx moments → Splits all so_far tick (tick + 1) → FrameLeaves tick (box_after moments) [] →
+pub stays-step : (tx : TxSet) (all so_far : List Answer) (last tick : ℕ) (moments : List TxTurn) → IsShape tx.shape → HasSent tx moments → Splits all so_far tick (tick + 1) → box_after moments ≡ None →
     Holds tx all last (Turned tx all so_far tick) moments → Holds tx all last (Opens tx all so_far (tick + 1)) moments
-stays-step tx all so_far last tick moments sound happened splits leaves holds = record { told = holds.told; cuts = holds.cuts; live = stays-by tx all so_far tick moments (state_after tx_new moments).live sound happened splits leaves refl holds.live }
+stays-step tx all so_far last tick moments sound happened splits none holds = record { told = holds.told; cuts = holds.cuts; live = stays-by tx all so_far tick moments (state_after tx_new moments).live sound happened splits none refl holds.live }

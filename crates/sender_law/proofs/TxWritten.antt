@@ -19,7 +19,8 @@ use Rattle.tp_sender.specs.declared.event.TxEvent.{TxEvent}
 use Rattle.tp_sender.specs.declared.event.TxEvent.TheVariants.{Turn, Fc as CameFc, Left, RunEnd}
 use Rattle.tp_sender.specs.declared.set.TxSet.{TxSet}
 use Rattle.tp_sender.specs.Frame.{part_after, start_with, unit_after}
-use Rattle.tp_sender.specs.Table.{IdleRow, LiveRow, TxRow}
+use Rattle.tp_sender.specs.Table.{TxStep}
+use Rattle.tp_sender.proofs.Own.{HasBoxed, has-boxed}
 use Rattle.tp_unit.specs.declared.shape.Shape.{Shape}
 use Rattle.tp_unit.specs.Shape.{IsShape, address_size, fits_shape, part_of_start}
 use Rattle.tp_unit.specs.Unit.{Meaning, ConsecutiveFrame}
@@ -94,23 +95,21 @@ written-left shape frames tick lies box so =
       counted = map-append (λ (w : Written). w.tick) frames (x ∷ []) ∙ ap (λ l. l ++ tick ∷ []) so.counted ∙ sym box.ticks ∙ ap all_ticks (sym (map-append (seen_of (address_size shape)) frames (x ∷ [])));
     })
 
-lies-by : (set : TxSet) (earlier : List TxTurn) (live : Option Transmission) (m : TxTurn) → IsShape set.shape → HasSent set earlier → (state_after tx_new earlier).live ≡ live → m.event ≡ Left → TxRow set (state_after tx_new earlier).next live m.event m.did → Lies set.shape (left_by set.shape earlier) m.did.tick (box_after earlier)
-lies-by set earlier None m sound happened is at row =
-    let P : TxEvent → Type 0 = λ e. IdleRow set (state_after tx_new earlier).next e m.did in
-    absurd (subst P at row)
-lies-by set earlier (Some s) m sound happened is at row =
-    let P : TxEvent → Type 0 = λ e. LiveRow set s e m.did.calls m.did in
+lies-by : (set : TxSet) (earlier : List TxTurn) (m : TxTurn) → IsShape set.shape → HasSent set earlier → m.event ≡ Left → TxStep set (state_after tx_new earlier) m.event m.did → Lies set.shape (left_by set.shape earlier) m.did.tick (box_after earlier)
+lies-by set earlier m sound happened at row =
+    let has : HasBoxed (state_after tx_new earlier).live = has-boxed set (state_after tx_new earlier) m.event m.did at row in
+    let s : Transmission = has.s in
     let w : World = world_of set earlier in
     let so : SoFar set.shape w = so-far set earlier sound happened in
-    let on : GoesOn set.shape w s so.going = lives-some set.shape w (state_after tx_new earlier).live s so.going is so.lives in
-    let boxed : IsBoxed set.shape s.len s.sent s.number (box_after earlier) on.offered = in-box set.shape s.len s.sent s.number s.phase (box_after earlier) on.offered (subst P at row.0).0 on.box in
+    let on : GoesOn set.shape w s so.going = lives-some set.shape w (state_after tx_new earlier).live s so.going has.is so.lives in
+    let boxed : IsBoxed set.shape s.len s.sent s.number (box_after earlier) on.offered = in-box set.shape s.len s.sent s.number s.phase (box_after earlier) on.offered has.box on.box in
     record { unit = unit_after set.shape s.len s.sent s.number on.offered; is = boxed.lies; fits = boxed.fits; ticks = ticks-left set.shape w s m.did.tick sound so on boxed on.way }
 
-written-step : (set : TxSet) (earlier : List TxTurn) (m : TxTurn) (event : TxEvent) → IsShape set.shape → HasSent set earlier → m.event ≡ event → TxRow set (state_after tx_new earlier).next (state_after tx_new earlier).live m.event m.did → AreWritten set.shape (left_by set.shape earlier) →
+written-step : (set : TxSet) (earlier : List TxTurn) (m : TxTurn) (event : TxEvent) → IsShape set.shape → HasSent set earlier → m.event ≡ event → TxStep set (state_after tx_new earlier) m.event m.did → AreWritten set.shape (left_by set.shape earlier) →
     AreWritten set.shape (left_by set.shape earlier ++ written_at set.shape event m.did.tick (box_after earlier))
 written-step set earlier m Turn sound happened at row so = written-same set.shape (left_by set.shape earlier) [] refl so
 written-step set earlier m (CameFc fs bs st) sound happened at row so = written-same set.shape (left_by set.shape earlier) [] refl so
-written-step set earlier m Left sound happened at row so = written-left set.shape (left_by set.shape earlier) m.did.tick (box_after earlier) (lies-by set earlier (state_after tx_new earlier).live m sound happened refl at row) so
+written-step set earlier m Left sound happened at row so = written-left set.shape (left_by set.shape earlier) m.did.tick (box_after earlier) (lies-by set earlier m sound happened at row) so
 written-step set earlier m RunEnd sound happened at row so = written-same set.shape (left_by set.shape earlier) [] refl so
 
 -- where no other frames of the channel left

@@ -61,14 +61,6 @@ is_consecutive (ConsecutiveFrame number bytes) = true
 is_consecutive (FlowControl status block_size separation) = false
 is_consecutive (NoUnit why) = false
 
--- a frame that carries data: a start or a consecutive frame
-abbrev pub is_data : Meaning → Bool
-is_data (SingleFrame bytes) = true
-is_data (FirstFrame len bytes) = true
-is_data (ConsecutiveFrame number bytes) = true
-is_data (FlowControl status block_size separation) = false
-is_data (NoUnit why) = false
-
 -- the ticks of a transmission's frames: its start, and the consecutive frames up to the next start
 abbrev pub ticks_of : Cut Seen → List ℕ
 ticks_of cut = cut.start.at ∷ map (λ seen. seen.at) (filter (λ seen. is_consecutive seen.meaning) cut.after)

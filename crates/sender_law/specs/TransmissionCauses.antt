@@ -1,6 +1,6 @@
 -- Why each session of a destination ended, as far as its own frames and flow controls tell it (ISO 15765-2, network layer timing).
 use Rattle.std.specs.Prelude.{◌≡◌, ℕ, ◌+◌, ◌<◌, ◌≤◌, false, nat_le, max, Some, None, List, [], ◌∷◌, length, fold, filter, map}
-use Rattle.tp_unit.specs.Box.{Answer}
+use Rattle.tp_unit.specs.Box.{Answer, Written}
 use Rattle.std.specs.List.{AllByRecursion, AllZip}
 use Rattle.hub_core.specs.declared.record.DestRecord.{DestRecord}
 use Rattle.hub_core.specs.declared.record.DestResult.{DestResult}
@@ -9,7 +9,7 @@ use Rattle.hub_core.specs.declared.record.TxWait.{TxWait}
 use Rattle.hub_core.specs.declared.record.TxWait.TheVariants.{Start, Turn, Fc, Gap, Bytes, Bus}
 use Rattle.tp_attempts.specs.Attempts.{attempts_in}
 use Rattle.tp_attempts.specs.Cuts.{Cut}
-use Rattle.tp_attempts.specs.Seen.{Seen}
+use Rattle.tp_attempts.specs.Seen.{Seen, carries}
 use Rattle.tp_attempts.specs.Walk.{walk_of}
 use Rattle.tp_sender.specs.declared.set.TxSet.{TxSet}
 use Rattle.tp_unit.specs.Shape.{address_size}
@@ -126,3 +126,7 @@ IsCausedUnsent r told = told.sent ≡ 0 → IsCaused r.tx r.answers r.last [] to
 pub record TransmissionCauses (r : DestChannel) : Type 0 where
   pub sent : AllZip (IsCausedWith r) (attempts_in false (map (seen_of (address_size r.tx.shape)) r.frames)) (filter has_sent r.dests)
   pub unsent : AllByRecursion (IsCausedUnsent r) r.dests
+
+-- these are all frames of the channel: those that carry data are the destination's own
+abbrev pub HasDataOf : DestChannel → List Written → Type 0
+HasDataOf c out = filter carries (map (seen_of (address_size c.tx.shape)) out) ≡ map (seen_of (address_size c.tx.shape)) c.frames

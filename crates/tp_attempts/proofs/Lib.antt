@@ -3,3 +3,4 @@ pub mod Walks
 pub mod Growth
 pub mod Segments
 pub mod Prefixes
+pub mod Kept

@@ -42,3 +42,14 @@ bytes_of (FirstFrame len bytes) = bytes
 bytes_of (ConsecutiveFrame number bytes) = []
 bytes_of (FlowControl status block_size separation) = []
 bytes_of (NoUnit why) = []
+
+-- a frame that carries data: a start or a consecutive frame
+abbrev pub is_data : Meaning → Bool
+is_data (SingleFrame bytes) = true
+is_data (FirstFrame len bytes) = true
+is_data (ConsecutiveFrame number bytes) = true
+is_data (FlowControl status block_size separation) = false
+is_data (NoUnit why) = false
+
+abbrev pub carries : Seen → Bool
+carries seen = is_data seen.meaning

@@ -1,6 +1,9 @@
+pub mod Own
+pub mod Effects
+pub mod Made
 mod Leaving
 mod Calls
 mod Reading
 mod Turns
 mod Idle
-mod Settles
+pub mod Settles

@@ -1,4 +1,6 @@
+pub mod Effects
 pub mod Frame
+pub mod Own
 pub mod Port
 pub mod Runs
 pub mod State

@@ -1,5 +1,5 @@
 -- A box that a channel's frame lies in until it leaves, the frames that left, and the flow controls that came.
-use Rattle.std.specs.Prelude.{◌≡◌, ℕ, ◌≤◌, ◌==◌, Option, Some, None, List, [], ◌∷◌, filter, length}
+use Rattle.std.specs.Prelude.{◌≡◌, ℕ, ◌≤◌, ◌==◌, Bool, true, false, Option, Some, None, List, [], ◌∷◌, filter, length}
 use Rattle.can_frame.specs.Frame.{CanFrame}
 use Rattle.tp_unit.specs.Unit.{Meaning, SingleFrame, FirstFrame, ConsecutiveFrame, FlowControl, NoUnit, BoxMeaning, Keeps, Offers, Revokes}
 use Rattle.tp_unit.specs.Writing.{frame_of}
@@ -27,6 +27,16 @@ box_then Revokes lies = None
 abbrev pub written_of : Shape → ℕ → Option Meaning → List Written
 written_of shape tick None = []
 written_of shape tick (Some meaning) = record { tick = tick; frame = frame_of shape meaning } ∷ []
+
+-- what lies in a box leaves in that tick, by a turn that says so, or its bus is full for it; where nothing lies nothing leaves
+pub data Leaves {T : Type 0} (IsLeft : T → Type 0) (full : ℕ → Bool) (tick : ℕ) (lies : Option Meaning) (left : List T) : Type 0 where
+  Nothing : lies ≡ None → left ≡ [] → Leaves IsLeft full tick lies left
+  Went : (meaning : Meaning) → (turn : T) → lies ≡ Some meaning → left ≡ turn ∷ [] → IsLeft turn → Leaves IsLeft full tick lies left
+  Stays : (meaning : Meaning) → lies ≡ Some meaning → left ≡ [] → full tick ≡ true → Leaves IsLeft full tick lies left
+
+-- a bus always has a place for a frame of a channel
+abbrev pub IsNeverFull : (full : ℕ → Bool) → Type 0
+IsNeverFull full = (tick : ℕ) → full tick ≡ false
 
 -- the frames that left in that tick
 abbrev pub left_in : ℕ → List Written → List Written

@@ -9,8 +9,8 @@ returns-in_default-clause-boxed g c =
 
 pub returns-clause-since : goal.returns-clause-since
 returns-clause-since g c =
-    (settles-some _ c.args.self.now.live c.in-Some.live _ _ (did_of c.args.tick.0 (c.in-Some.live.at.seq + 1) c.step_live-outcome.ensures.step.calls c.step_live-outcome.result) (sym c.take.ensures.value ∙ c.in-Some.is) c.requires.since (c.step_live-outcome.ensures.step.row c.step_live-outcome.ensures.step.calls)).time
+    (settles-some _ c.args.self.now.live c.in-Some.live _ (did_of c.args.tick.0 (c.in-Some.live.at.seq + 1) c.step_live-outcome.ensures.step.calls c.step_live-outcome.result) (sym c.take.ensures.value ∙ c.in-Some.is) c.requires.since (c.step_live-outcome.ensures.step.row c.step_live-outcome.ensures.step.calls)).time
 
 pub returns-clause-boxed : goal.returns-clause-boxed
 returns-clause-boxed g c =
-    (settles-some _ c.args.self.now.live c.in-Some.live _ _ (did_of c.args.tick.0 (c.in-Some.live.at.seq + 1) c.step_live-outcome.ensures.step.calls c.step_live-outcome.result) (sym c.take.ensures.value ∙ c.in-Some.is) c.requires.since (c.step_live-outcome.ensures.step.row c.step_live-outcome.ensures.step.calls)).box
+    (settles-some _ c.args.self.now.live c.in-Some.live _ (did_of c.args.tick.0 (c.in-Some.live.at.seq + 1) c.step_live-outcome.ensures.step.calls c.step_live-outcome.result) (sym c.take.ensures.value ∙ c.in-Some.is) c.requires.since (c.step_live-outcome.ensures.step.row c.step_live-outcome.ensures.step.calls)).box

@@ -1,0 +1,65 @@
+-- A sender's part of a tick, turn by turn.
+use Rattle.std.proofs.Common.{Bool, ◌≡◌, ℕ, Option, None, Some, List, [], ◌∷◌, ◌++◌, refl, ap, sym, ◌∙◌, subst, append_assoc}
+use Rattle.std.specs.List.{AllByRecursion}
+use Rattle.gw_base.proofs.Lists.{all-join, all-weaker}
+use Rattle.hub_core.specs.Turns.{Part, state_after, turns_of}
+use Rattle.tp_sender.specs.Runs.{HasSent, box_after, box_once}
+use Rattle.tp_sender.specs.State.{HasFrame, IsInBox, StillHasFrame, TxTurn, Transmission, tx_new}
+use Rattle.tp_sender.specs.declared.event.TxEvent.{TxEvent}
+use Rattle.tp_sender.specs.declared.event.TxEvent.TheVariants.{Turn, Fc, Left, RunEnd}
+use Rattle.tp_sender.specs.declared.set.TxSet.{TxSet}
+use Rattle.tp_sender.proofs.Settles.{box-settles}
+use Rattle.tp_unit.specs.Box.{Leaves, Nothing, Stays, Went, box_then}
+use Rattle.tp_unit.specs.Unit.{BoxMeaning, Keeps, Offers, Revokes, Meaning}
+use Rattle.sender_law.specs.Parts.{IsAnswerIn, IsStepIn, IsTxPart}
+
+-- a part's turns, after earlier ones
+pub turns-in : (full : ℕ → Bool) (earlier : List TxTurn) (part : Part TxTurn) → (is : IsTxPart full earlier part) → part.turns ++ earlier ≡ is.left ++ is.turn ∷ (is.answers ++ earlier)
+turns-in full earlier part is = ap (λ l. l ++ earlier) is.turns_are ∙ append_assoc is.left (is.turn ∷ is.answers) earlier
+
+-- what holds of each flow control that came, of the turn and of the frame that leaves
+pub record OfEach (P : TxTurn → Type 0) (tick : ℕ) : Type 0 where
+  pub answer : (turn : TxTurn) → IsAnswerIn tick turn → P turn
+  pub turn : (turn : TxTurn) → IsStepIn tick Turn turn → P turn
+  pub left : (turn : TxTurn) → IsStepIn tick Left turn → P turn
+
+of-left : (P : TxTurn → Type 0) (full : ℕ → Bool) (tick : ℕ) (lies : Option Meaning) (left : List TxTurn) → OfEach P tick → Leaves (IsStepIn tick Left) full tick lies left → AllByRecursion P left
+of-left P full tick lies left each (Nothing none is) = rw is tt
+of-left P full tick lies left each (Went meaning turn lying is goes) = rw is (each.left turn goes, tt)
+of-left P full tick lies left each (Stays meaning lying is busy) = rw is tt
+
+-- it holds of all turns of a part
+pub of-part : (P : TxTurn → Type 0) (full : ℕ → Bool) (earlier : List TxTurn) (part : Part TxTurn) → OfEach P part.tick → IsTxPart full earlier part → AllByRecursion P part.turns
+of-part P full earlier part each is =
+    rw is.turns_are (all-join P is.left (is.turn ∷ is.answers) (of-left P full part.tick (box_after (is.turn ∷ (is.answers ++ earlier))) is.left each is.left_is)
+    (each.turn is.turn (is.turn_is, is.turn_tick), all-weaker (IsAnswerIn part.tick) P is.answers each.answer is.answers_only))
+
+-- where no session is sent nothing lies in the box
+abbrev Agrees : Option Meaning → Type 0 → Type 0
+Agrees None has = Unit {0}
+Agrees (Some meaning) has = has
+
+agrees-then : (act : BoxMeaning) (lies : Option Meaning) (was : Type 0) (live : Option Transmission) → IsInBox act was live → Agrees lies was → Agrees (box_then act lies) (HasFrame live)
+agrees-then Keeps None was live is agrees = tt
+agrees-then Keeps (Some meaning) was live is agrees = is.0 agrees
+agrees-then (Offers meaning) lies was live is agrees = is
+agrees-then Revokes lies was live is agrees = tt
+
+agrees-once : (event : TxEvent) (lies : Option Meaning) (live : Option Transmission) → Agrees lies (HasFrame live) → Agrees (box_once event lies) (StillHasFrame event live)
+agrees-once Turn lies live agrees = agrees
+agrees-once (Fc fs bs st) lies live agrees = agrees
+agrees-once Left lies live agrees = tt
+agrees-once RunEnd lies live agrees = agrees
+
+box-agrees : (set : TxSet) (turns : List TxTurn) → HasSent set turns → Agrees (box_after turns) (HasFrame (state_after tx_new turns).live)
+box-agrees set [] happened = tt
+box-agrees set (turn ∷ earlier) happened =
+    agrees-then turn.did.act (box_once turn.event (box_after earlier)) (StillHasFrame turn.event (state_after tx_new earlier).live) turn.did.new.live (box-settles set (state_after tx_new earlier) turn.event turn.did happened.1.1)
+    (agrees-once turn.event (box_after earlier) (state_after tx_new earlier).live (box-agrees set earlier happened.2))
+
+none-lies : (lies : Option Meaning) (live : Option Transmission) → live ≡ None → Agrees lies (HasFrame live) → lies ≡ None
+none-lies None live is agrees = refl
+none-lies (Some meaning) live is agrees = let P : Option Transmission → Type 0 = λ l. HasFrame l in absurd (subst P is agrees)
+
+pub idle-box : (set : TxSet) (turns : List TxTurn) → HasSent set turns → (state_after tx_new turns).live ≡ None → box_after turns ≡ None
+idle-box set turns happened is = none-lies (box_after turns) (state_after tx_new turns).live is (box-agrees set turns happened)

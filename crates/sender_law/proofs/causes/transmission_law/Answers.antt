@@ -1,0 +1,10 @@
+use Rattle.sender_law.proofs.OtherFrames.{others-caused}
+use Rattle.sender_law.proofs.TransmissionCauses.{causes}
+use Rattle.sender_law.specs.Runs.{leg_of}
+use Rattle.sender_law.proofs.causes.transmission_law.Goals as goal
+
+pub returns-clause-own : goal.returns-clause-own
+returns-clause-own c = causes
+
+pub returns-clause-channel : goal.returns-clause-channel
+returns-clause-channel c = λ run budget out is never some are. others-caused (leg_of budget run) out (causes run budget is never some) are

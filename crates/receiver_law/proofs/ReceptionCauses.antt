@@ -23,7 +23,8 @@ use Rattle.tp_unit.specs.Unit.{Meaning}
 use Rattle.receiver_law.specs.ReceptionCauses.{AreCaused, HasCause, HasRoom, IsCaused, IsNeverBoxed, LetGoIn, StillWaits}
 use Rattle.receiver_law.specs.Channel.{SourceChannel}
 use Rattle.receiver_law.specs.Source.{Tells}
-use Rattle.receiver_law.proofs.RxCauses.{IsGoing, all-late, SoBy, WaitsSo}
+use Rattle.receiver_law.proofs.CausesSoFar.{IsGoing, SoBy, WaitsSo}
+use Rattle.receiver_law.proofs.RxCauses.{all-late}
 use Rattle.receiver_law.proofs.RxSettled.{AreSettled, Comes, IsLast, IsSettled, starts_of}
 use Rattle.gw_base.proofs.Lists.{zip-push, zip-weaker}
 

@@ -22,7 +22,7 @@ use Rattle.gw_base.proofs.Lists.{all-front}
 use Rattle.hub_core.proofs.Growing.{grows-append}
 use Rattle.hub_core.proofs.Turns.{calls-append, happened-front}
 use Rattle.hub_core.proofs.Beside.{sessions-grown}
-use Rattle.receiver_law.proofs.Openings.{IsBelow}
+use Rattle.receiver_law.proofs.Entries.{IsBelow}
 use Rattle.gw_law.proofs.WholeRun.{WholeRun, works_of}
 
 -- the cells of the buffers of a path's sessions

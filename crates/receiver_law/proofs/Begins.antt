@@ -11,7 +11,7 @@ use Rattle.hub_core.proofs.Growing.{slice_get-pushed}
 use Rattle.hub_core.specs.declared.record.OpenedAt.{OpenedAt}
 use Rattle.hub_core.specs.declared.record.SessionRecord.{SessionRecord}
 use Rattle.receiver_law.specs.Source.{CountsFrom, opened_by, sessions_in}
-use Rattle.receiver_law.proofs.Openings.{entry_by, join-lists}
+use Rattle.receiver_law.proofs.Entries.{entry_by, join-lists}
 use Rattle.gw_base.proofs.Lists.{all-join, slice_get-more}
 use Rattle.tp_attempts.specs.Seen.{bytes_of}
 use Rattle.tp_receiver.specs.declared.set.RxSet.{RxSet}

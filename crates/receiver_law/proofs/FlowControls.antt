@@ -19,8 +19,8 @@ use Rattle.receiver_law.specs.Channel.{SourceChannel}
 use Rattle.receiver_law.specs.Source.{Tells}
 use Rattle.receiver_law.specs.Source.{is_run_end}
 use Rattle.tp_unit.proofs.Rises.{Rise}
-use Rattle.receiver_law.proofs.Owed.{Answers, Facts, Gone, HasLeft, IsOpening, IsRefusal, Lies, NoRoom, Replaced}
-use Rattle.receiver_law.proofs.Owed.{LetsCome as Lets}
+use Rattle.receiver_law.proofs.Story.{Answers, Facts, Gone, HasLeft, IsOpening, IsRefusal, Lies, NoRoom, Replaced}
+use Rattle.receiver_law.proofs.Story.{LetsCome as Lets}
 use Rattle.receiver_law.proofs.Places.{attempt-of, start-of, starts_in}
 use Rattle.gw_base.proofs.Lists.{all-at, all-both, all-split, all-weaker, same-some, there-at, zip-pair}
 

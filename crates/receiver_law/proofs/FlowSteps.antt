@@ -15,7 +15,8 @@ use Rattle.tp_unit.specs.Box.{box_then, written_of}
 use Rattle.tp_unit.specs.Unit.{BoxMeaning, Keeps, Revokes, Meaning}
 use Rattle.tp_unit.specs.declared.shape.Shape.{Shape}
 use Rattle.receiver_law.specs.Parts.{CameIn, ControlLeaves, EndsReceiving, ReceivesIn}
-use Rattle.receiver_law.proofs.Owed.{BusySo, IdleSo, LiesIdle, SoFar, Story, Waits, Went, later, leaves, no-room-leaves}
+use Rattle.receiver_law.proofs.Story.{BusySo, IdleSo, LiesIdle, SoFar, Story, Waits, Went}
+use Rattle.receiver_law.proofs.OwedLater.{later, leaves, no-room-leaves}
 use Rattle.receiver_law.proofs.Places.{starts_in}
 use Rattle.receiver_law.proofs.Stories.{Finds, story-step}
 

@@ -1,4 +1,7 @@
 pub mod Begins
+pub mod CausesOfFrames
+pub mod CausesSoFar
+pub mod Entries
 pub mod FlowControls
 pub mod FlowSteps
 pub mod JointReceivers
@@ -6,6 +9,7 @@ pub mod JointSessions
 pub mod Offers
 pub mod Openings
 pub mod Owed
+pub mod OwedLater
 pub mod Places
 pub mod ReceptionCauses
 pub mod RxCauses
@@ -17,9 +21,11 @@ pub mod RxTicks
 pub mod RxWritten
 pub mod Sessions
 pub mod ShortStarts
+pub mod SoFarSteps
 pub mod SoFars
 pub mod SourceLaws
 pub mod StandingWriter
 pub mod Stores
 pub mod Stories
+pub mod Story
 pub mod Tellings

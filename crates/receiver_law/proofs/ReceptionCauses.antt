@@ -23,7 +23,8 @@ use Rattle.tp_unit.specs.Unit.{Meaning}
 use Rattle.receiver_law.specs.ReceptionCauses.{AreCaused, HasCause, HasRoom, IsCaused, IsNeverBoxed, LetGoIn, StillWaits}
 use Rattle.receiver_law.specs.Channel.{SourceChannel}
 use Rattle.receiver_law.specs.Source.{Tells}
-use Rattle.receiver_law.proofs.RxCauses.{IsGoing, all-late, SoBy, WaitsSo}
+use Rattle.receiver_law.proofs.CausesSoFar.{IsGoing, SoBy, WaitsSo}
+use Rattle.receiver_law.proofs.RxCauses.{all-late}
 use Rattle.receiver_law.proofs.RxSettled.{AreSettled, Comes, IsLast, IsSettled, starts_of}
 use Rattle.gw_base.proofs.Lists.{zip-push, zip-weaker}
 
@@ -146,14 +147,14 @@ cause-fuller : (full other : ℕ → Bool) (r : SourceChannel) (attempt : Cut Se
 cause-fuller full other r attempt told Whole more cause = cause
 cause-fuller full other r attempt told (Overflow change free need) more cause = tt
 cause-fuller full other r attempt told (WrongSn want got) more cause = tt
-cause-fuller full other r attempt told (RxTimeout BoxLimit) more cause = λ tick from below. more tick (cause tick from below)
+cause-fuller full other r attempt told (RxTimeout BoxLimit) more cause = record { since = cause.since; from = cause.from; limit = cause.limit; kept = λ tick from below. more tick (cause.kept tick from below) }
 cause-fuller full other r attempt told (RxTimeout CfLimit) more cause = cause
 cause-fuller full other r attempt told Restarted more cause = cause
 cause-fuller full other r attempt told (NoRoom room need) more cause = absurd cause
 cause-fuller full other r attempt told WaitOver more cause = absurd cause
 cause-fuller full other r attempt told NoReaders more cause = cause
 cause-fuller full other r attempt told Cancelled more cause = absurd cause
-cause-fuller full other r attempt told (RunEnd Box since) more cause = (cause.0, cause.1, λ tick from by. more tick (cause.2 tick from by))
+cause-fuller full other r attempt told (RunEnd Box since) more cause = (cause.0, cause.1, (cause.2.0, λ tick from by. more tick (cause.2.1 tick from by)))
 cause-fuller full other r attempt told (RunEnd Room since) more cause = absurd cause.2
 cause-fuller full other r attempt told (RunEnd Cf since) more cause = cause
 

@@ -24,9 +24,10 @@ use Rattle.receiver_law.specs.RxRun.{IsNeverFull, IsRxRun, RxRun, source_of, tic
 use Rattle.receiver_law.specs.Source.{SourceLaw}
 use Rattle.receiver_law.proofs.FlowControls.{IsKnown, law-known}
 use Rattle.receiver_law.proofs.FlowSteps.{IsSettled, story_of}
-use Rattle.receiver_law.proofs.Owed.{Facts, IdleSo, SoFar}
+use Rattle.receiver_law.proofs.Story.{Facts, IdleSo, SoFar}
 use Rattle.receiver_law.proofs.ReceptionCauses.{IsSaid, said-ended}
-use Rattle.receiver_law.proofs.RxCauses.{SoBy, so_far}
+use Rattle.receiver_law.proofs.CausesSoFar.{SoBy}
+use Rattle.receiver_law.proofs.RxCauses.{so_far}
 use Rattle.receiver_law.proofs.RxRooms.{rooms}
 use Rattle.receiver_law.proofs.RxRuns.{controls-of-run-rise, ordered, run-settles}
 use Rattle.receiver_law.proofs.RxTicks.{AreOver, over_of}

@@ -17,7 +17,8 @@ use Rattle.tp_receiver.specs.Runs.{HasReceived, cell_in, cells_in, put_in}
 use Rattle.tp_receiver.specs.State.{RxEvent, RxState, RxTurn, rx_new}
 use Rattle.tp_receiver.specs.Table.{Opens as OpensSession}
 use Rattle.tp_receiver.proofs.Through.{turns-through}
-use Rattle.receiver_law.proofs.Openings.{IsBelow, below-of}
+use Rattle.receiver_law.proofs.Entries.{IsBelow}
+use Rattle.receiver_law.proofs.Openings.{below-of}
 
 false_true : false ≡ true → ⊥
 false_true is = cc

@@ -19,7 +19,8 @@ use Rattle.tp_receiver.specs.Table.{RxStep, ended, refused}
 use Rattle.tp_receiver.proofs.Through.{IsThrough, step-through}
 use Rattle.tp_unit.specs.Unit.{Meaning, SingleFrame, FirstFrame, ConsecutiveFrame, FlowControl, NoUnit}
 use Rattle.receiver_law.specs.Source.{Puts as PutsLaw, SourceLaw, StoredLaw, Tells, is_overflow}
-use Rattle.receiver_law.proofs.SoFars.{IsBusy, IsIdle, Same, begins, busy-later, busy-passed, closes, closes-wrong, due-is, goes-on, idle-later, idle-other, overflows}
+use Rattle.receiver_law.proofs.SoFars.{IsBusy, IsIdle, Same, busy-later, busy-passed, idle-later, idle-other}
+use Rattle.receiver_law.proofs.SoFarSteps.{begins, closes, closes-wrong, due-is, goes-on, overflows}
 use Rattle.receiver_law.proofs.Stores.{Adds, adds-cells, store, store-keeps}
 use Rattle.receiver_law.proofs.Tellings.{TellsPut}
 

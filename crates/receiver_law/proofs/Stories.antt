@@ -16,7 +16,8 @@ use Rattle.tp_unit.specs.Box.{box_then}
 use Rattle.tp_unit.specs.Unit.{BoxMeaning, Keeps, Offers, Revokes, Meaning, SingleFrame, FirstFrame, ConsecutiveFrame, FlowControl, NoUnit}
 use Rattle.tp_unit.specs.declared.shape.Shape.{Shape}
 use Rattle.receiver_law.specs.Source.{is_overflow, is_run_end}
-use Rattle.receiver_law.proofs.Owed.{BusySo, IdleSo, LiesBusy, SoFar, Story, Waits, Went, begins, over, received, refused}
+use Rattle.receiver_law.proofs.Story.{BusySo, IdleSo, LiesBusy, SoFar, Story, Waits, Went}
+use Rattle.receiver_law.proofs.Owed.{begins, over, received, refused}
 use Rattle.receiver_law.proofs.Places.{starts_in}
 
 -- the story with what was done with the box, and with the records, so far in a step

@@ -40,9 +40,16 @@ pub record IsCfLate (r : SourceChannel) (attempt : Cut Seen) (told : SessionReco
   pub limit : at + r.rx.n_cr ≤ tick
   pub silent : IsSilent r.rx.a r.rx.n_cr tick attempt
 
--- a time limit is over in the tick of the end: of the flow control in its box, for which the bus was full, or of the next consecutive frame
+-- for the time limit N_Ar up to the tick of the end, the bus was full for the flow control in its box
+pub record IsBoxLate (full : ℕ → Bool) (r : SourceChannel) (told : SessionRecord) : Type 0 where
+  pub since : ℕ
+  pub from : told.begin.0 ≤ since
+  pub limit : since + r.rx.n_ar ≡ told.end.0
+  pub kept : (tick : ℕ) → since ≤ tick → tick < told.end.0 → full tick ≡ true
+
+-- a time limit is over in the tick of the end: of the flow control in its box, or of the next consecutive frame
 abbrev pub IsOverLimit : (full : ℕ → Bool) → SourceChannel → Cut Seen → SessionRecord → RxLimit → Type 0
-IsOverLimit full r attempt told BoxLimit = (tick : ℕ) → told.end.0 ≤ tick + r.rx.n_ar → tick < told.end.0 → full tick ≡ true
+IsOverLimit full r attempt told BoxLimit = IsBoxLate full r told
 IsOverLimit full r attempt told CfLimit = IsCfLate r attempt told told.end.0
 
 -- the next start of the channel has its record, which begins in that tick
@@ -61,7 +68,7 @@ pub record IsAwaited (r : SourceChannel) (attempt : Cut Seen) (told : SessionRec
 
 -- what is waited for at the run's end, since a tick
 abbrev pub StillWaits : (full : ℕ → Bool) → SourceChannel → Cut Seen → SessionRecord → ℕ → RxWait → Type 0
-StillWaits full r attempt told since Box = (tick : ℕ) → since ≤ tick → tick ≤ r.last → full tick ≡ true
+StillWaits full r attempt told since Box = (r.last < since + r.rx.n_ar) × ((tick : ℕ) → since ≤ tick → tick ≤ r.last → full tick ≡ true)
 StillWaits full r attempt told since Room = ⊥
 StillWaits full r attempt told since Cf = IsAwaited r attempt told since
 

@@ -211,9 +211,9 @@ law : (set : TxSet) (tick : ℕ) → IsDoneLaw set tick (ReadsBy set)
 law set tick = record {
   none = λ p v records ended told reads. record { told = told; reads = rw append-nil reads };
   then = λ p first later one two v records ended told reads.
-  let before = one v records ended told reads in
-  let after = two (grows first.calls v) (records ++ first.records) ended before.told before.reads in
-  record { told = after.told; reads = rw (grows-append first.calls later.calls v, ← append_assoc records first.records later.records) after.reads };
+      let before = one v records ended told reads in
+      let after = two (grows first.calls v) (records ++ first.records) ended before.told before.reads in
+      record { told = after.told; reads = rw (grows-append first.calls later.calls v, ← append_assoc records first.records later.records) after.reads };
   each = each set tick;
 }
 

@@ -8,6 +8,7 @@ pub mod Origins
 pub mod OtherFrames
 pub mod StandingReader
 pub mod TransmissionCauses
+pub mod TxAnswers
 pub mod TxCausesEnd
 pub mod TxCausesFrames
 pub mod TxCausesLeft

@@ -22,7 +22,8 @@ use Rattle.tp_unit.specs.declared.shape.Shape.{Shape}
 use Rattle.tp_unit.specs.Shape.{IsShape, address_size}
 use Rattle.sender_law.specs.Transfer.{GoesOnWith, Transfer, TransferLaw, seen_of, transfer_of}
 use Rattle.sender_law.proofs.TxLeaves.{sends-way}
-use Rattle.sender_law.proofs.TxMoves.{IsNotAwaiting, NotAwaiting, answers, at_tick, ignored, later}
+use Rattle.sender_law.proofs.TxAnswers.{IsNotAwaiting, NotAwaiting, answers, ignored}
+use Rattle.sender_law.proofs.TxMoves.{at_tick, later}
 use Rattle.sender_law.proofs.TxStages.{IsTimely, IsTold, LeadsOn, SoFarBut, asked, done_in, event_in, same-so}
 use Rattle.sender_law.proofs.TxSteps.{law as of-effects}
 use Rattle.sender_law.proofs.TxWorld.{GoesOn as Goes, Lives, SoFar, Way, World, Unsent, UnderWay}

@@ -122,10 +122,6 @@ ended shape w s path dest result box is not_sent so =
     (record { len = s.len; joined = on.joined_is; most = omega (arith, on.unfinished); whole = ((λ e. absurd (not_sent e)), (λ e. absurd (omega (arith, e, on.unfinished)))); ticks = on.begin })
     (last-way shape t told w.clear s.number s on.taken (on.offered ++ s.carried) s.phase s.since so.going refl (λ cut sends. sends) so.address on.joined_is on.read on.sent on.way)
 
--- what the box holds is of no account where nothing is sent
-abbrev pub with_box : Option Meaning → World → World
-with_box box w = record w { box = box }
-
 -- the frame in the box leaves
 unit-first : (shape : Shape) (len sent number : ℕ) (bytes : List ℕ) → sent ≡ 0 → unit_after shape len sent number bytes ≡ start_with shape len bytes
 unit-first shape len sent number bytes is = rw is refl

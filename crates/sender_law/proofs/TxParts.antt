@@ -1,38 +1,19 @@
--- A sender's part of a tick, turn by turn.
+-- A sender's part of a tick in its turns, and that nothing lies in its box where it sends nothing.
 use Rattle.std.proofs.Common.{Bool, ◌≡◌, ℕ, Option, None, Some, List, [], ◌∷◌, ◌++◌, refl, ap, sym, ◌∙◌, subst, append_assoc}
-use Rattle.std.specs.List.{AllByRecursion}
-use Rattle.gw_base.proofs.Lists.{all-join, all-weaker}
-use Rattle.hub_core.specs.Turns.{Part, state_after, turns_of}
+use Rattle.hub_core.specs.Turns.{Part, state_after}
 use Rattle.tp_sender.specs.Runs.{HasSent, box_after, box_once}
 use Rattle.tp_sender.specs.State.{HasFrame, IsInBox, StillHasFrame, TxTurn, Transmission, tx_new}
 use Rattle.tp_sender.specs.declared.event.TxEvent.{TxEvent}
 use Rattle.tp_sender.specs.declared.event.TxEvent.TheVariants.{Turn, Fc, Left, RunEnd}
 use Rattle.tp_sender.specs.declared.set.TxSet.{TxSet}
 use Rattle.tp_sender.proofs.Settles.{box-settles}
-use Rattle.tp_unit.specs.Box.{Leaves, Nothing, Stays, Went, box_then}
+use Rattle.tp_unit.specs.Box.{box_then}
 use Rattle.tp_unit.specs.Unit.{BoxMeaning, Keeps, Offers, Revokes, Meaning}
-use Rattle.sender_law.specs.Parts.{IsAnswerIn, IsStepIn, IsTxPart}
+use Rattle.sender_law.specs.Parts.{IsTxPart}
 
 -- a part's turns, after earlier ones
 pub turns-in : (full : ℕ → Bool) (earlier : List TxTurn) (part : Part TxTurn) → (is : IsTxPart full earlier part) → part.turns ++ earlier ≡ is.left ++ is.turn ∷ (is.answers ++ earlier)
 turns-in full earlier part is = ap (λ l. l ++ earlier) is.turns_are ∙ append_assoc is.left (is.turn ∷ is.answers) earlier
-
--- what holds of each flow control that came, of the turn and of the frame that leaves
-pub record OfEach (P : TxTurn → Type 0) (tick : ℕ) : Type 0 where
-  pub answer : (turn : TxTurn) → IsAnswerIn tick turn → P turn
-  pub turn : (turn : TxTurn) → IsStepIn tick Turn turn → P turn
-  pub left : (turn : TxTurn) → IsStepIn tick Left turn → P turn
-
-of-left : (P : TxTurn → Type 0) (full : ℕ → Bool) (tick : ℕ) (lies : Option Meaning) (left : List TxTurn) → OfEach P tick → Leaves (IsStepIn tick Left) full tick lies left → AllByRecursion P left
-of-left P full tick lies left each (Nothing none is) = rw is tt
-of-left P full tick lies left each (Went meaning turn lying is goes) = rw is (each.left turn goes, tt)
-of-left P full tick lies left each (Stays meaning lying is busy) = rw is tt
-
--- it holds of all turns of a part
-pub of-part : (P : TxTurn → Type 0) (full : ℕ → Bool) (earlier : List TxTurn) (part : Part TxTurn) → OfEach P part.tick → IsTxPart full earlier part → AllByRecursion P part.turns
-of-part P full earlier part each is =
-    rw is.turns_are (all-join P is.left (is.turn ∷ is.answers) (of-left P full part.tick (box_after (is.turn ∷ (is.answers ++ earlier))) is.left each is.left_is)
-    (each.turn is.turn (is.turn_is, is.turn_tick), all-weaker (IsAnswerIn part.tick) P is.answers each.answer is.answers_only))
 
 -- where no session is sent nothing lies in the box
 abbrev Agrees : Option Meaning → Type 0 → Type 0

@@ -95,8 +95,8 @@ law : (set : TxSet) (tick : ℕ) → IsDoneLaw set tick (FilledBy set)
 law set tick = record {
   none = λ p below. record { fill = fill-none (reading set.path.0 set.dest.0) p.next; number = omega arith; joined = below };
   then = λ p first later one two below.
-  let before = one below in
-  joins-both set p.next first.new.next later.new.next first.calls later.calls first.new.live later.new.live before (two before.joined);
+      let before = one below in
+      joins-both set p.next first.new.next later.new.next first.calls later.calls first.new.live later.new.live before (two before.joined);
   each = each set tick;
 }
 

@@ -35,7 +35,8 @@ use Rattle.sender_law.specs.Transfer.{seen_of}
 use Rattle.sender_law.proofs.TxFrames.{seen_unit}
 use Rattle.sender_law.proofs.TxLeaves.{ended, ends}
 use Rattle.sender_law.proofs.TxLeft.{first-left, in-box, last-left, leaves, next-left}
-use Rattle.sender_law.proofs.TxMoves.{NotAwaiting, answers, continues, ignored, is-read, joined, joins, lives-some, offered, offers, reads, resumes, starts, waits, with_live}
+use Rattle.sender_law.proofs.TxAnswers.{NotAwaiting, answers, continues, ignored, waits}
+use Rattle.sender_law.proofs.TxMoves.{is-read, joined, joins, lives-some, offered, offers, reads, resumes, starts, with_live}
 use Rattle.sender_law.proofs.TxWorld.{GoesOn, IsBoxed, SoFar, World}
 
 -- worlds of equal parts

@@ -35,7 +35,8 @@ use Rattle.sender_law.specs.Transfer.{seen_of}
 use Rattle.sender_law.proofs.TxFrames.{seen_unit}
 use Rattle.sender_law.proofs.TxLeaves.{ended, ends}
 use Rattle.sender_law.proofs.TxLeft.{first-left, in-box, last-left, leaves, next-left}
-use Rattle.sender_law.proofs.TxMoves.{NotAwaiting, answers, continues, ignored, is-read, joined, joins, lives-some, offered, offers, reads, resumes, starts, waits, with_live}
+use Rattle.sender_law.proofs.TxAnswers.{NotAwaiting, answers, continues, ignored, waits}
+use Rattle.sender_law.proofs.TxMoves.{is-read, joined, joins, lives-some, offered, offers, reads, resumes, starts, with_live}
 use Rattle.sender_law.proofs.TxWorld.{GoesOn, IsBoxed, SoFar, World}
 use Rattle.sender_law.proofs.TxStages.{IsAt, IsTimely, IsTold, LeadsOn, SoFarBut, alone-so, asked, done_in, event_in, in-turn, nothing-more, quiet, reads-so, same-so, told-anew, turn-anew}
 
@@ -213,10 +214,10 @@ done-none tick p w at =
 pub law : (set : TxSet) (tick : ℕ) → IsShape set.shape → IsDoneLaw set tick (LeadsOn set tick)
 law set tick sound = record {
   none = λ p w at so.
-  let P : World → Type 0 = λ x. SoFarBut set tick p.event x in
-  subst P (done-none tick p w at) so;
+      let P : World → Type 0 = λ x. SoFarBut set tick p.event x in
+      subst P (done-none tick p w at) so;
   then = λ p first later one two w at so.
-  let P : World → Type 0 = λ x. SoFarBut set tick later.new.event x in
-  subst P (done-both first later w) (two (done_in first w) (record { live = refl; next = refl; now = at.now }) (one w at so));
+      let P : World → Type 0 = λ x. SoFarBut set tick later.new.event x in
+      subst P (done-both first later w) (two (done_in first w) (record { live = refl; next = refl; now = at.now }) (one w at so));
   each = each set tick sound;
 }

@@ -6,6 +6,7 @@ use Rattle.tp_sender.specs.Runs.{HasSent, box_after, controls_in, left_by}
 use Rattle.tp_sender.specs.State.{TxTurn, tx_new}
 use Rattle.tp_sender.specs.declared.event.TxEvent.TheVariants.{RunEnd}
 use Rattle.tp_sender.specs.declared.set.TxSet.{TxSet}
+use Rattle.tp_unit.specs.Box.{IsNeverFull}
 use Rattle.tp_unit.specs.Shape.{IsShape}
 use Rattle.sender_law.specs.Channel.{DestChannel}
 use Rattle.sender_law.specs.Parts.{IsStepIn, IsTxPart}
@@ -47,6 +48,12 @@ pub record IsTxRun (run : TxRun) : Type 0 where
   pub reached : IsTxIdle (turns_of run.parts) ⊎ (tick_after run.parts ≡ run.last + 1)
   pub ends : AllByRecursion (IsStepIn run.last RunEnd) run.end
   pub idle : (state_after tx_new (turns_in run)).live ≡ None
+
+-- a run whose bus is full in no tick, with a limit of at least a tick for a flow control
+pub record IsFreeRun (run : TxRun) : Type 0 where
+  pub run_is : IsTxRun run
+  pub never : IsNeverFull run.full
+  pub n_bs : 1 ≤ run.set.n_bs
 
 -- what its flow controls, its frames and its records are, on a bus that sends so many frames in a tick
 abbrev pub leg_of : (budget : ℕ) → TxRun → DestChannel

@@ -14,6 +14,7 @@ use Rattle.tp_attempts.specs.Walk.{walk_of}
 use Rattle.tp_sender.specs.declared.set.TxSet.{TxSet}
 use Rattle.tp_unit.specs.Shape.{address_size}
 use Rattle.sender_law.specs.Channel.{DestChannel}
+use Rattle.sender_law.specs.Runs.{TxRun, leg_of}
 use Rattle.sender_law.specs.Transfer.{Permits, answer_after, has_sent, seen_of}
 
 -- the frames of a transmission that left up to a tick, by their ticks, and the flow controls that came up to it
@@ -130,3 +131,7 @@ pub record TransmissionCauses (r : DestChannel) : Type 0 where
 -- these are all frames of the channel: those that carry data are the destination's own
 abbrev pub HasDataOf : DestChannel → List Written → Type 0
 HasDataOf c out = filter carries (map (seen_of (address_size c.tx.shape)) out) ≡ map (seen_of (address_size c.tx.shape)) c.frames
+
+-- with these as all frames of a run's channel each record has its cause
+abbrev pub CausesAmong : (budget : ℕ) → TxRun → List Written → Type 0
+CausesAmong budget run out = HasDataOf (leg_of budget run) out → TransmissionCauses (record (leg_of budget run) { frames = out })

@@ -1,7 +1,7 @@
-ghost use Rattle.std.specs.Prelude.{◌≤◌, List, ℕ};
-ghost use Rattle.sender_law.specs.Runs.{IsTxRun, TxRun, leg_of};
-ghost use Rattle.sender_law.specs.TransmissionCauses.{HasDataOf, TransmissionCauses};
-ghost use Rattle.tp_unit.specs.Box.{IsNeverFull, Written};
+ghost use Rattle.std.specs.Prelude.{List, ℕ};
+ghost use Rattle.sender_law.specs.Runs.{IsFreeRun, TxRun, leg_of};
+ghost use Rattle.sender_law.specs.TransmissionCauses.{CausesAmong, TransmissionCauses};
+ghost use Rattle.tp_unit.specs.Box.{Written};
 
 /// Why each session of a destination ended, of every run of a sender; the function does nothing.
 ///
@@ -10,6 +10,6 @@ ghost use Rattle.tp_unit.specs.Box.{IsNeverFull, Written};
 /// controls of the channel's receiver. The bus always has a place for the channel's frame: what waits in its box while the bus is full isn't
 /// accounted for yet. The limit of a flow control is at least a tick.
 pub fn transmission_law()
-    ensures own { (run : TxRun) (budget : ℕ) → IsTxRun run → IsNeverFull run.full → 1 ≤ run.set.n_bs → TransmissionCauses (leg_of budget run) }
-    ensures channel { (run : TxRun) (budget : ℕ) (out : List Written) → IsTxRun run → IsNeverFull run.full → 1 ≤ run.set.n_bs → HasDataOf (leg_of budget run) out → TransmissionCauses (record (leg_of budget run) { frames = out }) }
+    ensures own { (run : TxRun) (budget : ℕ) → IsFreeRun run → TransmissionCauses (leg_of budget run) }
+    ensures channel { (run : TxRun) (budget : ℕ) (out : List Written) → IsFreeRun run → CausesAmong budget run out }
 {}

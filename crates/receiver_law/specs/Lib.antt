@@ -1,5 +1,6 @@
 pub mod Channel
 pub mod FlowControls
+pub mod Laws
 pub mod Looks
 pub mod Parts
 pub mod ReceptionCauses

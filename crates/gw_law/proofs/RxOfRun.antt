@@ -10,8 +10,10 @@ use Rattle.receiver_law.specs.FlowControls.{FlowControlLaw}
 use Rattle.receiver_law.specs.Looks.{AreShort}
 use Rattle.receiver_law.specs.Parts.{ControlLeaves, ReceivesIn}
 use Rattle.receiver_law.specs.ReceptionCauses.{AreCaused, AreNeverBoxed, IsShortStart}
-use Rattle.receiver_law.specs.RxRun.{AreRxParts, Empty, IsNeverFull, IsRxIdle, IsRxPart, IsRxRun, Leaves, RxPart, RxRun, Went, source_of, turns_in}
-use Rattle.receiver_law.specs.RxRun.{turns_of as turns_of_parts, tick_after as tick_after_parts}
+use Rattle.receiver_law.specs.RxRun.{AreRxParts, IsLeftIn, IsRxIdle, IsRxPart, IsRxRun, RxRun, source_of, turns_in}
+use Rattle.hub_core.specs.Turns.{Part}
+use Rattle.tp_unit.specs.Box.{Nothing, IsNeverFull, Leaves, Went}
+use Rattle.hub_core.specs.Turns.{turns_of as turns_of_parts, tick_after as tick_after_parts}
 use Rattle.receiver_law.proofs.FlowControls.{IsKnown, law-fuller}
 use Rattle.receiver_law.proofs.ReceptionCauses.{caused-fuller}
 use Rattle.receiver_law.proofs.RxLaws.{flow_control_law_of, known-of-run, reception_law_of}
@@ -35,7 +37,7 @@ abbrev never : ℕ → Bool
 never tick = false
 
 -- the receiver's parts
-abbrev parts_of : List Work → List RxPart
+abbrev parts_of : List Work → List (Part RxTurn)
 parts_of [] = []
 parts_of (work ∷ earlier) = record { tick = work.tick; turns = work.turns } ∷ parts_of earlier
 
@@ -47,10 +49,10 @@ after-same : (works : List Work) → tick_after_parts (parts_of works) ≡ tick_
 after-same [] = refl
 after-same (work ∷ earlier) = refl
 
-leaves : (tick : ℕ) (lies : Option Meaning) (left : List RxTurn) → ControlLeaves tick lies left → Leaves never tick lies left
-leaves tick None left is = Empty refl is
+leaves : (tick : ℕ) (lies : Option Meaning) (left : List RxTurn) → ControlLeaves tick lies left → Leaves (IsLeftIn tick) never tick lies left
+leaves tick None left is = Nothing refl is
 leaves tick (Some meaning) [] is = absurd is
-leaves tick (Some meaning) (turn ∷ more) is = Went meaning turn refl (ap (λ m. turn ∷ m) is.2) is.0 is.1
+leaves tick (Some meaning) (turn ∷ more) is = Went meaning turn refl (ap (λ m. turn ∷ m) is.2) (is.0, is.1)
 
 part-of : (tick : ℕ) (earlier turns : List RxTurn) → ReceivesIn tick earlier turns → IsRxPart never earlier (record { tick = tick; turns = turns })
 part-of tick earlier turns is = record {

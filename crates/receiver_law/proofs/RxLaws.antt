@@ -20,7 +20,9 @@ use Rattle.receiver_law.specs.FlowControls.{FlowControlLaw}
 use Rattle.receiver_law.specs.Looks.{AreShort}
 use Rattle.receiver_law.specs.Parts.{EndsReceiving}
 use Rattle.receiver_law.specs.ReceptionCauses.{AreCaused, AreNeverBoxed, IsCaused, IsNeverBoxed}
-use Rattle.receiver_law.specs.RxRun.{IsNeverFull, IsRxRun, RxRun, source_of, tick_after, turns_in, turns_of}
+use Rattle.receiver_law.specs.RxRun.{IsRxRun, RxRun, source_of, turns_in}
+use Rattle.hub_core.specs.Turns.{tick_after, turns_of}
+use Rattle.tp_unit.specs.Box.{IsNeverFull}
 use Rattle.receiver_law.specs.Source.{SourceLaw}
 use Rattle.receiver_law.proofs.FlowControls.{IsKnown, law-known}
 use Rattle.receiver_law.proofs.FlowSteps.{IsSettled, story_of}

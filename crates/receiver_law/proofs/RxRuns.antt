@@ -11,18 +11,20 @@ use Rattle.tp_unit.specs.Box.{written_of}
 use Rattle.tp_unit.specs.Unit.{Meaning}
 use Rattle.tp_unit.specs.declared.shape.Shape.{Shape}
 use Rattle.receiver_law.specs.Parts.{CameIn, ControlLeaves, EndsReceiving, ReceivesIn}
-use Rattle.receiver_law.specs.RxRun.{AreRxParts, Empty, IsNeverFull, IsRxPart, IsRxRun, Leaves, RxPart, RxRun, Stays, Went, tick_after, turns_in, turns_of}
+use Rattle.receiver_law.specs.RxRun.{AreRxParts, IsLeftIn, IsRxPart, IsRxRun, RxRun, turns_in}
+use Rattle.hub_core.specs.Turns.{Part, tick_after, turns_of}
+use Rattle.tp_unit.specs.Box.{Nothing, IsNeverFull, Leaves, Stays, Went}
 use Rattle.receiver_law.proofs.FlowSteps.{IsSettled, end-by, nothing-settled, on, tick-step}
 use Rattle.receiver_law.proofs.RxTicks.{AreOrdered, AreOver, Ready, came-ordered, left-over, timer-ordered}
 
 -- what lies in the box leaves
-leaves : (full : ℕ → Bool) (tick : ℕ) (lies : Option Meaning) (left : List RxTurn) → IsNeverFull full → Leaves full tick lies left → ControlLeaves tick lies left
-leaves full tick lies left never (Empty none is) = rw none is
-leaves full tick lies left never (Went meaning turn some is event at) = rw (some, is) (event, at, refl)
+leaves : (full : ℕ → Bool) (tick : ℕ) (lies : Option Meaning) (left : List RxTurn) → IsNeverFull full → Leaves (IsLeftIn tick) full tick lies left → ControlLeaves tick lies left
+leaves full tick lies left never (Nothing none is) = rw none is
+leaves full tick lies left never (Went meaning turn some is went) = rw (some, is) (went.0, went.1, refl)
 leaves full tick lies left never (Stays meaning some is busy) = let clash : false ≡ true = sym (never tick) ∙ busy in absurd cc
 
 -- a part of a tick
-pub receives : (full : ℕ → Bool) (earlier : List RxTurn) (part : RxPart) → IsNeverFull full → IsRxPart full earlier part → ReceivesIn part.tick earlier part.turns
+pub receives : (full : ℕ → Bool) (earlier : List RxTurn) (part : Part RxTurn) → IsNeverFull full → IsRxPart full earlier part → ReceivesIn part.tick earlier part.turns
 receives full earlier part never is = record {
   came = is.came;
   timer = is.timer;
@@ -35,14 +37,14 @@ receives full earlier part never is = record {
 }
 
 -- all parts so far
-pub record AreSettled (set : RxSet) (shape : Shape) (parts : List RxPart) : Type 0 where
+pub record AreSettled (set : RxSet) (shape : Shape) (parts : List (Part RxTurn)) : Type 0 where
   pub now : ℕ
   pub bound : ℕ
   pub now_by : now ≤ tick_after parts - 1
   pub bound_by : bound ≤ tick_after parts
   pub settled : IsSettled set shape now bound (turns_of parts)
 
-parts-settle : (set : RxSet) (shape : Shape) (full : ℕ → Bool) (parts : List RxPart) → IsNeverFull full → AreRxParts full parts → HasReceived set (turns_of parts) → AreSettled set shape parts
+parts-settle : (set : RxSet) (shape : Shape) (full : ℕ → Bool) (parts : List (Part RxTurn)) → IsNeverFull full → AreRxParts full parts → HasReceived set (turns_of parts) → AreSettled set shape parts
 parts-settle set shape full [] never are happened = record { now = 0; bound = 0; now_by = omega arith; bound_by = omega arith; settled = nothing-settled set shape }
 parts-settle set shape full (part ∷ earlier) never are happened =
     let so : AreSettled set shape earlier = parts-settle set shape full earlier never are.1 (happened-front _ part.turns (turns_of earlier) happened) in
@@ -65,7 +67,7 @@ run-settles run never is =
     )
 
 -- the turns of all parts stand in order
-pub ordered : (set : RxSet) (full : ℕ → Bool) (parts : List RxPart) → IsNeverFull full → AreRxParts full parts → HasReceived set (turns_of parts) → AreOver (tick_after parts) (turns_of parts)
+pub ordered : (set : RxSet) (full : ℕ → Bool) (parts : List (Part RxTurn)) → IsNeverFull full → AreRxParts full parts → HasReceived set (turns_of parts) → AreOver (tick_after parts) (turns_of parts)
 ordered set full [] never are happened = record { ordered = tt; over = refl; empty = refl }
 ordered set full (part ∷ earlier) never are happened =
     let before : List RxTurn = turns_of earlier in
@@ -109,7 +111,7 @@ receives-written shape tick earlier turns did =
     let is : turns ++ earlier ≡ did.left ++ before = ap (λ t. t ++ earlier) did.turns_are ∙ append_assoc did.left (did.timer ∷ did.came) earlier in
     (control_after before, ap (controls_by shape) is ∙ control-leaves shape tick (control_after before) did.left before refl did.left_is ∙ ap (λ l. l ++ written_of shape tick (control_after before)) silent)
 
-controls-rise : (shape : Shape) (full : ℕ → Bool) (parts : List RxPart) → IsNeverFull full → AreRxParts full parts → Rise 0 (controls_by shape (turns_of parts)) (tick_after parts)
+controls-rise : (shape : Shape) (full : ℕ → Bool) (parts : List (Part RxTurn)) → IsNeverFull full → AreRxParts full parts → Rise 0 (controls_by shape (turns_of parts)) (tick_after parts)
 controls-rise shape full [] never are = omega arith
 controls-rise shape full (part ∷ earlier) never are =
     let left = receives-written shape part.tick (turns_of earlier) part.turns (receives full (turns_of earlier) part never are.0.part_is) in

@@ -4,7 +4,9 @@ use Rattle.tp_unit.specs.Shape.{IsShape}
 use Rattle.receiver_law.specs.FlowControls.{FlowControlLaw}
 use Rattle.receiver_law.specs.Looks.{AreShort}
 use Rattle.receiver_law.specs.ReceptionCauses.{AreCaused, AreNeverBoxed}
-use Rattle.receiver_law.specs.RxRun.{IsNeverFull, IsRxRun, RxRun, source_of, turns_of}
+use Rattle.receiver_law.specs.RxRun.{IsRxRun, RxRun, source_of}
+use Rattle.hub_core.specs.Turns.{turns_of}
+use Rattle.tp_unit.specs.Box.{IsNeverFull}
 use Rattle.receiver_law.specs.Source.{SourceLaw}
 
 -- after each run there is one record for each start that came

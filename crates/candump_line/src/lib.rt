@@ -17,6 +17,3 @@ pub use law::reading_law;
 pub use line::Line;
 pub use read::read_line;
 pub use write::write_line;
-
-#[cfg(test)]
-mod tests;

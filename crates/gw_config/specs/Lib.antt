@@ -8,5 +8,3 @@ pub mod Repeated
 pub mod Lawful
 pub mod Entries
 pub mod Document
-pub mod Printed
-pub mod Puts

@@ -5,7 +5,7 @@ use can_frame::CanId;
 use gw_settings::{Key, TableKind};
 
 /// The duration of a tick, in microseconds.
-pub(crate) const PERIOD: NumberRow = NumberRow {
+pub const PERIOD: NumberRow = NumberRow {
     table: TableKind::Top,
     key: Key::Period,
     low: 1,
@@ -14,7 +14,7 @@ pub(crate) const PERIOD: NumberRow = NumberRow {
 };
 
 /// The ticks of a window, after which the workers meet.
-pub(crate) const WINDOW: NumberRow = NumberRow {
+pub const WINDOW: NumberRow = NumberRow {
     table: TableKind::Top,
     key: Key::Window,
     low: 1,
@@ -23,7 +23,7 @@ pub(crate) const WINDOW: NumberRow = NumberRow {
 };
 
 /// The ticks that a run goes on after the last input frame.
-pub(crate) const LINGER: NumberRow = NumberRow {
+pub const LINGER: NumberRow = NumberRow {
     table: TableKind::Top,
     key: Key::Linger,
     low: 0,
@@ -32,14 +32,14 @@ pub(crate) const LINGER: NumberRow = NumberRow {
 };
 
 /// How the workers run.
-pub(crate) const MODE: WordRow<Mode> = WordRow {
+pub const MODE: WordRow<Mode> = WordRow {
     table: TableKind::Top,
     key: Key::Mode,
     default: Some(Mode::Serial),
 };
 
 /// The cells of each buffer of the pool.
-pub(crate) const BUFFERS: ListRow = ListRow {
+pub const BUFFERS: ListRow = ListRow {
     table: TableKind::Top,
     key: Key::Buffers,
     least: 1,
@@ -47,7 +47,7 @@ pub(crate) const BUFFERS: ListRow = ListRow {
 };
 
 /// The cells of one buffer.
-pub(crate) const BUFFER: NumberRow = NumberRow {
+pub const BUFFER: NumberRow = NumberRow {
     table: TableKind::Top,
     key: Key::Buffers,
     low: 1,
@@ -56,42 +56,42 @@ pub(crate) const BUFFER: NumberRow = NumberRow {
 };
 
 /// The buses.
-pub(crate) const BUSES: CountRow = CountRow {
+pub const BUSES: CountRow = CountRow {
     table: TableKind::Bus,
     low: 1,
     high: 8,
 };
 
 /// The channels.
-pub(crate) const CHANNELS: CountRow = CountRow {
+pub const CHANNELS: CountRow = CountRow {
     table: TableKind::Channel,
     low: 0,
     high: 64,
 };
 
 /// The paths.
-pub(crate) const PATHS: CountRow = CountRow {
+pub const PATHS: CountRow = CountRow {
     table: TableKind::Path,
     low: 0,
     high: 64,
 };
 
 /// The interface paths.
-pub(crate) const INTERFACES: CountRow = CountRow {
+pub const INTERFACES: CountRow = CountRow {
     table: TableKind::Interface,
     low: 0,
     high: 32,
 };
 
 /// The cancellations.
-pub(crate) const CANCELS: CountRow = CountRow {
+pub const CANCELS: CountRow = CountRow {
     table: TableKind::Cancel,
     low: 0,
     high: 64,
 };
 
 /// All keys of the top table.
-pub(crate) const TOP_KEYS: [Key; 10] = [
+pub const TOP_KEYS: [Key; 10] = [
     Key::Period,
     Key::Window,
     Key::Linger,
@@ -105,7 +105,7 @@ pub(crate) const TOP_KEYS: [Key; 10] = [
 ];
 
 /// A bus's name, as its interface is called in the logs.
-pub(crate) const BUS_NAME: TextRow = TextRow {
+pub const BUS_NAME: TextRow = TextRow {
     table: TableKind::Bus,
     key: Key::Name,
     most: 15,
@@ -113,7 +113,7 @@ pub(crate) const BUS_NAME: TextRow = TextRow {
 };
 
 /// The file of a bus's input.
-pub(crate) const BUS_LOG: TextRow = TextRow {
+pub const BUS_LOG: TextRow = TextRow {
     table: TableKind::Bus,
     key: Key::Log,
     most: 64,
@@ -121,7 +121,7 @@ pub(crate) const BUS_LOG: TextRow = TextRow {
 };
 
 /// The file of a bus's output.
-pub(crate) const BUS_OUT: TextRow = TextRow {
+pub const BUS_OUT: TextRow = TextRow {
     table: TableKind::Bus,
     key: Key::Out,
     most: 64,
@@ -129,21 +129,21 @@ pub(crate) const BUS_OUT: TextRow = TextRow {
 };
 
 /// Whether a bus takes CAN FD frames.
-pub(crate) const BUS_FD: FlagRow = FlagRow {
+pub const BUS_FD: FlagRow = FlagRow {
     table: TableKind::Bus,
     key: Key::Fd,
     default: false,
 };
 
 /// Whether a bus's CAN FD frames switch to the higher bit rate.
-pub(crate) const BUS_BRS: FlagRow = FlagRow {
+pub const BUS_BRS: FlagRow = FlagRow {
     table: TableKind::Bus,
     key: Key::Brs,
     default: false,
 };
 
 /// The most frames that a bus takes in a tick.
-pub(crate) const BUS_BUDGET: NumberRow = NumberRow {
+pub const BUS_BUDGET: NumberRow = NumberRow {
     table: TableKind::Bus,
     key: Key::Budget,
     low: 1,
@@ -152,7 +152,7 @@ pub(crate) const BUS_BUDGET: NumberRow = NumberRow {
 };
 
 /// All keys of a bus.
-pub(crate) const BUS_KEYS: [Key; 6] = [
+pub const BUS_KEYS: [Key; 6] = [
     Key::Name,
     Key::Log,
     Key::Out,
@@ -162,7 +162,7 @@ pub(crate) const BUS_KEYS: [Key; 6] = [
 ];
 
 /// A channel's name.
-pub(crate) const CHANNEL_NAME: TextRow = TextRow {
+pub const CHANNEL_NAME: TextRow = TextRow {
     table: TableKind::Channel,
     key: Key::Name,
     most: 32,
@@ -170,7 +170,7 @@ pub(crate) const CHANNEL_NAME: TextRow = TextRow {
 };
 
 /// The name of a channel's bus.
-pub(crate) const CHANNEL_BUS: TextRow = TextRow {
+pub const CHANNEL_BUS: TextRow = TextRow {
     table: TableKind::Channel,
     key: Key::Bus,
     most: 15,
@@ -178,28 +178,28 @@ pub(crate) const CHANNEL_BUS: TextRow = TextRow {
 };
 
 /// The identifier of the frames that a channel receives.
-pub(crate) const CHANNEL_RX: WordRow<CanId> = WordRow {
+pub const CHANNEL_RX: WordRow<CanId> = WordRow {
     table: TableKind::Channel,
     key: Key::Rx,
     default: None,
 };
 
 /// The identifier of the frames that a channel sends.
-pub(crate) const CHANNEL_TX: WordRow<CanId> = WordRow {
+pub const CHANNEL_TX: WordRow<CanId> = WordRow {
     table: TableKind::Channel,
     key: Key::Tx,
     default: None,
 };
 
 /// A channel's addressing format (ISO 15765-2, addressing formats).
-pub(crate) const CHANNEL_ADDRESSING: WordRow<Addressing> = WordRow {
+pub const CHANNEL_ADDRESSING: WordRow<Addressing> = WordRow {
     table: TableKind::Channel,
     key: Key::Addressing,
     default: Some(Addressing::Normal),
 };
 
 /// The address byte of the frames that a channel receives, unless its addressing is normal.
-pub(crate) const CHANNEL_RX_ADDRESS: NumberRow = NumberRow {
+pub const CHANNEL_RX_ADDRESS: NumberRow = NumberRow {
     table: TableKind::Channel,
     key: Key::RxAddress,
     low: 0,
@@ -208,7 +208,7 @@ pub(crate) const CHANNEL_RX_ADDRESS: NumberRow = NumberRow {
 };
 
 /// The address byte of the frames that a channel sends, unless its addressing is normal.
-pub(crate) const CHANNEL_TX_ADDRESS: NumberRow = NumberRow {
+pub const CHANNEL_TX_ADDRESS: NumberRow = NumberRow {
     table: TableKind::Channel,
     key: Key::TxAddress,
     low: 0,
@@ -217,21 +217,21 @@ pub(crate) const CHANNEL_TX_ADDRESS: NumberRow = NumberRow {
 };
 
 /// Whether a channel is addressed functionally.
-pub(crate) const CHANNEL_FUNCTIONAL: FlagRow = FlagRow {
+pub const CHANNEL_FUNCTIONAL: FlagRow = FlagRow {
     table: TableKind::Channel,
     key: Key::Functional,
     default: false,
 };
 
 /// Whether a channel's frames are filled up to 8 bytes.
-pub(crate) const CHANNEL_PAD: FlagRow = FlagRow {
+pub const CHANNEL_PAD: FlagRow = FlagRow {
     table: TableKind::Channel,
     key: Key::Pad,
     default: false,
 };
 
 /// The most bytes of a frame that a channel sends; 8, 12, 16, 20, 24, 32, 48 or 64.
-pub(crate) const CHANNEL_DL: NumberRow = NumberRow {
+pub const CHANNEL_DL: NumberRow = NumberRow {
     table: TableKind::Channel,
     key: Key::Dl,
     low: 8,
@@ -240,7 +240,7 @@ pub(crate) const CHANNEL_DL: NumberRow = NumberRow {
 };
 
 /// The byte that frames are filled with.
-pub(crate) const CHANNEL_FILL: NumberRow = NumberRow {
+pub const CHANNEL_FILL: NumberRow = NumberRow {
     table: TableKind::Channel,
     key: Key::Fill,
     low: 0,
@@ -249,7 +249,7 @@ pub(crate) const CHANNEL_FILL: NumberRow = NumberRow {
 };
 
 /// The block size that a channel grants; 0 is no limit.
-pub(crate) const CHANNEL_BS: NumberRow = NumberRow {
+pub const CHANNEL_BS: NumberRow = NumberRow {
     table: TableKind::Channel,
     key: Key::Bs,
     low: 0,
@@ -258,7 +258,7 @@ pub(crate) const CHANNEL_BS: NumberRow = NumberRow {
 };
 
 /// The separation time that a channel asks for, as a flow control carries it.
-pub(crate) const CHANNEL_STMIN: NumberRow = NumberRow {
+pub const CHANNEL_STMIN: NumberRow = NumberRow {
     table: TableKind::Channel,
     key: Key::Stmin,
     low: 0,
@@ -267,7 +267,7 @@ pub(crate) const CHANNEL_STMIN: NumberRow = NumberRow {
 };
 
 /// The most flow controls in a row that ask to wait.
-pub(crate) const CHANNEL_WFT_MAX: NumberRow = NumberRow {
+pub const CHANNEL_WFT_MAX: NumberRow = NumberRow {
     table: TableKind::Channel,
     key: Key::WftMax,
     low: 0,
@@ -276,7 +276,7 @@ pub(crate) const CHANNEL_WFT_MAX: NumberRow = NumberRow {
 };
 
 /// The time N_As for the sender's frame, in ticks.
-pub(crate) const CHANNEL_N_AS: NumberRow = NumberRow {
+pub const CHANNEL_N_AS: NumberRow = NumberRow {
     table: TableKind::Channel,
     key: Key::NAs,
     low: 1,
@@ -285,7 +285,7 @@ pub(crate) const CHANNEL_N_AS: NumberRow = NumberRow {
 };
 
 /// The time N_Ar for the receiver's flow control, in ticks.
-pub(crate) const CHANNEL_N_AR: NumberRow = NumberRow {
+pub const CHANNEL_N_AR: NumberRow = NumberRow {
     table: TableKind::Channel,
     key: Key::NAr,
     low: 1,
@@ -294,7 +294,7 @@ pub(crate) const CHANNEL_N_AR: NumberRow = NumberRow {
 };
 
 /// The time N_Bs for the next flow control, in ticks.
-pub(crate) const CHANNEL_N_BS: NumberRow = NumberRow {
+pub const CHANNEL_N_BS: NumberRow = NumberRow {
     table: TableKind::Channel,
     key: Key::NBs,
     low: 1,
@@ -303,7 +303,7 @@ pub(crate) const CHANNEL_N_BS: NumberRow = NumberRow {
 };
 
 /// The time N_Br for the next own flow control, in ticks.
-pub(crate) const CHANNEL_N_BR: NumberRow = NumberRow {
+pub const CHANNEL_N_BR: NumberRow = NumberRow {
     table: TableKind::Channel,
     key: Key::NBr,
     low: 1,
@@ -312,7 +312,7 @@ pub(crate) const CHANNEL_N_BR: NumberRow = NumberRow {
 };
 
 /// The time N_Cs for the next own consecutive frame, in ticks.
-pub(crate) const CHANNEL_N_CS: NumberRow = NumberRow {
+pub const CHANNEL_N_CS: NumberRow = NumberRow {
     table: TableKind::Channel,
     key: Key::NCs,
     low: 1,
@@ -321,7 +321,7 @@ pub(crate) const CHANNEL_N_CS: NumberRow = NumberRow {
 };
 
 /// The time N_Cr for the next consecutive frame, in ticks.
-pub(crate) const CHANNEL_N_CR: NumberRow = NumberRow {
+pub const CHANNEL_N_CR: NumberRow = NumberRow {
     table: TableKind::Channel,
     key: Key::NCr,
     low: 1,
@@ -330,7 +330,7 @@ pub(crate) const CHANNEL_N_CR: NumberRow = NumberRow {
 };
 
 /// All keys of a channel of normal addressing.
-pub(crate) const PLAIN_CHANNEL_KEYS: [Key; 18] = [
+pub const PLAIN_CHANNEL_KEYS: [Key; 18] = [
     Key::Name,
     Key::Bus,
     Key::Rx,
@@ -352,7 +352,7 @@ pub(crate) const PLAIN_CHANNEL_KEYS: [Key; 18] = [
 ];
 
 /// All keys of a channel with an address byte.
-pub(crate) const ADDRESSED_CHANNEL_KEYS: [Key; 20] = [
+pub const ADDRESSED_CHANNEL_KEYS: [Key; 20] = [
     Key::Name,
     Key::Bus,
     Key::Rx,
@@ -376,7 +376,7 @@ pub(crate) const ADDRESSED_CHANNEL_KEYS: [Key; 20] = [
 ];
 
 /// A path's name.
-pub(crate) const PATH_NAME: TextRow = TextRow {
+pub const PATH_NAME: TextRow = TextRow {
     table: TableKind::Path,
     key: Key::Name,
     most: 32,
@@ -384,7 +384,7 @@ pub(crate) const PATH_NAME: TextRow = TextRow {
 };
 
 /// The name of a path's source channel.
-pub(crate) const PATH_FROM: TextRow = TextRow {
+pub const PATH_FROM: TextRow = TextRow {
     table: TableKind::Path,
     key: Key::From,
     most: 32,
@@ -392,7 +392,7 @@ pub(crate) const PATH_FROM: TextRow = TextRow {
 };
 
 /// The names of a path's destination channels.
-pub(crate) const PATH_TO: ListRow = ListRow {
+pub const PATH_TO: ListRow = ListRow {
     table: TableKind::Path,
     key: Key::To,
     least: 1,
@@ -400,7 +400,7 @@ pub(crate) const PATH_TO: ListRow = ListRow {
 };
 
 /// The name of one destination channel.
-pub(crate) const PATH_DESTINATION: TextRow = TextRow {
+pub const PATH_DESTINATION: TextRow = TextRow {
     table: TableKind::Path,
     key: Key::To,
     most: 32,
@@ -408,7 +408,7 @@ pub(crate) const PATH_DESTINATION: TextRow = TextRow {
 };
 
 /// The cells that are received before forwarding begins.
-pub(crate) const PATH_THRESHOLD: NumberRow = NumberRow {
+pub const PATH_THRESHOLD: NumberRow = NumberRow {
     table: TableKind::Path,
     key: Key::Threshold,
     low: 1,
@@ -417,17 +417,17 @@ pub(crate) const PATH_THRESHOLD: NumberRow = NumberRow {
 };
 
 /// Whether a unit is received whole before forwarding begins.
-pub(crate) const PATH_STORE: FlagRow = FlagRow {
+pub const PATH_STORE: FlagRow = FlagRow {
     table: TableKind::Path,
     key: Key::Store,
     default: false,
 };
 
 /// All keys of a path.
-pub(crate) const PATH_KEYS: [Key; 5] = [Key::Name, Key::From, Key::To, Key::Threshold, Key::Store];
+pub const PATH_KEYS: [Key; 5] = [Key::Name, Key::From, Key::To, Key::Threshold, Key::Store];
 
 /// An interface path's name.
-pub(crate) const INTERFACE_NAME: TextRow = TextRow {
+pub const INTERFACE_NAME: TextRow = TextRow {
     table: TableKind::Interface,
     key: Key::Name,
     most: 32,
@@ -435,7 +435,7 @@ pub(crate) const INTERFACE_NAME: TextRow = TextRow {
 };
 
 /// The name of the bus that an interface path leads from.
-pub(crate) const INTERFACE_FROM_BUS: TextRow = TextRow {
+pub const INTERFACE_FROM_BUS: TextRow = TextRow {
     table: TableKind::Interface,
     key: Key::FromBus,
     most: 15,
@@ -443,14 +443,14 @@ pub(crate) const INTERFACE_FROM_BUS: TextRow = TextRow {
 };
 
 /// The identifier of the frames that an interface path takes.
-pub(crate) const INTERFACE_FROM_ID: WordRow<CanId> = WordRow {
+pub const INTERFACE_FROM_ID: WordRow<CanId> = WordRow {
     table: TableKind::Interface,
     key: Key::FromId,
     default: None,
 };
 
 /// The name of the bus that an interface path leads to.
-pub(crate) const INTERFACE_TO_BUS: TextRow = TextRow {
+pub const INTERFACE_TO_BUS: TextRow = TextRow {
     table: TableKind::Interface,
     key: Key::ToBus,
     most: 15,
@@ -458,21 +458,21 @@ pub(crate) const INTERFACE_TO_BUS: TextRow = TextRow {
 };
 
 /// The identifier of the frames that an interface path gives.
-pub(crate) const INTERFACE_TO_ID: WordRow<CanId> = WordRow {
+pub const INTERFACE_TO_ID: WordRow<CanId> = WordRow {
     table: TableKind::Interface,
     key: Key::ToId,
     default: None,
 };
 
 /// The kind of an interface path's queue.
-pub(crate) const INTERFACE_QUEUE: WordRow<QueueKind> = WordRow {
+pub const INTERFACE_QUEUE: WordRow<QueueKind> = WordRow {
     table: TableKind::Interface,
     key: Key::Queue,
     default: Some(QueueKind::Fifo),
 };
 
 /// The most units in an interface path's queue; a queue of the last unit holds one.
-pub(crate) const INTERFACE_DEPTH: NumberRow = NumberRow {
+pub const INTERFACE_DEPTH: NumberRow = NumberRow {
     table: TableKind::Interface,
     key: Key::Depth,
     low: 1,
@@ -481,7 +481,7 @@ pub(crate) const INTERFACE_DEPTH: NumberRow = NumberRow {
 };
 
 /// All keys of an interface path.
-pub(crate) const INTERFACE_KEYS: [Key; 7] = [
+pub const INTERFACE_KEYS: [Key; 7] = [
     Key::Name,
     Key::FromBus,
     Key::FromId,
@@ -492,7 +492,7 @@ pub(crate) const INTERFACE_KEYS: [Key; 7] = [
 ];
 
 /// The name of the path of a cancellation.
-pub(crate) const CANCEL_PATH: TextRow = TextRow {
+pub const CANCEL_PATH: TextRow = TextRow {
     table: TableKind::Cancel,
     key: Key::Path,
     most: 32,
@@ -500,7 +500,7 @@ pub(crate) const CANCEL_PATH: TextRow = TextRow {
 };
 
 /// The tick of a cancellation.
-pub(crate) const CANCEL_TICK: NumberRow = NumberRow {
+pub const CANCEL_TICK: NumberRow = NumberRow {
     table: TableKind::Cancel,
     key: Key::Tick,
     low: 0,
@@ -509,14 +509,14 @@ pub(crate) const CANCEL_TICK: NumberRow = NumberRow {
 };
 
 /// The side that a cancellation ends.
-pub(crate) const CANCEL_ROLE: WordRow<Role> = WordRow {
+pub const CANCEL_ROLE: WordRow<Role> = WordRow {
     table: TableKind::Cancel,
     key: Key::Role,
     default: None,
 };
 
 /// The name of the destination channel that a cancellation ends, if it ends one.
-pub(crate) const CANCEL_TO: TextRow = TextRow {
+pub const CANCEL_TO: TextRow = TextRow {
     table: TableKind::Cancel,
     key: Key::To,
     most: 32,
@@ -524,4 +524,4 @@ pub(crate) const CANCEL_TO: TextRow = TextRow {
 };
 
 /// All keys of a cancellation.
-pub(crate) const CANCEL_KEYS: [Key; 4] = [Key::Path, Key::Tick, Key::Role, Key::To];
+pub const CANCEL_KEYS: [Key; 4] = [Key::Path, Key::Tick, Key::Role, Key::To];

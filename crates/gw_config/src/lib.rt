@@ -1,12 +1,11 @@
-//! The gateway's configuration: the table of its keys, read from a text and printed as one.
+//! The gateway's configuration: the table of its keys, and its reading from a text.
 //!
 //! The keys, their ranges and their defaults are this project's own.
 #![tactic(auto)]
 
 mod config;
-mod keys;
+pub mod keys;
 mod lists;
-mod print;
 mod read;
 mod repeated;
 mod rows;
@@ -16,6 +15,6 @@ pub use config::{
     BusKeys, BusList, CancelKeys, CancelList, CellsList, ChannelKeys, ChannelList, Config,
     InterfaceKeys, InterfaceList, NameList, PathKeys, PathList,
 };
-pub use print::print_config;
 pub use read::read_config;
+pub use rows::{CountRow, FlagRow, ListRow, NumberRow, TextRow, WordRow};
 pub use words::{Addressing, Mode, QueueKind, Role};

@@ -15,54 +15,76 @@ use std::alloc::Global;
 
 /// A key whose value is an integer from `low` to `high`; required where there is no default.
 #[derive(Clone, Copy, Debug)]
-pub(crate) struct NumberRow {
-    pub(crate) table: TableKind,
-    pub(crate) key: Key,
-    pub(crate) low: u32,
-    pub(crate) high: u32,
-    pub(crate) default: Option<u32>,
+pub struct NumberRow {
+    /// The table that it stands in.
+    pub table: TableKind,
+    /// The key.
+    pub key: Key,
+    /// The least value.
+    pub low: u32,
+    /// The greatest value.
+    pub high: u32,
+    /// The value where the key is absent, if it may be.
+    pub default: Option<u32>,
 }
 
 /// A key whose value is a flag.
 #[derive(Clone, Copy, Debug)]
-pub(crate) struct FlagRow {
-    pub(crate) table: TableKind,
-    pub(crate) key: Key,
-    pub(crate) default: bool,
+pub struct FlagRow {
+    /// The table that it stands in.
+    pub table: TableKind,
+    /// The key.
+    pub key: Key,
+    /// The value where the key is absent.
+    pub default: bool,
 }
 
 /// A key whose value is a name of at most `most` bytes, or a file's name.
 #[derive(Clone, Copy, Debug)]
-pub(crate) struct TextRow {
-    pub(crate) table: TableKind,
-    pub(crate) key: Key,
-    pub(crate) most: usize,
-    pub(crate) is_file: bool,
+pub struct TextRow {
+    /// The table that it stands in.
+    pub table: TableKind,
+    /// The key.
+    pub key: Key,
+    /// The most bytes.
+    pub most: usize,
+    /// Whether it is the name of a file.
+    pub is_file: bool,
 }
 
 /// A key whose value is a word; required where there is no default.
 #[derive(Clone, Copy, Debug)]
-pub(crate) struct WordRow<W> {
-    pub(crate) table: TableKind,
-    pub(crate) key: Key,
-    pub(crate) default: Option<W>,
+pub struct WordRow<W> {
+    /// The table that it stands in.
+    pub table: TableKind,
+    /// The key.
+    pub key: Key,
+    /// The choice where the key is absent, if it may be.
+    pub default: Option<W>,
 }
 
 /// A required key whose value is an array of `least` to `most` elements.
 #[derive(Clone, Copy, Debug)]
-pub(crate) struct ListRow {
-    pub(crate) table: TableKind,
-    pub(crate) key: Key,
-    pub(crate) least: u32,
-    pub(crate) most: u32,
+pub struct ListRow {
+    /// The table that it stands in.
+    pub table: TableKind,
+    /// The key.
+    pub key: Key,
+    /// The fewest elements.
+    pub least: u32,
+    /// The most elements.
+    pub most: u32,
 }
 
 /// An array of `low` to `high` tables; required where it may not be empty.
 #[derive(Clone, Copy, Debug)]
-pub(crate) struct CountRow {
-    pub(crate) table: TableKind,
-    pub(crate) low: u32,
-    pub(crate) high: u32,
+pub struct CountRow {
+    /// The kind of the tables.
+    pub table: TableKind,
+    /// The fewest tables.
+    pub low: u32,
+    /// The most tables.
+    pub high: u32,
 }
 
 /// The integer of a row.

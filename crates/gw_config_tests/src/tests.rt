@@ -1,6 +1,6 @@
-use can_frame::CanId;
+use config_text::print_config;
 use gw_base::Bytes;
-use gw_config::{Addressing, Mode, print_config, read_config};
+use gw_config::read_config;
 use gw_settings::ConfigError;
 use std::alloc::Global;
 use std::test::Fail;
@@ -76,69 +76,90 @@ fn each_fault_is_said_with_its_path(rt: HostRuntime) -> Result<(), Fail> {
     Ok(())
 }
 
-/// The base configuration's buses: name, input and output.
-const BUSES: [[&str; 3]; 2] = [
-    ["can0", "can0.log", "can0.out"],
-    ["can1", "can1.log", "can1.out"],
-];
-
-/// The base configuration's channels: name, bus, and the identifiers received and sent.
-const CHANNELS: [(&str, &str, CanId, CanId); 2] = [
-    ("A", "can0", CanId::Std(0x700), CanId::Std(0x708)),
-    ("B", "can1", CanId::Std(0x718), CanId::Std(0x710)),
-];
-
-#[test]
-fn the_base_reads_with_its_defaults(rt: HostRuntime) -> Result<(), Fail> {
-    let config = read_config(rt.alloc(), BASE.as_bytes())?;
-    let ticks = [config.period, config.window, config.linger];
-    assert_eq!(rt; ticks, [1000, 1, 3000]);
-    assert_eq!(rt; config.mode, Mode::Serial);
-    assert_eq!(rt; config.buffers.items(), [4].as_slice());
-    assert_eq!(rt; config.bus.items().len(), BUSES.len());
-    for (bus, [name, log, out]) in config.bus.items().iter().zip(BUSES) {
-        assert_eq!(rt; bus.name.items(), name.as_bytes());
-        assert_eq!(rt; bus.log.items(), log.as_bytes());
-        assert_eq!(rt; bus.out.items(), out.as_bytes());
-        assert_eq!(rt; (bus.fd, bus.brs, bus.budget), (false, false, 8));
-    }
-    Ok(())
-}
-
-#[test]
-fn the_base_channels_have_their_defaults(rt: HostRuntime) -> Result<(), Fail> {
-    let config = read_config(rt.alloc(), BASE.as_bytes())?;
-    assert_eq!(rt; config.channel.items().len(), CHANNELS.len());
-    for (channel, (name, bus, rx, tx)) in config.channel.items().iter().zip(CHANNELS) {
-        assert_eq!(rt; channel.name.items(), name.as_bytes());
-        assert_eq!(rt; channel.bus.items(), bus.as_bytes());
-        assert_eq!(rt; (channel.rx, channel.tx), (rx, tx));
-        assert_eq!(rt; channel.addressing, Addressing::Normal);
-        let shape = [
-            channel.dl,
-            channel.fill,
-            channel.bs,
-            channel.stmin,
-            channel.wft_max,
-        ];
-        assert_eq!(rt; shape, [8, 204, 0, 0, 16]);
-        let timers = [
-            channel.n_as,
-            channel.n_ar,
-            channel.n_bs,
-            channel.n_br,
-            channel.n_cs,
-            channel.n_cr,
-        ];
-        assert_eq!(rt; timers, [1000, 1000, 1000, 10, 1000, 1000]);
-    }
-    Ok(())
-}
-
 /// The text of the configuration that a text spells.
 fn printed(alloc: Global, text: &[u8]) -> Result<Bytes, ConfigError> {
     let config = read_config(alloc, text)?;
     Ok(print_config(alloc, &config)?)
+}
+
+/// The base with each key that it leaves out at its default, in alphabetic order.
+const PRINTED: &str = r#"buffers = [4]
+cancel = []
+interface = []
+linger = 3000
+mode = "serial"
+period = 1000
+window = 1
+
+[[bus]]
+brs = false
+budget = 8
+fd = false
+log = "can0.log"
+name = "can0"
+out = "can0.out"
+
+[[bus]]
+brs = false
+budget = 8
+fd = false
+log = "can1.log"
+name = "can1"
+out = "can1.out"
+
+[[channel]]
+addressing = "normal"
+bs = 0
+bus = "can0"
+dl = 8
+fill = 204
+functional = false
+n_ar = 1000
+n_as = 1000
+n_br = 10
+n_bs = 1000
+n_cr = 1000
+n_cs = 1000
+name = "A"
+pad = false
+rx = "700"
+stmin = 0
+tx = "708"
+wft_max = 16
+
+[[channel]]
+addressing = "normal"
+bs = 0
+bus = "can1"
+dl = 8
+fill = 204
+functional = false
+n_ar = 1000
+n_as = 1000
+n_br = 10
+n_bs = 1000
+n_cr = 1000
+n_cs = 1000
+name = "B"
+pad = false
+rx = "718"
+stmin = 0
+tx = "710"
+wft_max = 16
+
+[[path]]
+from = "A"
+name = "p"
+store = false
+threshold = 1
+to = ["B"]
+"#;
+
+#[test]
+fn the_base_has_its_defaults(rt: HostRuntime) -> Result<(), Fail> {
+    let text = printed(rt.alloc(), BASE.as_bytes())?;
+    assert_eq!(rt; text.items(), PRINTED.as_bytes());
+    Ok(())
 }
 
 #[test]

@@ -24,7 +24,8 @@ use Rattle.tp_sender.specs.declared.set.TxSet.{TxSet}
 use Rattle.gw_law.specs.Delivery.{AreWholeRuns, Delivers, Delivery, DeliveryLaw, IsNamed, Names, delivery_of}
 use Rattle.receiver_law.specs.Source.{CountsFrom, sessions_in}
 use Rattle.sender_law.specs.Transfer.{GoesOnWith, SendsFor, Tells, Transfer, TransferLaw, has_sent, transfer_of}
-use Rattle.receiver_law.proofs.Openings.{Entry, entries-are, entries_told, entry_told, openings, writing}
+use Rattle.receiver_law.proofs.Entries.{Entry, entries_told, entry_told, writing}
+use Rattle.receiver_law.proofs.Openings.{entries-are, openings}
 use Rattle.hub_core.proofs.Sides.{cells_at-there}
 use Rattle.receiver_law.proofs.SourceLaws.{idle-of, source_law_of}
 use Rattle.receiver_law.proofs.Tellings.{TellsPut}

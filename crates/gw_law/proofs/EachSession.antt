@@ -15,7 +15,8 @@ use Rattle.tp_sender.specs.declared.set.TxSet.{TxSet}
 use Rattle.gw_law.specs.Delivery.{AreOfEach, AreWholeRuns}
 use Rattle.receiver_law.specs.Source.{CountsFrom, sessions_in}
 use Rattle.sender_law.specs.Transfer.{NumberedFrom}
-use Rattle.receiver_law.proofs.Openings.{entries-are, entries_told, entry_told, writing}
+use Rattle.receiver_law.proofs.Openings.{entries-are}
+use Rattle.receiver_law.proofs.Entries.{entries_told, entry_told, writing}
 use Rattle.receiver_law.proofs.SourceLaws.{source_law_of}
 use Rattle.sender_law.proofs.TxLaw.{so-far, world_of}
 use Rattle.sender_law.proofs.TxMoves.{lives-none}

@@ -206,7 +206,7 @@ record EndsSo (earlier : List RxTurn) (whole : List SessionRecord) : Type 0 wher
 end-so : (rx : RxSet) (last : ℕ) (turns earlier : List RxTurn) → EndsReceiving last turns → HasReceived rx (turns ++ earlier) → EndsSo earlier (records_by (turns ++ earlier))
 end-so rx last [] earlier is happened = absurd is
 end-so rx last (turn ∷ []) earlier is happened =
-    record { more = turn.did.records; is = refl; none = end-tells rx (state_after rx_new earlier).next (state_after rx_new earlier).seq (state_after rx_new earlier).busy turn.did (subst (λ e. RxStep rx (state_after rx_new earlier) e turn.did) is.0 happened.1) }
+    record { more = turn.did.records; is = refl; none = end-tells rx (state_after rx_new earlier) turn.did (subst (λ e. RxStep rx (state_after rx_new earlier) e turn.did) is.0 happened.1) }
 end-so rx last (turn ∷ next ∷ more) earlier is happened = let no : next ∷ more ≡ [] = is.2 in cc
 
 in-ticks : (turns : List RxTurn) (more : List SessionRecord) (k : ℕ) (session : SessionRecord) → session.result ≡ NoReaders → AllByRecursion (λ (s : SessionRecord). s.result ≡ NoReaders → ⊥) more → Joined (records_by turns) more k session → slice_get (records_by turns) k ≡ Some session

@@ -4,11 +4,10 @@ use Rattle.gw_law.specs.Lawful.{Lawful}
 use Rattle.gw_law.specs.Small.{IsSmall}
 use Rattle.gw_law.specs.Run.{HasLawfulLimits, IsRun, Work, route_of}
 use Rattle.gw_law.proofs.Emission.{bus_law_of}
-use Rattle.gw_law.proofs.FlowControls.{flow_control_law_of}
 use Rattle.gw_law.proofs.JointCauses.{joint_causes}
 use Rattle.gw_law.proofs.PoolRuns.{pool_of}
 use Rattle.gw_law.proofs.Records.{records_law_of}
-use Rattle.gw_law.proofs.ReceptionCauses.{reception_causes}
+use Rattle.gw_law.proofs.RxOfRun.{flow_controls_of, receptions_of}
 use Rattle.gw_law.proofs.Timely.{timely}
 use Rattle.gw_law.proofs.TxOfRun.{causes-of-run}
 use Rattle.gw_law.proofs.Wholes.{route-delivers, route-each, route-source}
@@ -22,7 +21,7 @@ pub laws : (rx : RxSet) (tx : TxSet) (shape : Shape) (source_budget budget : ℕ
     IsRun rx tx sizes last count free ticks end → Lawful (route_of rx tx shape source_budget budget sizes last count free ticks end)
 laws rx tx shape source_budget budget sizes last count free ticks end limits small run =
     let o : WholeRun = record { rx = rx; tx = tx; shape = shape; source_budget = source_budget; budget = budget; sizes = sizes; last = last; count = count; free = free; ticks = ticks; end = end; run = run } in
-    let received = reception_causes o limits.shape_is limits.n_cr small in
+    let received = receptions_of o limits.shape_is limits.n_cr small in
     record {
       records = records_law_of o;
       source = route-source o;
@@ -31,7 +30,7 @@ laws rx tx shape source_budget budget sizes last count free ticks end limits sma
       timely = timely o;
       pool = pool_of o;
       bus = bus_law_of o limits.source_budget_is limits.budget_is;
-      controls = flow_control_law_of o limits.n_ar;
+      controls = flow_controls_of o limits.n_ar;
       receptions = received.0;
       never_boxed = received.1;
       transmissions = causes-of-run o limits.n_bs;

@@ -1,6 +1,5 @@
 mod WholeRun
 pub mod Emission
-pub mod FlowControls
 pub mod OwnCalls
 pub mod TxOfRun
 mod Deliveries
@@ -16,11 +15,10 @@ mod FreeSets
 mod Pools
 pub mod PoolRuns
 pub mod RxLooks
-pub mod ReceptionCauses
 mod Records
 pub mod Laws
 mod JointTicks
 mod JointEnds
 mod JointWaits
 pub mod JointCauses
-mod SettledTicks
+mod RxOfRun

@@ -30,7 +30,8 @@ use Rattle.gw_law.specs.Pool.{AreAllOver, AreAllUsed, AreFreed, AreNamed, Asks, 
 use Rattle.receiver_law.specs.Source.{CountsFrom, Tells, is_overflow, sessions_in}
 use Rattle.gw_law.proofs.Deliveries.{find}
 use Rattle.gw_law.proofs.FreeSets.{whole-again}
-use Rattle.receiver_law.proofs.Openings.{Denied, Entry, Granted, Outcome, entries-are, entries_told, entry_told, need_by, need_in, needs_by, openings, outcome_by, outcome_going, outcome_of, outcome_told, writing}
+use Rattle.receiver_law.proofs.Entries.{Denied, Entry, Granted, Outcome, entries_told, entry_told, need_by, need_in, needs_by, outcome_by, outcome_going, outcome_of, outcome_told, writing}
+use Rattle.receiver_law.proofs.Openings.{entries-are, openings}
 use Rattle.receiver_law.proofs.SourceLaws.{source_law_of}
 use Rattle.gw_base.proofs.Lists.{mapped-at, zip-both}
 

@@ -10,9 +10,10 @@ use Rattle.tp_receiver.specs.declared.set.RxSet.{RxSet}
 use Rattle.gw_law.specs.Records.{IsOfSource, RecordsLaw}
 use Rattle.gw_law.specs.Run.{Route, Work, turns_of}
 use Rattle.receiver_law.proofs.FlowControls.{IsKnown, begins-at, start-at}
-use Rattle.gw_law.proofs.FlowControls.{known-of-run}
+use Rattle.gw_law.proofs.RxOfRun.{known_of}
 use Rattle.gw_law.proofs.Fronts.{IsTimed, TurnIn, WorkIn, rises-below, run-rising, run-timed, turns-in}
-use Rattle.gw_law.proofs.JointTicks.{EndsAt, tells-now}
+use Rattle.tp_receiver.specs.Effects.{IsMadeNow}
+use Rattle.tp_receiver.proofs.OwnSteps.{own-step}
 use Rattle.gw_base.proofs.Lists.{all-join, all-weaker}
 use Rattle.gw_law.proofs.TxOfRun.{records-of-run}
 use Rattle.gw_law.proofs.WholeRun.{WholeRun, route, works_of}
@@ -22,8 +23,8 @@ sessions-of : (set : RxSet) (last : ℕ) (turns : List RxTurn) → HasReceived s
 sessions-of set last [] happened all = tt
 sessions-of set last (turn ∷ earlier) happened all =
     all-join (λ (told : SessionRecord). (told.chan ≡ set.chan) × (told.end.0 ≤ last)) (records_by earlier) turn.did.records (sessions-of set last earlier happened.2 all.1)
-    (all-weaker (EndsAt set turn.did.tick) (λ (told : SessionRecord). (told.chan ≡ set.chan) × (told.end.0 ≤ last)) turn.did.records (λ told is. (is.0, omega (arith, is.1, all.0)))
-    (tells-now set (state_after rx_new earlier).next (state_after rx_new earlier).seq (state_after rx_new earlier).busy turn.event turn.did happened.1))
+    (all-weaker (IsMadeNow set turn.did.tick) (λ (told : SessionRecord). (told.chan ≡ set.chan) × (told.end.0 ≤ last)) turn.did.records (λ told is. (is.0, omega (arith, is.1, all.0)))
+    (own-step set (state_after rx_new earlier) turn.event turn.did happened.1).ends)
 
 sessions-apart : (r : Route) → IsKnown r.source → (place : ℕ) (told next : SessionRecord) → slice_get r.source.sessions place ≡ Some told → slice_get r.source.sessions (place + 1) ≡ Some next → told.end.0 ≤ next.begin.0
 sessions-apart r known place told next there after =
@@ -40,5 +41,5 @@ records_law_of o =
     record {
       sessions = all-weaker (λ (told : SessionRecord). (told.chan ≡ o.rx.chan) × (told.end.0 ≤ o.last)) (IsOfSource r) r.source.sessions (λ told is. record { chan = is.0; end = is.1 }) (sessions-of o.rx o.last (turns_of works) o.run.received (turns-in (λ (t : ℕ). t ≤ o.last) works timed within));
       dests = records-of-run o;
-      sessions_follow = sessions-apart r (known-of-run o);
+      sessions_follow = sessions-apart r (known_of o);
     }

@@ -15,14 +15,14 @@ use Rattle.tp_receiver.specs.declared.set.RxSet.{RxSet}
 use Rattle.tp_sender.specs.declared.set.TxSet.{TxSet}
 use Rattle.receiver_law.specs.Parts.{AreLooks, LooksCount}
 use Rattle.gw_law.specs.Run.{AreTicks, Work, moments_of, turns_of, view_of}
-use Rattle.receiver_law.proofs.RxRooms.{AllLook, LooksWell}
+use Rattle.receiver_law.specs.Looks.{AllLook, LooksWell}
 use Rattle.receiver_law.proofs.Sessions.{AllFilled, all-filled, stored_in}
 use Rattle.gw_law.proofs.Wholes.{OwnSessions, sessions-own}
 use Rattle.gw_base.proofs.Lists.{all-front}
 use Rattle.hub_core.proofs.Growing.{grows-append}
 use Rattle.hub_core.proofs.Turns.{calls-append, happened-front}
 use Rattle.hub_core.proofs.Beside.{sessions-grown}
-use Rattle.receiver_law.proofs.Openings.{IsBelow}
+use Rattle.receiver_law.proofs.Entries.{IsBelow}
 use Rattle.gw_law.proofs.WholeRun.{WholeRun, works_of}
 
 -- the cells of the buffers of a path's sessions

@@ -28,7 +28,8 @@ use Rattle.receiver_law.proofs.Begins.{Split, begin-at, begin_going, begins-are,
 use Rattle.gw_law.proofs.Deliveries.{front-bytes}
 use Rattle.gw_law.proofs.EachSession.{at-most}
 use Rattle.gw_law.proofs.Fronts.{AreRising, IsTimed, UpTo, WorkIn, as-far-up-to, moments-append, moments-in, rises-below, run-rising, run-timed, turns-append, turns-in, up-to}
-use Rattle.receiver_law.proofs.Openings.{openings, writing}
+use Rattle.receiver_law.proofs.Openings.{openings}
+use Rattle.receiver_law.proofs.Entries.{writing}
 use Rattle.sender_law.proofs.Origins.{OfLive, OfTold, Originates, originates}
 use Rattle.gw_law.proofs.RxUpTo.{put-up-to}
 use Rattle.hub_core.proofs.Sides.{cells_at, cells_at-there}

@@ -1,6 +1,7 @@
 -- The laws of a run over one path with one destination: what its logs, its outputs and its report say together.
 use Rattle.gw_law.specs.Delivery.{AreOfEach, DeliveryLaw}
 use Rattle.gw_law.specs.Emission.{BusLaw}
+use Rattle.receiver_law.specs.Channel.{is_full}
 use Rattle.receiver_law.specs.FlowControls.{FlowControlLaw}
 use Rattle.gw_law.specs.JointCauses.{JointCauses}
 use Rattle.gw_law.specs.PoolOfRoute.{PoolOf}
@@ -28,10 +29,10 @@ pub record Lawful (r : Route) : Type 0 where
   pub pool : PoolOf r
   -- what each bus sends in a tick
   pub bus : BusLaw r
-  -- which flow controls leave
-  pub controls : FlowControlLaw r.source
+  -- which flow controls leave, where their bus isn't full
+  pub controls : FlowControlLaw (is_full r.source) r.source
   -- each record comes of its cause, and no earlier one is passed over
-  pub receptions : AreCaused r.source
+  pub receptions : AreCaused (is_full r.source) r.source
   pub never_boxed : AreNeverBoxed r.source
   pub transmissions : TransmissionCauses r.leg
   pub joint : JointCauses r

@@ -5,12 +5,12 @@ use Rattle.gw_depot.specs.Fault.{Blame, Rose}
 use Rattle.gw_depot.specs.Files.{Files}
 use Rattle.gw_run.specs.declared.config.ConfigStop.{ConfigStop}
 use Rattle.gw_run.specs.declared.config.ConfigStop.TheVariants.{Fault as ReadFails, Memory as NoMemory, TooLong, Refused}
-use Rattle.gw_run.specs.declared.log.LineRefusal.{LineRefusal}
-use Rattle.gw_run.specs.declared.log.LineRefusal.TheVariants.{Unbuilt as LineNotBuilt, Bad}
-use Rattle.gw_run.specs.declared.log.LineStop.TheVariants.{Refused as RefusedLine, Limit as LineLimit, Memory as LineMemory}
-use Rattle.gw_run.specs.declared.log.LogStop.{LogStop}
-use Rattle.gw_run.specs.declared.log.LogStop.TheVariants.{Fault, Line as AtLine}
-use Rattle.gw_run.specs.declared.log.Stamped.{Stamped}
+use Rattle.candump_log.specs.declared.log.LineRefusal.{LineRefusal}
+use Rattle.candump_log.specs.declared.log.LineRefusal.TheVariants.{Unsupported as LineNotBuilt, Bad}
+use Rattle.candump_log.specs.declared.log.LineStop.TheVariants.{Refused as RefusedLine, Limit as LineLimit, Memory as LineMemory}
+use Rattle.candump_log.specs.declared.log.LogStop.{LogStop}
+use Rattle.candump_log.specs.declared.log.LogStop.TheVariants.{Fault, Line as AtLine}
+use Rattle.candump_log.specs.declared.log.Stamped.{Stamped}
 use Rattle.gw_run.specs.declared.status.FileRole.{FileRole}
 use Rattle.gw_run.specs.declared.status.FileRole.TheVariants.{Config, Log, Out, Report, Say}
 use Rattle.gw_run.specs.declared.status.Form.TheVariants.{Configuration as WholeConfiguration, Line}
@@ -21,7 +21,8 @@ use Rattle.gw_run.specs.Causes.{IsCause, IsFault, IsNamed, IsSetup, LeavesFiles,
 use Rattle.gw_run.specs.Config.{FaultsOnConfig, ReadsConfig, StopsConfig, stop_status}
 use Rattle.gw_run.specs.Decided.{IsDecided, IsNameIn}
 use Rattle.gw_run.specs.Forwarded.{Forwards, HoldsLog, IfDone, IsConfigured}
-use Rattle.gw_run.specs.Log.{LogStops, ReadsLog}
+use Rattle.candump_log.specs.Log.{LogStops, ReadsLog}
+use Rattle.gw_run.specs.Log.{source_of}
 use Rattle.gw_run.specs.Results.{ReadFailed, WriteFailed}
 use Rattle.gw_run.specs.Setup.{IsBuiltConfig, Setup}
 
@@ -33,7 +34,7 @@ line-cause before config report setup lines source number LineNotBuilt configure
 line-cause before config report setup lines source number (Bad fault) configured holds stops = (setup, configured, record { lines = lines; source = source; source_log = holds; stops = stops })
 
 pub second-cause : (told : Bool) (before : Files) (config report : List ℕ) (setup : Setup) (lines : ℕ) (source : List Stamped) (stop : LogStop) (result : Status) → result ≡ log_status DESTINATION stop →
-    told ≡ true → IsConfigured before config report setup → ReadsLog told before setup.source lines source → lines ≤ 1_000_000 → LogStops told before setup.destination (1_000_000 - lines) stop →
+    told ≡ true → IsConfigured before config report setup → ReadsLog told before (source_of setup.source) lines source → lines ≤ 1_000_000 → LogStops told before (source_of setup.destination) (1_000_000 - lines) stop →
     IsCause before config report result
 second-cause told before config report setup lines source Fault result same is configured reads few stops = subst (λ r. IsCause before config report r) (sym same) tt
 second-cause told before config report setup lines source (AtLine LineMemory) result same is configured reads few stops = subst (λ r. IsCause before config report r) (sym same) tt
@@ -41,7 +42,7 @@ second-cause told before config report setup lines source (AtLine (RefusedLine n
     let stopped = stops is in
     subst (λ r. IsCause before config report r) (sym same) (
     line-cause before config report setup lines source number refusal configured
-    (record { content = reads.content; there = reads.there is; built = reads.built; few = few })
+    (record { content = reads.content; there = reads.there is; built = reads.is_log; few = few })
     (record { content = stopped.content; there = stopped.there; stops = stopped.stops })
     )
 second-cause told before config report setup lines source (AtLine LineLimit) result same is configured reads few stops =
@@ -54,7 +55,7 @@ second-cause told before config report setup lines source (AtLine LineLimit) res
         inr (record {
           lines = lines;
           source = source;
-          source_log = record { content = reads.content; there = reads.there is; built = reads.built; few = few };
+          source_log = record { content = reads.content; there = reads.there is; built = reads.is_log; few = few };
           passes = record { content = stopped.content; there = stopped.there; goes_past = stopped.stops };
         }),
       ),

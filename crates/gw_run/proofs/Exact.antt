@@ -4,9 +4,9 @@ use Rattle.candump_line.specs.declared.fault.LineFault.{LineFault}
 use Rattle.gw_base.specs.declared.numbers.BusNo.{BusNo}
 use Rattle.gw_depot.specs.Fault.{Blame, Rose}
 use Rattle.gw_depot.specs.Files.{Files}
-use Rattle.gw_run.specs.declared.log.LineRefusal.{LineRefusal}
-use Rattle.gw_run.specs.declared.log.LineRefusal.TheVariants.{Unbuilt as LineNotBuilt, Bad as BadLine}
-use Rattle.gw_run.specs.declared.log.Stamped.{Stamped}
+use Rattle.candump_log.specs.declared.log.LineRefusal.{LineRefusal}
+use Rattle.candump_log.specs.declared.log.LineRefusal.TheVariants.{Unsupported as LineNotBuilt, Bad as BadLine}
+use Rattle.candump_log.specs.declared.log.Stamped.{Stamped}
 use Rattle.gw_run.specs.declared.status.FileRole.{FileRole}
 use Rattle.gw_run.specs.declared.status.FileRole.TheVariants.{Config, Log, Out, Report, Say}
 use Rattle.gw_run.specs.declared.status.Form.{Form}
@@ -22,8 +22,9 @@ use Rattle.gw_run.specs.Results.{ReadFailed, WriteFailed}
 use Rattle.gw_run.specs.Setup.{Bus, IsBuiltConfig, Setup}
 use Rattle.gw_run.specs.Start.{stamps_of}
 use Rattle.gw_run.specs.Forwarded.{Forwards, HoldsLog, IfDone, IsBuilt, IsConfigured, HasLawfulTicks, last_of}
-use Rattle.gw_run.specs.Log.{IsBuiltLog, GoesPast, StopsAt}
-use Rattle.gw_run.proofs.Cuts.{built-once, stops-once, stops-or_built, stops-or_passes, passes-or_built}
+use Rattle.candump_log.specs.Log.{GoesPast, StopsAt}
+use Rattle.candump_log.proofs.Cuts.{taken-once, stops-once, stops-or_taken, stops-or_passes, passes-or_taken}
+use Rattle.gw_run.specs.Log.{IsBuiltLog, source_of}
 use Rattle.gw_run.proofs.Refused.{Bad, ConfigEnd, ConfigIs, Good, Long, config-once}
 use Rattle.gw_run.proofs.Setups.{setup-once}
 use Rattle.gw_run.proofs.Starts.{start-once}
@@ -44,17 +45,17 @@ Ends before bus most (Whole count frames) = HoldsLog before bus most count frame
 stops-holds : (before : Files) (bus : Bus) (most number : ℕ) (refusal : LineRefusal) (count : ℕ) (frames : List Stamped) → StopsLog before bus most number refusal → ¬ HoldsLog before bus most count frames
 stops-holds before bus most number refusal count frames stops holds =
     let same = same-some holds.there stops.there in
-    stops-or_built bus most stops.content number refusal count frames stops.stops (subst (λ c. IsBuiltLog bus c count frames) same holds.built)
+    stops-or_taken (source_of bus) most stops.content number refusal count frames stops.stops (subst (λ c. IsBuiltLog bus c count frames) same holds.built)
 
 stops-passes : (before : Files) (bus : Bus) (most number : ℕ) (refusal : LineRefusal) → StopsLog before bus most number refusal → ¬ PassesLog before bus most
 stops-passes before bus most number refusal stops past =
     let same = same-some past.there stops.there in
-    stops-or_passes bus most stops.content number refusal stops.stops (subst (λ c. GoesPast bus c most) same past.goes_past)
+    stops-or_passes (source_of bus) most stops.content number refusal stops.stops (subst (λ c. GoesPast (source_of bus) c most) same past.goes_past)
 
 passes-holds : (before : Files) (bus : Bus) (most count : ℕ) (frames : List Stamped) → PassesLog before bus most → ¬ HoldsLog before bus most count frames
 passes-holds before bus most count frames past holds =
     let same = same-some holds.there past.there in
-    passes-or_built bus most past.content count frames holds.few past.goes_past (subst (λ c. IsBuiltLog bus c count frames) same holds.built)
+    passes-or_taken (source_of bus) most past.content count frames holds.few past.goes_past (subst (λ c. IsBuiltLog bus c count frames) same holds.built)
 
 same_stop : (m n : ℕ) (r s : LineRefusal) → (m ≡ n) × (r ≡ s) → AtLine m r ≡ AtLine n s
 same_stop m n r s same = ap (λ k. AtLine k r) same.0 ∙ ap (AtLine n) same.1
@@ -65,7 +66,7 @@ same_whole m n frames frames' same = ap (λ k. Whole k frames) same.0 ∙ ap (Wh
 end-once : (before : Files) (bus : Bus) (most : ℕ) (e f : LogEnd) → Ends before bus most e → Ends before bus most f → e ≡ f
 end-once before bus most (AtLine m r) (AtLine n s) one other =
     let same = same-some one.there other.there in
-    same_stop m n r s (stops-once bus most other.content m n r s (subst (λ c. StopsAt bus most c m r) same one.stops) other.stops)
+    same_stop m n r s (stops-once (source_of bus) most other.content m n r s (subst (λ c. StopsAt (source_of bus) most c m r) same one.stops) other.stops)
 end-once before bus most (AtLine m r) Past one other = absurd (stops-passes before bus most m r one other)
 end-once before bus most (AtLine m r) (Whole count frames) one other = absurd (stops-holds before bus most m r count frames one other)
 end-once before bus most Past (AtLine n s) one other = absurd (stops-passes before bus most n s other one)
@@ -75,7 +76,7 @@ end-once before bus most (Whole count frames) (AtLine n s) one other = absurd (s
 end-once before bus most (Whole count frames) Past one other = absurd (passes-holds before bus most count frames other one)
 end-once before bus most (Whole m frames) (Whole n frames') one other =
     let same = same-some one.there other.there in
-    same_whole m n frames frames' (built-once bus other.content m n frames frames' (subst (λ c. IsBuiltLog bus c m frames) same one.built) other.built)
+    same_whole m n frames frames' (taken-once (source_of bus) other.content m n frames frames' (subst (λ c. IsBuiltLog bus c m frames) same one.built) other.built)
 
 -- ---- how the ticks end
 

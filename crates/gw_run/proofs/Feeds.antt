@@ -5,7 +5,7 @@ use Rattle.std.specs.List.{AllByRecursion}
 use Rattle.std.proofs.lemmas.List.Elements.{recursion_from_All}
 use Rattle.can_frame.specs.Frame.{CanFrame}
 use Rattle.tick_clock.specs.Ticks.{tick_at}
-use Rattle.gw_run.specs.declared.log.Stamped.{Stamped}
+use Rattle.candump_log.specs.declared.log.Stamped.{Stamped}
 use Rattle.gw_run.specs.Feed.{ComeAfter, ComeWithin}
 use Rattle.gw_run.specs.Frames.{InTick, greatest_tick, in_ticks, in_ticks_from}
 

@@ -3,7 +3,6 @@ pub mod Barriers
 pub mod Beginning
 pub mod CanTell
 pub mod Checked
-pub mod Cuts
 pub mod Decided
 pub mod Endings
 pub mod Exact
@@ -11,8 +10,6 @@ pub mod Feeds
 pub mod Fresh
 pub mod Leavings
 pub mod Left
-pub mod LineFeeds
-pub mod Logs
 pub mod Lying
 pub mod Names
 pub mod Onward
@@ -25,7 +22,6 @@ pub mod Same
 pub mod Saying
 pub mod Setups
 pub mod Starts
-pub mod Stopping
 pub mod Telling
 pub mod Ticks
 pub mod TxMoments

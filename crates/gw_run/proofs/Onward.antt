@@ -9,7 +9,7 @@ use Rattle.tick_clock.specs.declared.clock.Clock.{Clock}
 use Rattle.tp_attempts.specs.Seen.{Seen, seen_frame}
 use Rattle.tp_unit.specs.Reading.{unit_of}
 use Rattle.gw_run.specs.declared.gateway.Gateway.{Gateway}
-use Rattle.gw_run.specs.declared.log.Stamped.{Stamped}
+use Rattle.candump_log.specs.declared.log.Stamped.{Stamped}
 use Rattle.gw_run.specs.declared.machines.Machines.{Machines}
 use Rattle.gw_run.specs.Answers.{IsPlainAnswer, IsPlainControl}
 use Rattle.gw_run.specs.Feed.{ComeAfter, ComeWithin, TakesFirst}

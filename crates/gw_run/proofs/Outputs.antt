@@ -11,10 +11,10 @@ use Rattle.candump_line.specs.declared.line.Line.TheVariants.{Frame}
 use Rattle.candump_line.proofs.Written.{line-back, line-shown}
 use Rattle.tick_clock.specs.Ticks.{stamp_after}
 use Rattle.tp_unit.specs.Box.{Written}
-use Rattle.gw_run.specs.declared.log.LineRefusal.{LineRefusal}
-use Rattle.gw_run.specs.declared.log.Stamped.{Stamped}
-use Rattle.gw_run.specs.Line.{line_taken, taken_of, without_return}
-use Rattle.gw_run.specs.Log.{AreTaken, HasNoFeed, IsLog, ended, frames_of, given}
+use Rattle.candump_log.specs.declared.log.LineRefusal.{LineRefusal}
+use Rattle.candump_log.specs.declared.log.Stamped.{Stamped}
+use Rattle.candump_log.specs.Line.{line_taken, taken_of, without_return}
+use Rattle.candump_log.specs.Log.{AreTaken, HasNoFeed, IsLog, ended, frames_of, given}
 use Rattle.gw_run.specs.Output.{IsLogOf, IsReadable, output_text, stamped_of}
 
 -- no frame is held for unbuilt

@@ -3,8 +3,8 @@ use Rattle.std.proofs.Common.{◌≡◌, ℕ, ◌+◌, ◌≤◌, Bool, true, Li
 use Rattle.std.proofs.Math.Seq.{take-add, take-length}
 use Rattle.gw_depot.specs.Fault.{Blame}
 use Rattle.gw_depot.specs.Files.{Files, OthersStay, AppendsFile, ReadsFile}
+use Rattle.gw_depot.proofs.ReadLemmas.{read_within, take-whole}
 use Rattle.gw_run.specs.Whole.{IsTooLong}
-use Rattle.gw_base.proofs.Lists.{same-some}
 
 -- so many bytes of the text were appended, and nothing failed
 pub record Appended (told : Bool) (old new : Files) (name text : List ℕ) (done : ℕ) : Type 0 where
@@ -17,9 +17,6 @@ pub record Appended (told : Bool) (old new : Files) (name text : List ℕ) (done
 pub record NoFault (faults faults' : ℕ) (blame blame' : Blame) : Type 0 where
   pub later : faults ≤ faults'
   pub left : blame' ≡ blame
-
-pub take-whole : (xs : List ℕ) (n : ℕ) → n ≡ length xs → take n xs ≡ xs
-take-whole xs n all = rw all (take-length xs)
 
 -- what is there
 pub value_of : {X : Type 0} (o : Option X) → IsSome o → (x : X) × (o ≡ Some x)
@@ -40,16 +37,6 @@ appended_more told old mid new name text done count so_far piece is_rest fits ad
       ∙ ap Some (append_assoc before (take done text) (take count piece) ∙ ap (λ t. before ++ t) (ap (λ t. take done text ++ take count t) is_rest ∙ sym (take-add done count text)));
   others = λ is other ne. (adds is).others other ne ∙ so_far.others is other ne;
 }
-
--- as many bytes as were counted lie past the place that was read from
-pub read_within : (files : Files) (name got content : List ℕ) (at count : ℕ) →
-    ReadsFile files name at count got → length got ≡ count → files name ≡ Some content → at ≤ length content →
-    (got ≡ take count (drop at content)) × (at + count ≤ length content)
-read_within files name got content at count reads long there inside =
-    let same : reads.content ≡ content = same-some reads.there there in
-    let bytes : got ≡ take count (drop at content) = reads.bytes ∙ ap (λ c. take count (drop at c)) same in
-    let most : count ≤ length (drop at content) = rw (← long, bytes) (rw length-take (omega arith)) in
-    (bytes, let rest : length (drop at content) ≡ length content - at = length-drop at content in omega arith)
 
 -- the bytes are the beginning of the file
 pub record Fronts (told : Bool) (files : Files) (name bytes : List ℕ) : Type 0 where

@@ -2,37 +2,38 @@
 use Rattle.std.proofs.Common.{◌≡◌, ℕ, ◌-◌, ◌≤◌, Bool, true, List}
 use Rattle.std.specs.String.{string_bytes}
 use Rattle.gw_depot.specs.Files.{Files}
-use Rattle.gw_run.specs.declared.log.Stamped.{Stamped}
+use Rattle.candump_log.specs.declared.log.Stamped.{Stamped}
 use Rattle.gw_run.specs.declared.plan.Plan.{Plan}
 use Rattle.gw_run.specs.declared.status.Status.{Status}
 use Rattle.gw_run.specs.declared.status.Status.TheVariants.{Ok, Accepted, Usage, ConfigRefused, LogRefused, Unbuilt, ReadFault, WriteFault, Memory, Limit}
 use Rattle.gw_run.specs.declared.status.Which.TheVariants.{ConfigBytes, Lines, Ticks}
 use Rattle.gw_run.specs.Causes.{IsCause, StopsPlan}
 use Rattle.gw_run.specs.Forwarded.{BeginsToForward, Forwards, IsBuilt, IsConfigured}
-use Rattle.gw_run.specs.Log.{ReadsLog}
+use Rattle.candump_log.specs.Log.{ReadsLog}
+use Rattle.gw_run.specs.Log.{source_of}
 use Rattle.gw_run.specs.Plan.{IsPlan}
 use Rattle.gw_run.specs.Results.{HasBegun, HasResults}
 use Rattle.gw_run.specs.Setup.{Setup}
 
 -- the configuration and its two logs are such that a plan was made
 pub built : (told : Bool) (before : Files) (config report : List ℕ) (setup : Setup) (lines lines' : ℕ) (source destination : List Stamped) (plan : Plan) →
-    told ≡ true → IsConfigured before config report setup → ReadsLog told before setup.source lines source → ReadsLog told before setup.destination lines' destination →
+    told ≡ true → IsConfigured before config report setup → ReadsLog told before (source_of setup.source) lines source → ReadsLog told before (source_of setup.destination) lines' destination →
     lines ≤ 1_000_000 → lines' ≤ 1_000_000 - lines →
     (planned : IsPlan setup source destination plan) → IsBuilt before config report setup source destination planned.start
 built told before config report setup lines lines' source destination plan is configured from to few rest planned = record {
   configured = configured;
   logs = record {
     source_lines = lines;
-    source_log = record { content = from.content; there = from.there is; built = from.built; few = few };
+    source_log = record { content = from.content; there = from.there is; built = from.is_log; few = few };
     destination_lines = lines';
-    destination_log = record { content = to.content; there = to.there is; built = to.built; few = rest };
+    destination_log = record { content = to.content; there = to.there is; built = to.is_log; few = rest };
   };
   ticks = planned.ticks;
 }
 
 -- why nothing was planned is why the run was refused
 pub plan-cause : (told : Bool) (before : Files) (config report : List ℕ) (setup : Setup) (lines lines' : ℕ) (source destination : List Stamped) (status : Status) →
-    told ≡ true → IsConfigured before config report setup → ReadsLog told before setup.source lines source → ReadsLog told before setup.destination lines' destination →
+    told ≡ true → IsConfigured before config report setup → ReadsLog told before (source_of setup.source) lines source → ReadsLog told before (source_of setup.destination) lines' destination →
     lines ≤ 1_000_000 → lines' ≤ 1_000_000 - lines → StopsPlan setup source destination status → IsCause before config report status
 plan-cause told before config report setup lines lines' source destination (Ok summary) is configured from to few rest stops = absurd stops
 plan-cause told before config report setup lines lines' source destination Accepted is configured from to few rest stops = absurd stops
@@ -53,9 +54,9 @@ plan-cause told before config report setup lines lines' source destination (Limi
     destination = destination;
     logs = record {
       source_lines = lines;
-      source_log = record { content = from.content; there = from.there is; built = from.built; few = few };
+      source_log = record { content = from.content; there = from.there is; built = from.is_log; few = few };
       destination_lines = lines';
-      destination_log = record { content = to.content; there = to.there is; built = to.built; few = rest };
+      destination_log = record { content = to.content; there = to.there is; built = to.is_log; few = rest };
     };
     over = stops;
   },

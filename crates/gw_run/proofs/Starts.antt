@@ -3,8 +3,8 @@ use Rattle.std.proofs.Common.{◌≡◌, ℕ, ◌≤◌, ◌<◌, ◌*◌, ◌^�
 use Rattle.std.specs.Prelude.{All}
 use Rattle.std.proofs.lemmas.Bool.{cases_lt}
 use Rattle.std.proofs.lemmas.List.Elements.{All-append, All-weaker, All-map, All-contains, Contains-append_left, Contains-append_right}
-use Rattle.gw_run.specs.declared.log.Stamped.{Stamped}
-use Rattle.gw_run.specs.Dated.{AreDated}
+use Rattle.candump_log.specs.declared.log.Stamped.{Stamped}
+use Rattle.candump_log.specs.Dated.{AreDated}
 use Rattle.gw_run.specs.Start.{IsLeast, IsStart, stamps_of}
 
 -- the lesser of the least stamps of two lists is the least of both

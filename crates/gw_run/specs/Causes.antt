@@ -5,12 +5,12 @@ use Rattle.gw_config.specs.Config.{Configuration}
 use Rattle.gw_depot.specs.declared.outside.CallKind.TheVariants.{Read}
 use Rattle.gw_depot.specs.Fault.{Blame, Rose}
 use Rattle.gw_depot.specs.Files.{Files}
-use Rattle.gw_run.specs.declared.log.Stamped.{Stamped}
-use Rattle.gw_run.specs.declared.log.LineRefusal.{LineRefusal}
-use Rattle.gw_run.specs.declared.log.LineRefusal.TheVariants.{Unbuilt as NotBuilt, Bad}
-use Rattle.gw_run.specs.declared.log.LineStop.TheVariants.{Refused, Limit as LineLimit, Memory as LineMemory}
-use Rattle.gw_run.specs.declared.log.LogStop.{LogStop}
-use Rattle.gw_run.specs.declared.log.LogStop.TheVariants.{Fault, Line as AtLine}
+use Rattle.candump_log.specs.declared.log.Stamped.{Stamped}
+use Rattle.candump_log.specs.declared.log.LineRefusal.{LineRefusal}
+use Rattle.candump_log.specs.declared.log.LineRefusal.TheVariants.{Unsupported as NotBuilt, Bad}
+use Rattle.candump_log.specs.declared.log.LineStop.TheVariants.{Refused, Limit as LineLimit, Memory as LineMemory}
+use Rattle.candump_log.specs.declared.log.LogStop.{LogStop}
+use Rattle.candump_log.specs.declared.log.LogStop.TheVariants.{Fault, Line as AtLine}
 use Rattle.gw_run.specs.declared.status.FileRole.{FileRole}
 use Rattle.gw_run.specs.declared.status.FileRole.TheVariants.{Config, Log, Say}
 use Rattle.gw_run.specs.declared.status.Form.TheVariants.{Configuration as WholeConfiguration, Line}
@@ -20,7 +20,8 @@ use Rattle.gw_run.specs.declared.status.Status.TheVariants.{Ok, Accepted, Usage,
 use Rattle.gw_run.specs.declared.status.Which.TheVariants.{ConfigBytes, Lines, Ticks}
 use Rattle.gw_run.specs.Config.{HoldsText, IsRefusedFor, ReadsConfig}
 use Rattle.gw_run.specs.Forwarded.{BeginsToForward, Forwards, HoldsLog, HoldsLogs, IsConfigured, last_of}
-use Rattle.gw_run.specs.Log.{StopsAt, GoesPast}
+use Rattle.candump_log.specs.Log.{StopsAt, GoesPast}
+use Rattle.gw_run.specs.Log.{source_of}
 use Rattle.gw_run.specs.Results.{ReadFailed, WriteFailed, bus_numbered}
 use Rattle.gw_run.specs.Setup.{Bus, IsBuiltConfig, Setup}
 use Rattle.gw_run.specs.Start.{IsStart, stamps_of}
@@ -30,13 +31,13 @@ use Rattle.gw_run.specs.Whole.{IsTooLong}
 pub record StopsLog (before : Files) (bus : Bus) (most number : ℕ) (refusal : LineRefusal) : Type 0 where
   pub content : List ℕ
   pub there : before bus.log ≡ Some content
-  pub stops : StopsAt bus most content number refusal
+  pub stops : StopsAt (source_of bus) most content number refusal
 
 -- a line of the bus's log begins after so many, all of them taken
 pub record PassesLog (before : Files) (bus : Bus) (most : ℕ) : Type 0 where
   pub content : List ℕ
   pub there : before bus.log ≡ Some content
-  pub goes_past : GoesPast bus content most
+  pub goes_past : GoesPast (source_of bus) content most
 
 -- the configuration is accepted, but isn't built
 abbrev pub IsUnbuiltConfig : Files → (config report : List ℕ) → Type 0

@@ -11,7 +11,7 @@ use Rattle.hub_core.specs.declared.record.SessionResult.{SessionResult}
 use Rattle.hub_core.specs.declared.record.SessionResult.TheVariants.{Whole, Overflow, WrongSn, RxTimeout, Restarted, NoRoom, WaitOver, NoReaders, Cancelled, RunEnd}
 use Rattle.session_report.specs.Lines.{report_text}
 use Rattle.session_report.specs.declared.report.Report.{Report}
-use Rattle.gw_run.specs.declared.log.Stamped.{Stamped}
+use Rattle.candump_log.specs.declared.log.Stamped.{Stamped}
 use Rattle.gw_run.specs.declared.machines.Machines.{Machines}
 use Rattle.gw_run.specs.declared.status.Summary.{Summary}
 use Rattle.gw_run.specs.declared.status.Status.{Status}

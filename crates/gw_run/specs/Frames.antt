@@ -8,7 +8,7 @@ use Rattle.tick_clock.specs.Ticks.{greatest, tick_at}
 use Rattle.tp_attempts.specs.Seen.{Seen, seen_frame}
 use Rattle.tp_unit.specs.Reading.{unit_of}
 use Rattle.tp_unit.specs.Unit.{Meaning, SingleFrame, FirstFrame, ConsecutiveFrame, FlowControl, NoUnit}
-use Rattle.gw_run.specs.declared.log.Stamped.{Stamped}
+use Rattle.candump_log.specs.declared.log.Stamped.{Stamped}
 
 -- a frame of a log, with its tick
 pub record InTick : Type 0 where

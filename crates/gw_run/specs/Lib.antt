@@ -3,13 +3,11 @@ pub mod Answers
 pub mod Causes
 pub mod Checked
 pub mod Config
-pub mod Dated
 pub mod Decided
 pub mod Feed
 pub mod Forwarded
 pub mod Frames
 pub mod Leaving
-pub mod Line
 pub mod Log
 pub mod Machines
 pub mod Output

@@ -4,8 +4,8 @@ use Rattle.can_frame.specs.Frame.{IsLawful}
 use Rattle.candump_line.specs.Line.{line_text}
 use Rattle.tick_clock.specs.Ticks.{stamp_after}
 use Rattle.tp_unit.specs.Box.{Written}
-use Rattle.gw_run.specs.Log.{IsLog}
-use Rattle.gw_run.specs.declared.log.Stamped.{Stamped}
+use Rattle.candump_log.specs.Log.{IsLog}
+use Rattle.candump_log.specs.declared.log.Stamped.{Stamped}
 
 -- the line of a frame, stamped with the end of the tick in which it left
 abbrev pub line_of : (start period : ℕ) → (interface : List ℕ) → Written → List ℕ

@@ -2,7 +2,7 @@
 use Rattle.std.specs.Prelude.{◌≡◌, ℕ, List}
 use Rattle.std.specs.String.{string_bytes}
 use Rattle.session_report.specs.Lines.{report_text}
-use Rattle.gw_run.specs.declared.log.Stamped.{Stamped}
+use Rattle.candump_log.specs.declared.log.Stamped.{Stamped}
 use Rattle.gw_run.specs.declared.plan.Plan.{Plan}
 use Rattle.gw_run.specs.Forwarded.{Counts, HasLawfulTicks, Tells}
 use Rattle.gw_run.specs.Output.{output_text}

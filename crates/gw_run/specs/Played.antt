@@ -4,7 +4,7 @@ use Rattle.tp_unit.specs.Box.{Written}
 use Rattle.gw_law.specs.Run.{IsRun, Route, Work, route_of}
 use Rattle.tick_clock.specs.declared.clock.Clock.{Clock}
 use Rattle.session_report.specs.declared.report.Report.{Report}
-use Rattle.gw_run.specs.declared.log.Stamped.{Stamped}
+use Rattle.candump_log.specs.declared.log.Stamped.{Stamped}
 use Rattle.gw_run.specs.declared.machines.Machines.{Machines}
 use Rattle.gw_run.specs.declared.machines.TheConstants.{BUDGET, BUFFER_CELLS}
 use Rattle.gw_run.specs.Frames.{answers_in, in_ticks, seen_in, with_id}

@@ -1,6 +1,6 @@
 -- When a run begins (this project's own).
 use Rattle.std.specs.Prelude.{◌≡◌, ◌≤◌, ◌⊎◌, ℕ, List, [], map, All, Contains}
-use Rattle.gw_run.specs.declared.log.Stamped.{Stamped}
+use Rattle.candump_log.specs.declared.log.Stamped.{Stamped}
 
 -- the stamps of a log's frames
 abbrev pub stamps_of : List Stamped → List ℕ

@@ -3,8 +3,8 @@ ghost use Rattle.std.specs.Prelude.{◌≡◌, MatchOption, option_map};
 ghost use Rattle.gw_run.specs.Feed.{ComeAfter, TakesFirst, first_tick};
 ghost use Rattle.gw_run.specs.Frames.{in_ticks};
 
-use crate::log::Stamped;
 use can_frame::Frame;
+use candump_log::Stamped;
 use gw_base::Tick;
 use std::marker::Model;
 use tick_clock::Clock;

@@ -7,13 +7,13 @@ ghost use Rattle.gw_run.specs.Results.{bus_numbered};
 ghost use Rattle.gw_run.specs.Decided.{IsNameIn, IsToldOf};
 
 use crate::config::{NamedFiles, read_checked};
-use crate::log::{LineRefusal, LineStop, LogStop, read_log};
 use crate::plan::plan_results;
 use crate::results::write_results;
 use crate::say::tell;
 use crate::setup::{DESTINATION, SOURCE, Setup, built};
 use crate::status::{FileRole, Form, Status, Which};
 use crate::words::RunFiles;
+use candump_log::{LineRefusal, LineStop, LogStop, read_log};
 use gw_base::BusNo;
 use gw_depot::{Depot, Sink};
 use std::alloc::Global;
@@ -26,7 +26,7 @@ fn refused_line(bus: BusNo, line: u32, refusal: LineRefusal) -> Status
     ensures { result ≡ line_status bus line refusal }
 {
     match refusal {
-        LineRefusal::Unbuilt => Status::Unbuilt(Form::Line { bus, line }),
+        LineRefusal::Unsupported => Status::Unbuilt(Form::Line { bus, line }),
         LineRefusal::Bad(fault) => Status::LogRefused { bus, line, fault },
     }
 }

@@ -10,7 +10,6 @@ mod forward;
 mod gate;
 mod gateway;
 mod law;
-mod log;
 mod machines;
 mod notes;
 mod output;
@@ -27,6 +26,5 @@ mod words;
 
 pub use gate::{Gate, OpenGate};
 pub use law::output_law;
-pub use log::Stamped;
 pub use status::{ConfigCause, FileRole, Form, Status, Summary, Which};
 pub use top::run;

@@ -1,18 +1,18 @@
 //! What a run is going to leave behind, by the frames of both logs.
 ghost use Rattle.std.specs.Prelude.{◌≡◌, ◌≤◌, ◌+◌, ◌<◌, length, filter, All, IfOk, IfErr};
 ghost use Rattle.gw_run.specs.Causes.{StopsPlan};
-ghost use Rattle.gw_run.specs.Dated.{AreDated};
+ghost use Rattle.candump_log.specs.Dated.{AreDated};
 ghost use Rattle.gw_run.specs.Forwarded.{Counts, is_sent, is_whole};
 ghost use Rattle.gw_run.specs.Plan.{IsPlan, Prints};
 ghost use Rattle.gw_run.specs.Setup.{IsBuiltFrame};
 
-use crate::log::Stamped;
 use crate::output::output_text;
 use crate::play::play;
 use crate::played::Played;
 use crate::setup::Setup;
 use crate::start::{greatest_tick, start_of};
 use crate::status::{Status, Summary, Which};
+use candump_log::Stamped;
 use gw_base::{Bytes, Memory, Tick};
 use hub_core::{DestRecord, DestResult, SessionRecord, SessionResult};
 use session_report::{Report, print_report};

@@ -8,11 +8,11 @@ ghost use Rattle.gw_run.specs.Playing.{IsNext, MayWorkOnDestination, MayWorkOnSo
 
 use crate::feed::Feed;
 use crate::gateway::Gateway;
-use crate::log::Stamped;
 use crate::machines::Machines;
 use crate::played::Played;
 use crate::setup::is_same_id;
 use can_frame::CanId;
+use candump_log::Stamped;
 use gw_base::{Memory, Tick};
 use std::alloc::Global;
 use tick_clock::Clock;

@@ -12,7 +12,7 @@ pub(crate) struct Sent {
 }
 
 impl Model for Sent {
-    ghost use Rattle.tp_sender.specs.Runs.{Written};
+    ghost use Rattle.tp_unit.specs.Box.{Written};
 
     ghost Value = { Written };
 

@@ -10,6 +10,7 @@ ghost use Rattle.gw_run.specs.Setup.{Bus as BusOfRun, Setup as SetupOfRun};
 use crate::files::are_same;
 use crate::machines::{BUDGET, BUFFER_CELLS, Machines};
 use can_frame::{CanId, Frame};
+use candump_log::LogSource;
 use gw_base::{BusNo, ChanNo, DestNo, PathNo};
 use gw_config::{Addressing, BusKeys, ChannelKeys, Config, Mode, PathKeys};
 use std::marker::Model;
@@ -114,15 +115,6 @@ impl Bus<'_> {
         self.interface.as_bytes()
     }
 
-    /// The file that the bus's frames are read from.
-    pub(crate) fn log(&self) -> &str
-        ensures log { result.now ≡ self.now.log }
-        ensures name { IsName result.now }
-        ensures interface { IsInterface self.now.interface }
-    {
-        self.log
-    }
-
     /// The file that the bus's sent frames are written to.
     pub(crate) fn out(&self) -> &str
         ensures out { result.now ≡ self.now.out }
@@ -130,12 +122,23 @@ impl Bus<'_> {
     {
         self.out
     }
+}
 
-    /// The channel on the bus.
-    pub(crate) fn side(&self) -> Side
-        ensures { result ≡ self.now.side }
-    {
-        self.side
+impl LogSource for Bus<'_> {
+    ghost use Rattle.gw_run.specs.Log.{source_of};
+
+    ghost source = { source_of };
+
+    fn file(&self) -> &str {
+        self.log
+    }
+
+    fn interface(&self) -> &[u8] {
+        self.interface.as_bytes()
+    }
+
+    fn is_unsupported(&self, frame: &Frame) -> bool {
+        self.side.is_unbuilt(frame)
     }
 }
 

@@ -1,10 +1,10 @@
 //! When a run begins, and the last tick of a log: the least and the greatest stamp.
 ghost use Rattle.std.specs.Prelude.{◌≡◌, ◌++◌, ◌<◌, ◌*◌, ◌^◌, [], IfSome, MatchOption};
-ghost use Rattle.gw_run.specs.Dated.{AreDated};
+ghost use Rattle.candump_log.specs.Dated.{AreDated};
 ghost use Rattle.gw_run.specs.Frames.{greatest_tick};
 ghost use Rattle.gw_run.specs.Start.{IsLeast, IsStart, stamps_of};
 
-use crate::log::Stamped;
+use candump_log::Stamped;
 use gw_base::{Micros, Tick};
 use tick_clock::Clock;
 

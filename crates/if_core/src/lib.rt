@@ -8,8 +8,6 @@ mod lanes;
 mod plain;
 mod queue;
 mod record;
-#[cfg(test)]
-mod tests;
 mod unit;
 
 pub use fates::fates_law;

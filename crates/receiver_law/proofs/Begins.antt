@@ -1,25 +1,25 @@
 -- The ticks in which a receiver's sessions begin: its records tell those in which its calls entered them.
-use Rattle.std.proofs.Common.{◌≡◌, ℕ, ◌+◌, zero, suc, Bool, true, false, Option, Some, None, option_map, List, [], ◌∷◌, ◌++◌, length, map, refl, ap, sym, ◌∙◌, subst, arith, append-nil, append_assoc}
-use Rattle.tp_receiver.specs.State.{Reception, RxState, RxEvent, RxDid, Came, Timer, FcLeft, RunEnd, RxTurn, rx_new}
-use Rattle.tp_receiver.specs.Table.{begun, gone_on, Begins, Carries, ConsecutiveRow, Ends, FirstRow, Grants, Interrupts, Opens, Quiet, RxStep, Starts, asks, puts, NoneReads, All, NoBuffer, Completes, NoBufferFirst, Opened, NoneReadsOn, TooLittleRoom, Adds, Fills, TooLong, TooShort, WrongNumber, RightNumber, InTime, TooLate, FromBox, NotAwaited}
-use Rattle.tp_receiver.specs.Runs.{HasReceived}
-use Rattle.hub_core.specs.Turns.{calls_by, state_after, records_by}
+use Rattle.std.proofs.Common.{◌≡◌, ℕ, ◌+◌, zero, suc, Option, Some, None, option_map, List, [], ◌∷◌, ◌++◌, length, map, refl, ap, sym, ◌∙◌, subst, arith, append-nil, append_assoc}
 use Rattle.std.specs.Prelude.{option_to_list, slice_get}
 use Rattle.std.specs.List.{AllByRecursion, flat_map}
 use Rattle.std.proofs.lemmas.List.{length-append}
 use Rattle.std.proofs.lemmas.Grind.{flat_map-append}
+use Rattle.gw_base.specs.Cell.{counted}
+use Rattle.hub_core.specs.Turns.{calls_by, state_after, records_by}
 use Rattle.hub_core.specs.View.{Event, Took, Refused, Entered, Asked, Put, Published, Joining, Missed, Saw, Read, Closed, Parted}
-use Rattle.hub_core.specs.declared.record.OpenedAt.{OpenedAt}
-use Rattle.hub_core.specs.declared.record.RxLimit.TheVariants.{Cf as CfLimit}
-use Rattle.hub_core.specs.declared.record.SessionRecord.{SessionRecord}
-use Rattle.hub_core.specs.declared.record.SessionResult.{SessionResult}
-use Rattle.hub_core.specs.declared.record.SessionResult.TheVariants.{Whole, WrongSn, RxTimeout, NoRoom, NoReaders, RunEnd}
-use Rattle.tp_receiver.specs.declared.set.RxSet.{RxSet}
-use Rattle.tp_unit.specs.Unit.{Meaning, SingleFrame, FirstFrame, ConsecutiveFrame, FlowControl, NoUnit}
-use Rattle.receiver_law.specs.Source.{CountsFrom, opened_by, sessions_in}
-use Rattle.receiver_law.proofs.Openings.{entry_by}
-use Rattle.gw_base.proofs.Lists.{all-join, slice_get-more}
 use Rattle.hub_core.proofs.Growing.{slice_get-pushed}
+use Rattle.hub_core.specs.declared.record.OpenedAt.{OpenedAt}
+use Rattle.hub_core.specs.declared.record.SessionRecord.{SessionRecord}
+use Rattle.receiver_law.specs.Source.{CountsFrom, opened_by, sessions_in}
+use Rattle.receiver_law.proofs.Entries.{entry_by, join-lists}
+use Rattle.gw_base.proofs.Lists.{all-join, slice_get-more}
+use Rattle.tp_attempts.specs.Seen.{bytes_of}
+use Rattle.tp_receiver.specs.declared.set.RxSet.{RxSet}
+use Rattle.tp_receiver.specs.Effects.{Ends, Looks, Opens, Puts, Refuses, RxDone, RxEffect, RxStage, Waits}
+use Rattle.tp_receiver.specs.Runs.{HasReceived}
+use Rattle.tp_receiver.specs.State.{Reception, RxDid, RxEvent, RxState, RxTurn, rx_new}
+use Rattle.tp_receiver.specs.Table.{Opens as OpensSession, RxStep, begun}
+use Rattle.tp_receiver.proofs.Through.{state-through}
 
 -- the tick of a call that entered a session
 abbrev pub begin_by : ℕ → Event → List ℕ
@@ -63,91 +63,26 @@ none-put : (tick path seq count : ℕ) (cells : List ℕ) → begins_in tick (ma
 none-put tick path seq count [] = refl
 none-put tick path seq count (cell ∷ cells) = none-put tick path seq count cells
 
--- after first calls, the rest
-asked : (set : RxSet) (tick : ℕ) (busy : Reception) (room readers : ℕ) (calls rest : List Event) (records : List SessionRecord) (new : Option Reception) → calls ≡ asks set busy room readers ++ rest → AreBegun tick (Some busy) rest records new → AreBegun tick (Some busy) calls records new
-asked set tick busy room readers calls rest records new is later = rw is later
+opens : (set : RxSet) (seq len tick next size count : ℕ) (bytes : List ℕ) (opened : OpenedAt) (opening : List Event) → OpensSession set seq len bytes opened opening → AreBegun tick None opening [] (Some (begun next len size count tick opened))
+opens set seq len tick next size count bytes opened opening row = rw (row.calls_are, none-put tick set.path.0 seq (counted row.cells) row.cells) refl
 
-put : (tick path seq : ℕ) (busy : Reception) (cells : List ℕ) (calls rest : List Event) (records : List SessionRecord) (new : Option Reception) → calls ≡ puts path seq cells ++ rest → AreBegun tick (Some busy) rest records new → AreBegun tick (Some busy) calls records new
-put tick path seq busy cells calls rest records new is later = rw (is, flat_map-append (begin_by tick) (puts path seq cells) rest, none-put tick path seq _ cells) later
+-- each effect
+begun-effect : (set : RxSet) (event : RxEvent) (tick : ℕ) (old : RxStage) (done : RxDone) → RxEffect set event tick old done → AreBegun tick old.state.busy done.calls done.records done.new.state.busy
+begun-effect set event tick old done (Refuses e) = rw (e.of.idle, e.calls, e.records, e.new) refl
+begun-effect set event tick old done (Opens e) = rw (e.of.idle, e.records, e.new) (opens set old.state.seq _ tick old.state.next e.size (length (bytes_of e.meaning)) _ e.opened done.calls e.opens)
+begun-effect set event tick old done (Looks e) = rw (e.calls, e.records, e.new, e.was) refl
+begun-effect set event tick old done (Puts e) = rw (e.was, e.calls, e.records, e.new, none-put tick set.path.0 e.busy.opened.seq (counted e.cells) e.cells) refl
+begun-effect set event tick old done (Waits e) = rw (e.was, e.calls, e.records, e.new) refl
+begun-effect set event tick old done (Ends e) = rw (e.was, e.calls, e.records, e.new) refl
 
-opens : (set : RxSet) (seq len next size count tick : ℕ) (bytes : List ℕ) (opened : OpenedAt) (opening calls rest : List Event) (records : List SessionRecord) (new : Option Reception) → Opens set seq len bytes opened opening → calls ≡ opening ++ rest →
-    AreBegun tick (Some (begun next len size count tick opened)) rest records new → AreBegun tick None calls records new
-opens set seq len next size count tick bytes opened opening calls rest records new row is later = rw (is, row.calls_are, flat_map-append (begin_by tick) (puts set.path.0 seq row.cells) rest, none-put tick set.path.0 seq _ row.cells) later
-
--- the rows
-quiet : (tick : ℕ) (state : RxState) (m : RxDid) → Quiet state m → AreBegun tick state.busy m.calls m.records m.new.busy
-quiet tick state m row = rw (row.calls, row.records, row.new) (append-nil (begin_going state.busy))
-
-ends : (set : RxSet) (tick next seq : ℕ) (busy : Reception) (how : SessionResult) (m : RxDid) → Ends set next seq busy how m → AreBegun tick (Some busy) m.calls m.records m.new.busy
-ends set tick next seq busy how m row = rw (row.calls, row.records, row.new) refl
-
-grants : (set : RxSet) (tick next seq : ℕ) (busy : Reception) (m : RxDid) → Grants set next seq busy m → AreBegun tick (Some busy) m.calls m.records m.new.busy
-grants set tick next seq busy m (NoneReads room readers none row) = asked set tick busy room readers m.calls row.rest m.records m.new.busy row.calls (ends set tick next seq busy NoReaders (record m { calls = row.rest }) row.row)
-grants set tick next seq busy m (All room readers some row) = asked set tick busy room readers m.calls row.rest m.records m.new.busy row.calls (rw (row.row.calls, row.row.records, row.row.new) refl)
-
-begins : (set : RxSet) (next seq size : ℕ) (meaning : Meaning) (m : RxDid) → Begins set next seq size meaning m → AreBegun m.tick None m.calls m.records m.new.busy
-begins set next seq size (SingleFrame bytes) m (NoBuffer row) = rw (row.calls, row.records, row.new) refl
-begins set next seq size (SingleFrame bytes) m (Completes opened opening row rest) =
-    opens set seq (length bytes) next size (length bytes) m.tick bytes opened opening m.calls rest.rest m.records m.new.busy row rest.calls
-    (ends set m.tick (next + 1) (seq + 1) (begun next (length bytes) size (length bytes) m.tick opened) Whole (record m { calls = rest.rest }) rest.row)
-begins set next seq size (FirstFrame len bytes) m (NoBufferFirst more row) = rw (row.calls, row.records, row.new) refl
-begins set next seq size (FirstFrame len bytes) m (Opened more opened opening row rest) =
-    opens set seq len next size (length bytes) m.tick bytes opened opening m.calls rest.rest m.records m.new.busy row rest.calls
-    (grants set m.tick (next + 1) (seq + 1) (begun next len size (length bytes) m.tick opened) (record m { calls = rest.rest }) rest.row)
-begins set next seq size (ConsecutiveFrame number bytes) m row = absurd row
-begins set next seq size (FlowControl status block_size separation) m row = absurd row
-begins set next seq size (NoUnit why) m row = absurd row
-
-interrupts : (set : RxSet) (tick next seq : ℕ) (busy : Option Reception) (m : RxDid) → Interrupts set next seq busy m → AreBegun tick busy m.calls m.records None
-interrupts set tick next seq None m row = rw (row.calls, row.records) refl
-interrupts set tick next seq (Some busy) m row = rw (row.calls, row.records) refl
-
-join-lists : (a x y told later c : List ℕ) → a ++ x ≡ told ++ [] → [] ++ y ≡ later ++ c → a ++ (x ++ y) ≡ (told ++ later) ++ c
-join-lists a x y told later c first second = sym (append_assoc a x y) ∙ ap (λ l. l ++ y) (first ∙ append-nil told) ∙ ap (λ l. told ++ l) second ∙ sym (append_assoc told later c)
-
-starts : (set : RxSet) (state : RxState) (size : ℕ) (meaning : Meaning) (m : RxDid) → Starts set state size meaning m → AreBegun m.tick state.busy m.calls m.records m.new.busy
-starts set state size meaning m row =
-    let P : ℕ → Type 0 = λ t. AreBegun t None row.later.calls row.later.records row.later.new.busy in
-    rw (row.calls, row.records, row.new, flat_map-append (begin_by m.tick) row.earlier.calls row.later.calls, flat_map-append begin_in row.earlier.records row.later.records)
-    (join-lists (begin_going state.busy) (begins_in m.tick row.earlier.calls) (begins_in m.tick row.later.calls) (begins_told row.earlier.records) (begins_told row.later.records) (begin_going row.later.new.busy)
-    (interrupts set m.tick state.next state.seq state.busy row.earlier row.interrupts) (subst P row.later_tick (begins set state.next state.seq size meaning row.later row.begins)))
-
-carries : (set : RxSet) (tick next seq : ℕ) (busy : Reception) (bytes : List ℕ) (m : RxDid) → Carries set next seq busy bytes m → AreBegun tick (Some busy) m.calls m.records m.new.busy
-carries set tick next seq busy bytes m (NoneReadsOn room readers some row) = asked set tick busy room readers m.calls row.rest m.records m.new.busy row.calls (ends set tick next seq busy NoReaders (record m { calls = row.rest }) row.row)
-carries set tick next seq busy bytes m (TooLittleRoom room readers need some is little row) =
-    asked set tick busy room readers m.calls row.rest m.records m.new.busy row.calls (ends set tick next seq busy (NoRoom room need) (record m { calls = row.rest }) row.row)
-carries set tick next seq busy bytes m (Adds room readers cells some fits packed row) =
-    asked set tick busy room readers m.calls row.rest m.records m.new.busy row.calls
-    (put tick set.path.0 busy.opened.seq busy cells row.rest row.row.rest m.records m.new.busy row.row.calls (rw (row.row.row.calls, row.row.row.records, row.row.row.new) refl))
-carries set tick next seq busy bytes m (Fills room readers cells some fits packed full row) =
-    asked set tick busy room readers m.calls row.rest m.records m.new.busy row.calls
-    (put tick set.path.0 busy.opened.seq busy cells row.rest row.row.rest m.records m.new.busy row.row.calls (ends set tick next seq (gone_on busy (length bytes) m.tick) Whole (record m { calls = row.row.rest }) row.row.row))
-
-consecutive : (set : RxSet) (old : RxState) (size number : ℕ) (bytes : List ℕ) (busy : Option Reception) (m : RxDid) → old.busy ≡ busy → ConsecutiveRow set old size number bytes busy m → AreBegun m.tick busy m.calls m.records m.new.busy
-consecutive set old size number bytes None m is row = rw (row.calls, row.records, row.new, is) refl
-consecutive set old size number bytes (Some busy) m is (TooLong long row) = rw (row.calls, row.records, row.new) refl
-consecutive set old size number bytes (Some busy) m is (TooShort short row) = rw (row.calls, row.records, row.new) refl
-consecutive set old size number bytes (Some busy) m is (WrongNumber looked other row) = ends set m.tick old.next old.seq busy (WrongSn busy.number number) m row
-consecutive set old size number bytes (Some busy) m is (RightNumber looked right row) = carries set m.tick old.next old.seq busy _ m row
-
-first : (set : RxSet) (old : RxState) (size : ℕ) (meaning : Meaning) (functional : Bool) (m : RxDid) → FirstRow set old size meaning functional m → AreBegun m.tick old.busy m.calls m.records m.new.busy
-first set old size meaning true m row = quiet m.tick old m row
-first set old size meaning false m row = starts set old size meaning m row
-
-step : (set : RxSet) (next seq : ℕ) (busy : Option Reception) (event : RxEvent) (m : RxDid) → RxStep set (record { next = next; seq = seq; busy = busy }) event m → AreBegun m.tick busy m.calls m.records m.new.busy
-step set next seq busy (Came size (SingleFrame bytes)) m row = starts set (record { next = next; seq = seq; busy = busy }) size (SingleFrame bytes) m row
-step set next seq busy (Came size (FirstFrame len bytes)) m row = first set (record { next = next; seq = seq; busy = busy }) size (FirstFrame len bytes) set.functional m row
-step set next seq busy (Came size (ConsecutiveFrame number bytes)) m row = consecutive set (record { next = next; seq = seq; busy = busy }) size number bytes busy m refl row
-step set next seq busy (Came size (FlowControl status block_size separation)) m row = quiet m.tick (record { next = next; seq = seq; busy = busy }) m row
-step set next seq busy (Came size (NoUnit why)) m row = quiet m.tick (record { next = next; seq = seq; busy = busy }) m row
-step set next seq None Timer m row = quiet m.tick (record { next = next; seq = seq; busy = None }) m row
-step set next seq None FcLeft m row = quiet m.tick (record { next = next; seq = seq; busy = None }) m row
-step set next seq None RunEnd m row = quiet m.tick (record { next = next; seq = seq; busy = None }) m row
-step set next seq (Some busy) Timer m (InTime early row) = quiet m.tick (record { next = next; seq = seq; busy = Some busy }) m row
-step set next seq (Some busy) Timer m (TooLate late row) = ends set m.tick next seq busy (RxTimeout CfLimit) m row
-step set next seq (Some busy) FcLeft m (FromBox waits row) = rw (row.calls, row.records, row.new) refl
-step set next seq (Some busy) FcLeft m (NotAwaited waits row) = quiet m.tick (record { next = next; seq = seq; busy = Some busy }) m row
-step set next seq (Some busy) RunEnd m row = ends set m.tick next seq busy (RunEnd busy.wait (record { 0 = busy.since })) m row
+-- a step
+step : (set : RxSet) (old : RxState) (event : RxEvent) (m : RxDid) → RxStep set old event m → AreBegun m.tick old.busy m.calls m.records m.new.busy
+step set old event m row =
+    state-through set old event m (λ state calls records. AreBegun m.tick old.busy calls records state.busy)
+    (λ stage done calls records effect so.
+    rw (flat_map-append (begin_by m.tick) calls done.calls, flat_map-append begin_in records done.records)
+    (join-lists (begin_going old.busy) (begin_going stage.state.busy) (begin_going done.new.state.busy) (begins_in m.tick calls) (begins_in m.tick done.calls) (begins_told records) (begins_told done.records) so (begun-effect set event m.tick stage done effect)))
+    row [] [] (append-nil (begin_going old.busy))
 
 -- a whole run
 pub begins-are : (set : RxSet) (turns : List RxTurn) → HasReceived set turns → begins_by turns ≡ begins_told (records_by turns) ++ begin_going (state_after rx_new turns).busy
@@ -155,7 +90,7 @@ begins-are set [] happened = refl
 begins-are set (turn ∷ earlier) happened =
     let old : RxState = state_after rx_new earlier in
     ap (λ l. l ++ begins_in turn.did.tick turn.did.calls) (begins-are set earlier happened.2) ∙ append_assoc (begins_told (records_by earlier)) (begin_going old.busy) (begins_in turn.did.tick turn.did.calls)
-    ∙ ap (λ l. begins_told (records_by earlier) ++ l) (step set old.next old.seq old.busy turn.event turn.did happened.1)
+    ∙ ap (λ l. begins_told (records_by earlier) ++ l) (step set old turn.event turn.did happened.1)
     ∙ sym (append_assoc (begins_told (records_by earlier)) (begins_told turn.did.records) (begin_going turn.did.new.busy)) ∙ ap (λ l. l ++ begin_going turn.did.new.busy) (sym (flat_map-append begin_in (records_by earlier) turn.did.records))
 
 -- later turns enter later sessions

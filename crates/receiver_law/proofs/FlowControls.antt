@@ -1,5 +1,5 @@
 -- The law of a source channel's flow controls, by the records of its units.
-use Rattle.std.proofs.Common.{◌≡◌, ◌⊎◌, inl, inr, ℕ, zero, suc, ◌+◌, ◌<◌, ◌≤◌, true, false, None, Some, List, [], ◌∷◌, ◌++◌, length, refl, ap, sym, ◌∙◌, subst, arith}
+use Rattle.std.proofs.Common.{◌≡◌, ◌⊎◌, inl, inr, ℕ, zero, suc, ◌+◌, ◌<◌, ◌≤◌, Bool, true, false, None, Some, List, [], ◌∷◌, ◌++◌, length, refl, ap, sym, ◌∙◌, subst, arith}
 use Rattle.tp_unit.specs.Box.{Written}
 use Rattle.tp_receiver.specs.Table.{continue_to_send, overflow}
 use Rattle.std.specs.Prelude.{slice_get}
@@ -17,10 +17,10 @@ use Rattle.tp_unit.specs.Writing.{fill_of, frame_of, unfilled}
 use Rattle.receiver_law.specs.FlowControls.{FlowControlLaw, HasStatus, IsOfSession, IsSegmented, LetsCome, NoneBegins, TellsNoRoom, said_in}
 use Rattle.receiver_law.specs.Channel.{SourceChannel}
 use Rattle.receiver_law.specs.Source.{Tells}
-use Rattle.receiver_law.proofs.Effects.{is_run_end}
+use Rattle.receiver_law.specs.Source.{is_run_end}
 use Rattle.tp_unit.proofs.Rises.{Rise}
-use Rattle.receiver_law.proofs.Owed.{Answers, Facts, Gone, HasLeft, IsOpening, IsRefusal, Lies, NoRoom, Replaced}
-use Rattle.receiver_law.proofs.Owed.{LetsCome as Lets}
+use Rattle.receiver_law.proofs.Story.{Answers, Facts, Gone, HasLeft, IsOpening, IsRefusal, Lies, NoRoom, Replaced}
+use Rattle.receiver_law.proofs.Story.{LetsCome as Lets}
 use Rattle.receiver_law.proofs.Places.{attempt-of, start-of, starts_in}
 use Rattle.gw_base.proofs.Lists.{all-at, all-both, all-split, all-weaker, same-some, there-at, zip-pair}
 
@@ -238,8 +238,8 @@ owes-no-room r place tick told known is from none gone =
     (omega (arith, left.at)) in
     omega (arith, above, left.at, from)
 
-pub law-known : (r : SourceChannel) → 1 ≤ r.rx.n_ar → IsKnown r → FlowControlLaw r
-law-known r some known = record {
+pub law-known : (full : ℕ → Bool) (r : SourceChannel) → 1 ≤ r.rx.n_ar → IsKnown r → FlowControlLaw full r
+law-known full r some known = record {
   lets_come = all-weaker (Answers r.rx r.shape (starts_in r.rx r.seen) r.sessions) (λ (w : Written). HasStatus r 0 w → LetsCome r w) r.controls (λ w answers status. lets-by r w known answers status) known.facts.answers;
   no_room = record {
     place_of = place_at r r.controls known.facts.answers;
@@ -254,4 +254,14 @@ law-known r some known = record {
   last = λ place separation told before after w told_is are of says. none-after r place told before after w known told_is are of;
   owes = λ place tick told is from below none. absurd (owes r place tick told known is from below none);
   owes_no_room = λ place tick told is from below by none gone. absurd (owes-no-room r place tick told known is from none gone);
+}
+
+-- the same, where the bus is said to be full in more ticks
+pub law-fuller : (full other : ℕ → Bool) (r : SourceChannel) → ((tick : ℕ) → full tick ≡ true → other tick ≡ true) → FlowControlLaw full r → FlowControlLaw other r
+law-fuller full other r more law = record {
+  lets_come = law.lets_come;
+  no_room = law.no_room;
+  last = law.last;
+  owes = λ place tick told is from below none. more tick (law.owes place tick told is from below none);
+  owes_no_room = λ place tick told is from below by none gone. more tick (law.owes_no_room place tick told is from below by none gone);
 }

@@ -1,10 +1,6 @@
--- The sessions of a view after each row of a receiver's steps.
-use Rattle.std.proofs.Common.{◌≡◌, ℕ, ◌+◌, ◌*◌, ◌≤◌, Bool, true, false, Option, Some, None, option_map, List, [], ◌∷◌, ◌++◌, length, All, zero, suc, refl, ap, sym, ◌∙◌, subst, arith, append-nil, append_assoc}
-use Rattle.tp_receiver.specs.State.{Reception, RxState, RxEvent, RxDid, Came, Timer, FcLeft, RunEnd, RxTurn, rx_new}
-use Rattle.tp_receiver.specs.Table.{begun, due, gone_on, After, Begins, BeginsFirst, BeginsSingle, Carries, Continues, Ends, FirstRow, Grants, Interrupts, Opens, Overflows, Quiet, RxStep, Starts, asks, overflow, puts, NoneReads, All as GrantsAll, NoBuffer, Completes, NoBufferFirst, Opened, NoneReadsOn, TooLittleRoom, Adds, Fills, TooLong, TooShort, WrongNumber, RightNumber, InTime, TooLate, FromBox, NotAwaited}
-use Rattle.tp_receiver.specs.Runs.{HasReceived}
-use Rattle.hub_core.specs.Turns.{calls_by, state_after, records_by}
-use Rattle.std.specs.Prelude.{◌-◌, map, slice_get, take}
+-- The sessions of a view after each effect of a receiver's steps.
+use Rattle.std.proofs.Common.{◌≡◌, ℕ, ◌+◌, ◌*◌, ◌≤◌, false, Option, Some, None, option_map, List, [], ◌∷◌, ◌++◌, length, All, zero, suc, refl, ap, sym, ◌∙◌, subst, arith, append-nil, append_assoc}
+use Rattle.std.specs.Prelude.{◌-◌, map, slice_get}
 use Rattle.std.proofs.lemmas.List.{length-append}
 use Rattle.std.proofs.lemmas.List.Elements.{All-head, All-tail}
 use Rattle.std.proofs.lemmas.List.Sums.{sum_by-cons}
@@ -12,15 +8,20 @@ use Rattle.cell_stream.specs.Packing.{IsPacked}
 use Rattle.gw_base.proofs.Cells.{length-bytes_of}
 use Rattle.gw_base.specs.Cell.{IsCell, count_of, counted}
 use Rattle.hub_core.proofs.Growing.{at_one-same, grows-append, slice_get-change_at}
-use Rattle.hub_core.specs.View.{View, Change, Event, Session, change_at, empty_view, session_new, grow, grows, Took, Entered, Asked, Put, Published, Closed}
 use Rattle.hub_core.specs.Calls.{freed_by}
+use Rattle.hub_core.specs.Turns.{calls_by, state_after, records_by}
+use Rattle.hub_core.specs.View.{View, Change, Event, Session, change_at, empty_view, session_new, grow, grows, Took, Refused, Entered, Asked, Put, Published, Closed}
+use Rattle.hub_core.specs.declared.port.Room.{Room}
 use Rattle.hub_core.specs.declared.record.OpenedAt.{OpenedAt}
-use Rattle.hub_core.specs.declared.record.RxLimit.TheVariants.{Cf as CfLimit}
 use Rattle.hub_core.specs.declared.record.SessionRecord.{SessionRecord}
 use Rattle.hub_core.specs.declared.record.SessionResult.{SessionResult}
-use Rattle.hub_core.specs.declared.record.SessionResult.TheVariants.{Whole, WrongSn, RxTimeout, Restarted, NoRoom, NoReaders, RunEnd}
+use Rattle.hub_core.specs.declared.record.SessionResult.TheVariants.{NoReaders}
 use Rattle.tp_receiver.specs.declared.set.RxSet.{RxSet}
-use Rattle.tp_unit.specs.Unit.{BoxMeaning, Keeps, Offers, Meaning, SingleFrame, FirstFrame, ConsecutiveFrame, FlowControl, NoUnit}
+use Rattle.tp_receiver.specs.Effects.{Ends, EndsAt, Looks, Opens, Puts, Refuses, RxDone, RxEffect, RxStage, Waits}
+use Rattle.tp_receiver.specs.Runs.{HasReceived}
+use Rattle.tp_receiver.specs.State.{Reception, RxEvent, RxState, RxTurn, rx_new}
+use Rattle.tp_receiver.specs.Table.{Opens as OpensSession, begun, puts}
+use Rattle.tp_receiver.proofs.Through.{IsThrough, step-through}
 use Rattle.receiver_law.proofs.JointSessions.{Filling, Known, filling_of, known-changed, known-closed, known-entered, known-refused}
 
 abbrev pub KnownIn : RxSet → View → List SessionRecord → ℕ → Option Reception → Type 0
@@ -93,45 +94,10 @@ grow-asked : (path seq room readers : ℕ) (v : View) → (grow (Asked path seq 
 unfolding grow
 grow-asked path seq room readers v = at_one-same path _ v.sessions
 
-asked : (set : RxSet) (v : View) (records : List SessionRecord) (seq room readers : ℕ) (busy : Reception) → KnownIn set v records seq (Some busy) → KnownIn set (grows (asks set busy room readers) v) records seq (Some busy)
-asked set v records seq room readers busy known =
-    rw (grow-asked set.path.0 busy.opened.seq room readers v) (known-changed set (v.sessions set.path.0) records seq busy.bytes (filling_of busy) (λ s. record s { room = room; readers = readers }) (λ s. refl)
-    (λ s put. record { len_is = put.len_is; told = put.told; shown = put.shown; full = put.full; dests = put.dests }) known)
-
 -- the writer leaves
 grow-closed : (path seq : ℕ) (freed : List Change) (v : View) → (grow (Closed path seq freed) v).sessions path ≡ change_at seq (λ s. record s { stands = false }) (v.sessions path)
 unfolding grow
 grow-closed path seq freed v = at_one-same path _ v.sessions
-
-ends : (set : RxSet) (next seq : ℕ) (busy : Reception) (how : SessionResult) (m : RxDid) (v : View) (records : List SessionRecord) → ((s : Session) → slice_get (v.sessions set.path.0) busy.opened.seq ≡ Some s → how ≡ NoReaders → s.readers ≡ 0) →
-    Ends set next seq busy how m → KnownIn set v records seq (Some busy) → KnownBy set (grows m.calls v) (records ++ m.records) m.new
-ends set next seq busy how m v records none row known =
-    rw (row.calls, row.records, row.new, grow-closed set.path.0 busy.opened.seq (freed_by row.left) v)
-    (known-closed set (v.sessions set.path.0) records seq (filling_of busy) _ busy.opened refl refl refl refl none known)
-
-ends-so : (set : RxSet) (next seq : ℕ) (busy : Reception) (how : SessionResult) (m : RxDid) (v : View) (records : List SessionRecord) → (how ≡ NoReaders → ⊥) → Ends set next seq busy how m → KnownIn set v records seq (Some busy) → KnownBy set (grows m.calls v) (records ++ m.records) m.new
-ends-so set next seq busy how m v records other row known = ends set next seq busy how m v records (λ s is how_is. absurd (other how_is)) row known
-
--- a row that calls nothing and tells nothing
-silent : (set : RxSet) (m : RxDid) (state : RxState) (v : View) (records : List SessionRecord) → m.calls ≡ [] → m.records ≡ [] → m.new ≡ state → KnownBy set v records state → KnownBy set (grows m.calls v) (records ++ m.records) m.new
-silent set m state v records calls told new known = rw (calls, told, new, append-nil) known
-
-quiet : (set : RxSet) (m : RxDid) (state : RxState) (v : View) (records : List SessionRecord) → Quiet state m → KnownBy set v records state → KnownBy set (grows m.calls v) (records ++ m.records) m.new
-quiet set m state v records row known = silent set m state v records row.calls row.records row.new known
-
--- after first calls, the rest
-after : (set : RxSet) (m : RxDid) (v : View) (records : List SessionRecord) (before rest : List Event) → m.calls ≡ before ++ rest → KnownBy set (grows rest (grows before v)) (records ++ m.records) m.new → KnownBy set (grows m.calls v) (records ++ m.records) m.new
-after set m v records before rest is known = rw (is, grows-append before rest v) known
-
-none-reads : (set : RxSet) (next seq room readers : ℕ) (busy : Reception) (m : RxDid) (v : View) (records : List SessionRecord) → readers ≡ 0 → (row : After (asks set busy room readers) m (Ends set next seq busy NoReaders)) → KnownIn set v records seq (Some busy) →
-    KnownBy set (grows m.calls v) (records ++ m.records) m.new
-none-reads set next seq room readers busy m v records none row known =
-    let f : Session → Session = λ s. record s { room = room; readers = readers } in
-    after set m v records (asks set busy room readers) row.rest row.calls (ends set next seq busy NoReaders (record m { calls = row.rest }) (grows (asks set busy room readers) v) records
-    (λ s is how_is.
-    let same : Some s ≡ Some (f known.going.session) = sym is ∙ ap (λ l. slice_get l busy.opened.seq) (grow-asked set.path.0 busy.opened.seq room readers v) ∙ slice_get-change_at busy.opened.seq f (v.sessions set.path.0) known.going.session known.going.there in
-    let at : s ≡ f known.going.session = cc in
-    ap (λ (x : Session). x.readers) at ∙ none) row.row (asked set v records seq room readers busy known))
 
 -- a session is opened
 grow-took : (path number buf size need : ℕ) (v : View) → (grow (Took number buf size need) v).sessions path ≡ v.sessions path
@@ -142,7 +108,7 @@ grow-entered : (path seq buf number size len readers : ℕ) (v : View) → (grow
 unfolding grow
 grow-entered path seq buf number size len readers v = at_one-same path _ v.sessions
 
-opens-so : (set : RxSet) (next seq len size tick : ℕ) (bytes : List ℕ) (opened : OpenedAt) (opening : List Event) (v : View) (records : List SessionRecord) → Opens set seq len bytes opened opening → KnownIn set v records seq None →
+opens-so : (set : RxSet) (next seq len size tick : ℕ) (bytes : List ℕ) (opened : OpenedAt) (opening : List Event) (v : View) (records : List SessionRecord) → OpensSession set seq len bytes opened opening → KnownIn set v records seq None →
     KnownIn set (grows opening v) records (seq + 1) (Some (begun next len size (length bytes) tick opened))
 opens-so set next seq len size tick bytes opened opening v records row known =
     let path : ℕ = set.path.0 in
@@ -153,94 +119,80 @@ opens-so set next seq len size tick bytes opened opening v records row known =
     let two : Known set ((grows (puts path seq row.cells) w).sessions path) records (seq + 1) (Some (record { at = seq; len = len; bytes = length bytes })) = known-puts set w records (seq + 1) (length bytes) (record { at = seq; len = len; bytes = 0 }) bytes row.cells (omega arith) row.packed one in
     rw (row.calls_are, row.seq_is) two
 
-overflows : (set : RxSet) (next seq len : ℕ) (bytes : List ℕ) (act : BoxMeaning) (m : RxDid) (v : View) (records : List SessionRecord) → Overflows set next seq len bytes act m → KnownIn set v records seq None → KnownBy set (grows m.calls v) (records ++ m.records) m.new
+-- what the last look at the room answered, the session of the reception says of its destinations
+abbrev IsLookedOf : Option Reception → Option Room → List Session → Type 0
+IsLookedOf busy look sessions = (going : Reception) (room : Room) (s : Session) → busy ≡ Some going → look ≡ Some room → slice_get sessions going.opened.seq ≡ Some s → s.readers ≡ room.readers
+
+-- a stage: what is known of the path's sessions
+record KnownAt (set : RxSet) (v : View) (records : List SessionRecord) (stage : RxStage) : Type 0 where
+  known : KnownBy set v records stage.state
+  looked : IsLookedOf stage.state.busy stage.look (v.sessions set.path.0)
+
+grow-refused : (path number free need : ℕ) (v : View) → (grow (Refused number free need) v).sessions path ≡ v.sessions path
 unfolding grow
-overflows set next seq len bytes act m v records row known = rw (row.calls, row.records, row.new) (known-refused set (v.sessions set.path.0) records seq None _ refl known)
+grow-refused path number free need v = refl
 
-grants : (set : RxSet) (next seq : ℕ) (busy : Reception) (m : RxDid) (v : View) (records : List SessionRecord) → Grants set next seq busy m → KnownIn set v records seq (Some busy) → KnownBy set (grows m.calls v) (records ++ m.records) m.new
-grants set next seq busy m v records (NoneReads room readers none row) known = none-reads set next seq room readers busy m v records none row known
-grants set next seq busy m v records (GrantsAll room readers some row) known =
-    after set m v records (asks set busy room readers) row.rest row.calls (silent set (record m { calls = row.rest }) _ (grows (asks set busy room readers) v) records row.row.calls row.row.records row.row.new (asked set v records seq room readers busy known))
+-- a look at the room
+looks-at : (set : RxSet) (v : View) (records : List SessionRecord) (seq : ℕ) (busy : Reception) (look : Room) → KnownIn set v records seq (Some busy) → IsLookedOf (Some busy) (Some look) ((grow (Asked set.path.0 busy.opened.seq look.cells look.readers) v).sessions set.path.0)
+looks-at set v records seq busy look known going room s is answers there =
+    let f : Session → Session = λ s. record s { room = look.cells; readers = look.readers } in
+    let same_busy : busy ≡ going = cc in
+    let same_room : look ≡ room = cc in
+    let here : slice_get ((grow (Asked set.path.0 busy.opened.seq look.cells look.readers) v).sessions set.path.0) busy.opened.seq ≡ Some (f known.going.session) =
+    ap (λ l. slice_get l busy.opened.seq) (grow-asked set.path.0 busy.opened.seq look.cells look.readers v) ∙ slice_get-change_at busy.opened.seq f (v.sessions set.path.0) known.going.session known.going.there in
+    let place : busy.opened.seq ≡ going.opened.seq = ap (λ (b : Reception). b.opened.seq) same_busy in
+    let same : Some s ≡ Some (f known.going.session) = sym there ∙ ap (λ n. slice_get ((grow (Asked set.path.0 busy.opened.seq look.cells look.readers) v).sessions set.path.0) n) (sym place) ∙ here in
+    let at : s ≡ f known.going.session = cc in
+    ap (λ (x : Session). x.readers) at ∙ ap (λ (r : Room). r.readers) same_room
 
-begins-single : (set : RxSet) (next seq size : ℕ) (bytes : List ℕ) (m : RxDid) (v : View) (records : List SessionRecord) → BeginsSingle set next seq size bytes m → KnownIn set v records seq None → KnownBy set (grows m.calls v) (records ++ m.records) m.new
-begins-single set next seq size bytes m v records (NoBuffer row) known = overflows set next seq (length bytes) bytes Keeps m v records row known
-begins-single set next seq size bytes m v records (Completes opened opening opens row) known =
-    after set m v records opening row.rest row.calls (ends-so set (next + 1) (seq + 1) (begun next (length bytes) size (length bytes) m.tick opened) Whole (record m { calls = row.rest }) (grows opening v) records (λ is. cc) row.row
-    (opens-so set next seq (length bytes) size m.tick bytes opened opening v records opens known))
+asked : (set : RxSet) (v : View) (records : List SessionRecord) (seq room readers : ℕ) (busy : Reception) → KnownIn set v records seq (Some busy) → KnownIn set (grow (Asked set.path.0 busy.opened.seq room readers) v) records seq (Some busy)
+asked set v records seq room readers busy known =
+    rw (grow-asked set.path.0 busy.opened.seq room readers v) (known-changed set (v.sessions set.path.0) records seq busy.bytes (filling_of busy) (λ s. record s { room = room; readers = readers }) (λ s. refl)
+    (λ s put. record { len_is = put.len_is; told = put.told; shown = put.shown; full = put.full; dests = put.dests }) known)
 
-begins-first : (set : RxSet) (next seq size len : ℕ) (bytes : List ℕ) (m : RxDid) (v : View) (records : List SessionRecord) → BeginsFirst set next seq size len bytes m → KnownIn set v records seq None → KnownBy set (grows m.calls v) (records ++ m.records) m.new
-begins-first set next seq size len bytes m v records (NoBufferFirst more row) known = overflows set next seq len bytes (Offers overflow) m v records row known
-begins-first set next seq size len bytes m v records (Opened more opened opening opens row) known =
-    after set m v records opening row.rest row.calls (grants set (next + 1) (seq + 1) (begun next len size (length bytes) m.tick opened) (record m { calls = row.rest }) (grows opening v) records row.row
-    (opens-so set next seq len size m.tick bytes opened opening v records opens known))
+-- no look
+unlooked : (busy : Option Reception) (sessions : List Session) → IsLookedOf busy None sessions
+unlooked busy sessions going room s is none there = cc
 
-begins : (set : RxSet) (next seq size : ℕ) (meaning : Meaning) (m : RxDid) (v : View) (records : List SessionRecord) → Begins set next seq size meaning m → KnownIn set v records seq None → KnownBy set (grows m.calls v) (records ++ m.records) m.new
-begins set next seq size (SingleFrame bytes) m v records row known = begins-single set next seq size bytes m v records row known
-begins set next seq size (FirstFrame len bytes) m v records row known = begins-first set next seq size len bytes m v records row known
-begins set next seq size (ConsecutiveFrame number bytes) m v records row known = absurd row
-begins set next seq size (FlowControl status block_size separation) m v records row known = absurd row
-begins set next seq size (NoUnit why) m v records row known = absurd row
+none-read : (set : RxSet) (event : RxEvent) (old : RxStage) (busy : Reception) (result : SessionResult) (sessions : List Session) → old.state.busy ≡ Some busy → EndsAt set event old busy result → IsLookedOf old.state.busy old.look sessions →
+    (s : Session) → slice_get sessions busy.opened.seq ≡ Some s → result ≡ NoReaders → s.readers ≡ 0
+none-read set event old busy result sessions was at looked s there is = let gone = subst (EndsAt set event old busy) is at in looked busy gone.0 s was gone.1 there ∙ gone.2
 
-interrupts : (set : RxSet) (next seq : ℕ) (busy : Option Reception) (m : RxDid) (v : View) (records : List SessionRecord) → Interrupts set next seq busy m → KnownIn set v records seq busy → KnownIn set (grows m.calls v) (records ++ m.records) seq None
-interrupts set next seq None m v records row known = rw (row.calls, row.records, append-nil) known
-interrupts set next seq (Some busy) m v records row known =
-    let P : RxState → Type 0 = λ s. KnownBy set (grows m.calls v) (records ++ m.records) s in
-    subst P row.new (ends-so set next seq busy Restarted m v records (λ is. cc) row known)
-
-starts : (set : RxSet) (next seq size : ℕ) (busy : Option Reception) (meaning : Meaning) (m : RxDid) (v : View) (records : List SessionRecord) → Starts set (record { next = next; seq = seq; busy = busy }) size meaning m → KnownIn set v records seq busy →
-    KnownBy set (grows m.calls v) (records ++ m.records) m.new
-starts set next seq size busy meaning m v records row known =
-    let one = interrupts set next seq busy row.earlier v records row.interrupts known in
-    let two = begins set next seq size meaning row.later (grows row.earlier.calls v) (records ++ row.earlier.records) row.begins one in
-    rw (row.calls, row.records, row.new, grows-append row.earlier.calls row.later.calls v, ← append_assoc records row.earlier.records row.later.records) two
-
-carries : (set : RxSet) (next seq : ℕ) (busy : Reception) (bytes : List ℕ) (m : RxDid) (v : View) (records : List SessionRecord) → Carries set next seq busy bytes m → KnownIn set v records seq (Some busy) → KnownBy set (grows m.calls v) (records ++ m.records) m.new
-carries set next seq busy bytes m v records (NoneReadsOn room readers none row) known = none-reads set next seq room readers busy m v records none row known
-carries set next seq busy bytes m v records (TooLittleRoom room readers need some need_is little row) known =
-    after set m v records (asks set busy room readers) row.rest row.calls (ends-so set next seq busy (NoRoom room need) (record m { calls = row.rest }) (grows (asks set busy room readers) v) records (λ is. cc) row.row (asked set v records seq room readers busy known))
-carries set next seq busy bytes m v records (Adds room readers cells some fits packed row) known =
-    after set m v records (asks set busy room readers) row.rest row.calls
-    (after set (record m { calls = row.rest }) (grows (asks set busy room readers) v) records (puts set.path.0 busy.opened.seq cells) row.row.rest row.row.calls
-    (silent set (record m { calls = row.row.rest }) _ (grows (puts set.path.0 busy.opened.seq cells) (grows (asks set busy room readers) v)) records row.row.row.calls row.row.row.records row.row.row.new
-    (known-puts set (grows (asks set busy room readers) v) records seq (busy.bytes + length bytes) (filling_of busy) bytes cells refl packed (asked set v records seq room readers busy known))))
-carries set next seq busy bytes m v records (Fills room readers cells some fits packed full row) known =
-    after set m v records (asks set busy room readers) row.rest row.calls
-    (after set (record m { calls = row.rest }) (grows (asks set busy room readers) v) records (puts set.path.0 busy.opened.seq cells) row.row.rest row.row.calls
-    (ends-so set next seq (gone_on busy (length bytes) m.tick) Whole (record m { calls = row.row.rest }) (grows (puts set.path.0 busy.opened.seq cells) (grows (asks set busy room readers) v)) records (λ is. cc) row.row.row
-    (known-puts set (grows (asks set busy room readers) v) records seq (busy.bytes + length bytes) (filling_of busy) bytes cells refl packed (asked set v records seq room readers busy known))))
-
-continues : (set : RxSet) (next seq : ℕ) (busy : Reception) (size number : ℕ) (bytes : List ℕ) (m : RxDid) (v : View) (records : List SessionRecord) → Continues set next seq busy size number bytes m → KnownIn set v records seq (Some busy) →
-    KnownBy set (grows m.calls v) (records ++ m.records) m.new
-continues set next seq busy size number bytes m v records (TooLong long row) known = quiet set m _ v records row known
-continues set next seq busy size number bytes m v records (TooShort short row) known = quiet set m _ v records row known
-continues set next seq busy size number bytes m v records (WrongNumber looked other row) known = ends-so set next seq busy (WrongSn busy.number number) m v records (λ is. cc) row known
-continues set next seq busy size number bytes m v records (RightNumber looked right row) known = carries set next seq busy (take (due set.a busy) bytes) m v records row known
-
-first : (set : RxSet) (next seq : ℕ) (busy : Option Reception) (size : ℕ) (meaning : Meaning) (functional : Bool) (m : RxDid) (v : View) (records : List SessionRecord) → FirstRow set (record { next = next; seq = seq; busy = busy }) size meaning functional m →
-    KnownIn set v records seq busy → KnownBy set (grows m.calls v) (records ++ m.records) m.new
-first set next seq busy size meaning true m v records row known = quiet set m _ v records row known
-first set next seq busy size meaning false m v records row known = starts set next seq size busy meaning m v records row known
-
-step : (set : RxSet) (next seq : ℕ) (busy : Option Reception) (event : RxEvent) (m : RxDid) (v : View) (records : List SessionRecord) → RxStep set (record { next = next; seq = seq; busy = busy }) event m → KnownIn set v records seq busy →
-    KnownBy set (grows m.calls v) (records ++ m.records) m.new
-step set next seq busy (Came size (SingleFrame bytes)) m v records row known = starts set next seq size busy (SingleFrame bytes) m v records row known
-step set next seq busy (Came size (FirstFrame len bytes)) m v records row known = first set next seq busy size (FirstFrame len bytes) set.functional m v records row known
-step set next seq None (Came size (ConsecutiveFrame number bytes)) m v records row known = quiet set m _ v records row known
-step set next seq (Some busy) (Came size (ConsecutiveFrame number bytes)) m v records row known = continues set next seq busy size number bytes m v records row known
-step set next seq busy (Came size (FlowControl status block_size separation)) m v records row known = quiet set m _ v records row known
-step set next seq busy (Came size (NoUnit why)) m v records row known = quiet set m _ v records row known
-step set next seq None Timer m v records row known = quiet set m _ v records row known
-step set next seq None FcLeft m v records row known = quiet set m _ v records row known
-step set next seq None RunEnd m v records row known = quiet set m _ v records row known
-step set next seq (Some busy) Timer m v records (InTime early row) known = quiet set m _ v records row known
-step set next seq (Some busy) Timer m v records (TooLate late row) known = ends-so set next seq busy (RxTimeout CfLimit) m v records (λ is. cc) row known
-step set next seq (Some busy) FcLeft m v records (FromBox waits row) known = silent set m _ v records row.calls row.records row.new known
-step set next seq (Some busy) FcLeft m v records (NotAwaited waits row) known = quiet set m _ v records row known
-step set next seq (Some busy) RunEnd m v records row known = ends-so set next seq busy (RunEnd busy.wait (record { 0 = busy.since })) m v records (λ is. cc) row known
+-- each effect
+known-effect : (set : RxSet) (event : RxEvent) (tick : ℕ) (old : RxStage) (done : RxDone) (v : View) (records : List SessionRecord) → RxEffect set event tick old done → KnownAt set v records old → KnownAt set (grows done.calls v) (records ++ done.records) done.new
+known-effect set event tick old done v records (Refuses e) so =
+    let known : KnownIn set v records old.state.seq None = subst (KnownIn set v records old.state.seq) e.of.idle so.known in
+    rw (e.calls, e.records, e.new) (record { known = rw (grow-refused set.path.0 e.number e.free _ v) (known-refused set (v.sessions set.path.0) records old.state.seq None _ refl known); looked = unlooked None _ })
+known-effect set event tick old done v records (Opens e) so =
+    let known : KnownIn set v records old.state.seq None = subst (KnownIn set v records old.state.seq) e.of.idle so.known in
+    rw (e.records, e.new, append-nil) (record { known = opens-so set old.state.next old.state.seq _ e.size tick _ e.opened done.calls v records e.opens known; looked = unlooked _ _ })
+known-effect set event tick old done v records (Looks e) so =
+    let known : KnownIn set v records old.state.seq (Some e.busy) = subst (KnownIn set v records old.state.seq) e.was so.known in
+    rw (e.calls, e.records, e.new, append-nil) (record {
+      known = rw e.was (asked set v records old.state.seq e.look.cells e.look.readers e.busy known);
+      looked = rw e.was (looks-at set v records old.state.seq e.busy e.look known);
+    })
+known-effect set event tick old done v records (Puts e) so =
+    let known : KnownIn set v records old.state.seq (Some e.busy) = subst (KnownIn set v records old.state.seq) e.was so.known in
+    rw (e.calls, e.records, e.new, append-nil) (record { known = known-puts set v records old.state.seq _ (filling_of e.busy) _ e.cells refl e.packed known; looked = unlooked _ _ })
+known-effect set event tick old done v records (Waits e) so =
+    let known : KnownIn set v records old.state.seq (Some e.busy) = subst (KnownIn set v records old.state.seq) e.was so.known in
+    rw (e.calls, e.records, e.new, append-nil) (record { known = known; looked = unlooked _ _ })
+known-effect set event tick old done v records (Ends e) so =
+    let known : KnownIn set v records old.state.seq (Some e.busy) = subst (KnownIn set v records old.state.seq) e.was so.known in
+    rw (e.calls, e.records, e.new) (record {
+      known = rw (grow-closed set.path.0 e.busy.opened.seq (freed_by e.left) v)
+          (known-closed set (v.sessions set.path.0) records old.state.seq (filling_of e.busy) _ e.busy.opened refl refl refl refl (none-read set event old e.busy e.result (v.sessions set.path.0) e.was e.at so.looked) known);
+      looked = unlooked None _;
+    })
 
 -- a whole run
 pub known-sessions : (set : RxSet) (turns : List RxTurn) → HasReceived set turns → KnownBy set (grows (calls_by turns) empty_view) (records_by turns) (state_after rx_new turns)
 known-sessions set [] happened = record { number = refl; told = tt; left = λ k s is left. cc; going = tt }
 known-sessions set (turn ∷ earlier) happened =
-    rw (grows-append (calls_by earlier) turn.did.calls empty_view)
-    (step set (state_after rx_new earlier).next (state_after rx_new earlier).seq (state_after rx_new earlier).busy turn.event turn.did (grows (calls_by earlier) empty_view) (records_by earlier) happened.1 (known-sessions set earlier happened.2))
+    let Holds : RxStage → List Event → List SessionRecord → Type 0 = λ stage calls records. KnownAt set (grows calls empty_view) records stage in
+    let by : IsThrough set turn.event turn.did (λ last. Holds last (calls_by earlier ++ turn.did.calls) (records_by earlier ++ turn.did.records)) =
+    step-through set (state_after rx_new earlier) turn.event turn.did Holds
+    (λ old done calls records effect so. subst (λ (v : View). KnownAt set v (records ++ done.records) done.new) (sym (grows-append calls done.calls empty_view)) (known-effect set turn.event turn.did.tick old done (grows calls empty_view) records effect so))
+    happened.1 (calls_by earlier) (records_by earlier) (record { known = known-sessions set earlier happened.2; looked = unlooked _ _ }) in
+    subst (λ (s : RxState). KnownBy set (grows (calls_by earlier ++ turn.did.calls) empty_view) (records_by earlier ++ turn.did.records) s) (sym by.state) by.holds.known

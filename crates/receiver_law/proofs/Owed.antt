@@ -1,118 +1,24 @@
--- What the flow controls of a source channel answer so far, and how each part of a step changes it.
-use Rattle.std.proofs.Common.{◌≡◌, ◌⊎◌, inl, inr, ℕ, suc, ◌+◌, ◌<◌, ◌≤◌, true, false, Option, Some, None, List, [], ◌∷◌, ◌++◌, length, refl, ap, sym, ◌∙◌, subst, arith, append-nil}
+-- How starts and ends change what the flow controls of a source channel answer.
+use Rattle.std.proofs.Common.{◌≡◌, inl, inr, ℕ, suc, ◌+◌, ◌<◌, ◌≤◌, true, false, Option, Some, None, List, [], ◌∷◌, ◌++◌, length, refl, ap, sym, ◌∙◌, subst, arith, append-nil}
 use Rattle.tp_unit.specs.Box.{Written, box_then}
 use Rattle.tp_receiver.specs.State.{Reception}
 use Rattle.tp_receiver.specs.Table.{revoking, continue_to_send, overflow}
 use Rattle.std.specs.Prelude.{slice_get}
-use Rattle.std.specs.List.{AllByRecursion}
 use Rattle.std.proofs.lemmas.List.{length-append}
 use Rattle.std.proofs.lemmas.Option.{slice_get_within}
-use Rattle.hub_core.specs.declared.record.RxWait.TheVariants.{Box, Cf}
+use Rattle.hub_core.specs.declared.record.RxWait.TheVariants.{Box}
 use Rattle.hub_core.specs.declared.record.SessionRecord.{SessionRecord}
 use Rattle.tp_attempts.specs.Seen.{Seen}
 use Rattle.tp_receiver.specs.declared.set.RxSet.{RxSet}
 use Rattle.tp_unit.specs.declared.shape.Shape.{Shape}
 use Rattle.tp_unit.specs.Unit.{Meaning}
-use Rattle.tp_unit.specs.Writing.{frame_of}
 use Rattle.receiver_law.specs.FlowControls.{IsFirst}
-use Rattle.receiver_law.specs.Source.{is_overflow}
-use Rattle.receiver_law.proofs.Effects.{is_run_end}
-use Rattle.gw_base.proofs.Lists.{all-both, all-push, all-weaker, at-next, same-some, slice_get-more}
+use Rattle.receiver_law.specs.Source.{is_overflow, is_run_end}
+use Rattle.gw_base.proofs.Lists.{all-both, at-next, same-some, slice_get-more}
 use Rattle.hub_core.proofs.Growing.{slice_get-pushed}
+use Rattle.receiver_law.proofs.Story.{Story, HasLeft, IsRefusal, Answers, IsAnswered, IsOpened, Facts, LiesIdle, LiesBusy, IdleSo, BusySo, LetsCome, NoRoom, Gone, Replaced, Lies, Waits, Went}
 
--- what is told of a source channel so far: the present tick, one below which all flow controls left, what lies in the box,
--- the starts that came, the records, and the flow controls that left
-pub record Story : Type 0 where
-  pub now : ℕ
-  pub bound : ℕ
-  pub lies : Option Meaning
-  pub starts : List Seen
-  pub records : List SessionRecord
-  pub controls : List Written
-
--- such a flow control left in that tick
-pub record HasLeft (shape : Shape) (meaning : Meaning) (tick : ℕ) (controls : List Written) : Type 0 where
-  pub place : ℕ
-  pub w : Written
-  pub there : slice_get controls place ≡ Some w
-  pub at : w.tick ≡ tick
-  pub frame : w.frame ≡ frame_of shape meaning
-
--- a first frame of that tick is its last start, and opens a session
-pub record IsOpening (starts : List Seen) (records : List SessionRecord) (tick : ℕ) : Type 0 where
-  pub place : ℕ
-  pub start : Seen
-  pub start_is : slice_get starts place ≡ Some start
-  pub first : IsFirst start.meaning
-  pub at : start.at ≡ tick
-  pub opened : (told : SessionRecord) → slice_get records place ≡ Some told → is_overflow told.result ≡ false
-  pub last : (later : ℕ) (next : Seen) → place < later → slice_get starts later ≡ Some next → tick < next.at
-
--- a first frame of that tick finds no room
-pub record IsRefusal (starts : List Seen) (records : List SessionRecord) (tick : ℕ) : Type 0 where
-  pub place : ℕ
-  pub start : Seen
-  pub start_is : slice_get starts place ≡ Some start
-  pub first : IsFirst start.meaning
-  pub at : start.at ≡ tick
-  pub told : SessionRecord
-  pub told_is : slice_get records place ≡ Some told
-  pub refused : is_overflow told.result ≡ true
-
--- what a flow control that left answers
-pub data Answers (set : RxSet) (shape : Shape) (starts : List Seen) (records : List SessionRecord) (w : Written) : Type 0 where
-  LetsCome : w.frame ≡ frame_of shape (continue_to_send set) → IsOpening starts records w.tick → Answers set shape starts records w
-  NoRoom : w.frame ≡ frame_of shape overflow → IsRefusal starts records w.tick → Answers set shape starts records w
-
--- what became of the flow control of an overflow of that tick: it left, a later start came in that tick, or it lies in the box
-pub data IsAnswered (shape : Shape) (story : Story) (place tick : ℕ) : Type 0 where
-  Gone : HasLeft shape overflow tick story.controls → IsAnswered shape story place tick
-  Replaced : (later : ℕ) (next : Seen) → place < later → slice_get story.starts later ≡ Some next → next.at ≡ tick → IsAnswered shape story place tick
-  Lies : story.lies ≡ Some overflow → tick ≡ story.now → IsAnswered shape story place tick
-
--- what became of the flow control of a first frame that opened a session: a frame of that tick ended the session, or it left
-abbrev pub IsOpened : RxSet → Shape → Seen → SessionRecord → List Written → Type 0
-IsOpened set shape start told controls = ((start.at ≡ told.end.0) × (is_run_end told.result ≡ false)) ⊎ HasLeft shape (continue_to_send set) start.at controls
-
-pub record Facts (set : RxSet) (shape : Shape) (story : Story) : Type 0 where
-  pub answers : AllByRecursion (Answers set shape story.starts story.records) story.controls
-  pub early : AllByRecursion (λ (w : Written). w.tick < story.bound) story.controls
-  pub came_by : (k : ℕ) (start : Seen) → slice_get story.starts k ≡ Some start → start.at ≤ story.now
-  pub ended_by : (k : ℕ) (told : SessionRecord) → slice_get story.records k ≡ Some told → told.end.0 ≤ story.now
-  pub order : (k later : ℕ) (told : SessionRecord) (next : Seen) → k < later → slice_get story.records k ≡ Some told → slice_get story.starts later ≡ Some next → told.end.0 ≤ next.at
-  pub opened : (k : ℕ) (start : Seen) (told : SessionRecord) → slice_get story.starts k ≡ Some start → slice_get story.records k ≡ Some told → IsFirst start.meaning → is_overflow told.result ≡ false →
-      IsOpened set shape start told story.controls
-  pub refused : (k : ℕ) (start : Seen) (told : SessionRecord) → slice_get story.starts k ≡ Some start → slice_get story.records k ≡ Some told → IsFirst start.meaning → is_overflow told.result ≡ true → IsAnswered shape story k start.at
-
--- the box, where no reception is in progress
-abbrev pub LiesIdle : Story → Option Meaning → Type 0
-LiesIdle story None = Unit {0}
-LiesIdle story (Some meaning) = (meaning ≡ overflow) × IsRefusal story.starts story.records story.now
-
--- the box, where one is: its flow control lies there since its start's tick, or has left in it
-pub data LiesBusy (set : RxSet) (shape : Shape) (story : Story) (busy : Reception) : Type 0 where
-  Waits : busy.wait ≡ Box → story.lies ≡ Some (continue_to_send set) → busy.begin ≡ story.now → LiesBusy set shape story busy
-  Went : busy.wait ≡ Cf → story.lies ≡ None → HasLeft shape (continue_to_send set) busy.begin story.controls → LiesBusy set shape story busy
-
-pub record IdleSo (set : RxSet) (shape : Shape) (story : Story) : Type 0 where
-  pub facts : Facts set shape story
-  pub all_told : length story.starts ≡ length story.records
-  pub lies : LiesIdle story story.lies
-
-pub record BusySo (set : RxSet) (shape : Shape) (story : Story) (busy : Reception) : Type 0 where
-  pub facts : Facts set shape story
-  pub one_more : length story.starts ≡ length story.records + 1
-  pub start : Seen
-  pub start_is : slice_get story.starts (length story.records) ≡ Some start
-  pub first : IsFirst start.meaning
-  pub begin : start.at ≡ busy.begin
-  pub lies : LiesBusy set shape story busy
-
-abbrev pub SoFar : RxSet → Shape → Story → Option Reception → Type 0
-SoFar set shape story None = IdleSo set shape story
-SoFar set shape story (Some busy) = BusySo set shape story busy
-
-left-more : (shape : Shape) (meaning : Meaning) (tick : ℕ) (controls more : List Written) → HasLeft shape meaning tick controls → HasLeft shape meaning tick (controls ++ more)
+pub left-more : (shape : Shape) (meaning : Meaning) (tick : ℕ) (controls more : List Written) → HasLeft shape meaning tick controls → HasLeft shape meaning tick (controls ++ more)
 left-more shape meaning tick controls more left = record { place = left.place; w = left.w; there = slice_get-more controls more left.place left.w left.there; at = left.at; frame = left.frame }
 
 refusal-more : (starts other : List Seen) (records others : List SessionRecord) (tick : ℕ) → IsRefusal starts records tick → IsRefusal (starts ++ other) (records ++ others) tick
@@ -218,7 +124,7 @@ other-control : (set : RxSet) → Some (continue_to_send set) ≡ Some overflow 
 other-control set same = cc
 
 -- an overflow's flow control doesn't lie there where a reception is in progress
-none-lies : (set : RxSet) (shape : Shape) (story : Story) (busy : Reception) → LiesBusy set shape story busy → story.lies ≡ Some overflow → ⊥
+pub none-lies : (set : RxSet) (shape : Shape) (story : Story) (busy : Reception) → LiesBusy set shape story busy → story.lies ≡ Some overflow → ⊥
 none-lies set shape story busy (Waits box lies at) is = other-control set (sym lies ∙ is)
 none-lies set shape story busy (Went cf none left) is = absurd cc
 
@@ -312,87 +218,4 @@ begins set shape story start busy at bound first begin box so = record {
   first = first;
   begin = at ∙ sym begin;
   lies = Waits box refl begin;
-}
-
--- what lies in the box leaves in this tick
-answered-left : (shape : Shape) (story : Story) (w : Written) (k tick : ℕ) → (story.lies ≡ Some overflow → w.frame ≡ frame_of shape overflow) → w.tick ≡ story.now → IsAnswered shape story k tick →
-    IsAnswered shape (record story { bound = story.now + 1; lies = None; controls = story.controls ++ w ∷ [] }) k tick
-answered-left shape story w k tick says at (Gone left) = Gone (left-more shape overflow tick story.controls (w ∷ []) left)
-answered-left shape story w k tick says at (Replaced later next above there same) = Replaced later next above there same
-answered-left shape story w k tick says at (Lies is same) =
-    Gone (record { place = length story.controls; w = w; there = slice_get-pushed story.controls w (length story.controls) refl; at = at ∙ sym same; frame = says is })
-
-facts-left : (set : RxSet) (shape : Shape) (story : Story) (w : Written) → w.tick ≡ story.now → story.bound ≤ story.now → (story.lies ≡ Some overflow → w.frame ≡ frame_of shape overflow) → Answers set shape story.starts story.records w → Facts set shape story →
-    Facts set shape (record story { bound = story.now + 1; lies = None; controls = story.controls ++ w ∷ [] })
-facts-left set shape story w at bound says is so = record {
-  answers = all-push (Answers set shape story.starts story.records) story.controls w so.answers is;
-  early = all-push (λ (c : Written). c.tick < story.now + 1) story.controls w (all-weaker (λ (c : Written). c.tick < story.bound) (λ (c : Written). c.tick < story.now + 1) story.controls (λ c early. omega (arith, early, bound)) so.early) (omega (arith, at));
-  came_by = so.came_by;
-  ended_by = so.ended_by;
-  order = so.order;
-  opened = λ k s told there here first opened. elim (so.opened k s told there here first opened) [ inl at_once ↦ inl at_once | inr left ↦ inr (left-more shape (continue_to_send set) s.at story.controls (w ∷ []) left) ];
-  refused = λ k s told there here first refused. answered-left shape story w k s.at says at (so.refused k s told there here first refused);
-}
-
-pub no-room-leaves : (set : RxSet) (shape : Shape) (story : Story) → story.lies ≡ Some overflow → story.bound ≤ story.now → IdleSo set shape story →
-    IdleSo set shape (record story { bound = story.now + 1; lies = None; controls = story.controls ++ record { tick = story.now; frame = frame_of shape overflow } ∷ [] })
-no-room-leaves set shape story lies bound so = record {
-  facts = facts-left set shape story (record { tick = story.now; frame = frame_of shape overflow }) refl bound (λ is. refl) (NoRoom refl (subst (LiesIdle story) lies so.lies).1) so.facts;
-  all_told = so.all_told;
-  lies = tt;
-}
-
-pub leaves : (set : RxSet) (shape : Shape) (story : Story) (busy new : Reception) → story.lies ≡ Some (continue_to_send set) → story.bound ≤ story.now → busy.begin ≡ story.now → new.begin ≡ busy.begin → new.wait ≡ Cf → BusySo set shape story busy →
-    BusySo set shape (record story { bound = story.now + 1; lies = None; controls = story.controls ++ record { tick = story.now; frame = frame_of shape (continue_to_send set) } ∷ [] }) new
-leaves set shape story busy new lies bound begin same cf so =
-    let w : Written = record { tick = story.now; frame = frame_of shape (continue_to_send set) } in
-    record {
-      facts = facts-left set shape story w refl bound (λ is. absurd (none-lies set shape story busy so.lies is)) (LetsCome refl (record {
-        place = length story.records;
-        start = so.start;
-        start_is = so.start_is;
-        first = so.first;
-        at = so.begin ∙ begin;
-        opened = λ told there. absurd (omega (arith, slice_get_within story.records (length story.records) told there));
-        last = λ later next above there. absurd (omega (arith, above, so.one_more, slice_get_within story.starts later next there));
-      })) so.facts;
-      one_more = so.one_more;
-      start = so.start;
-      start_is = so.start_is;
-      first = so.first;
-      begin = so.begin ∙ sym same;
-      lies = Went cf refl (record { place = length story.controls; w = w; there = slice_get-pushed story.controls w (length story.controls) refl; at = sym begin ∙ sym same; frame = refl });
-    }
-
--- time passes, once the box is empty
-answered-later : (shape : Shape) (story : Story) (now bound k tick : ℕ) → story.lies ≡ None → IsAnswered shape story k tick → IsAnswered shape (record story { now = now; bound = bound }) k tick
-answered-later shape story now bound k tick none (Gone left) = Gone left
-answered-later shape story now bound k tick none (Replaced later next above there same) = Replaced later next above there same
-answered-later shape story now bound k tick none (Lies is same) = absurd cc
-
-facts-later : (set : RxSet) (shape : Shape) (story : Story) (now bound : ℕ) → story.now ≤ now → story.bound ≤ bound → story.lies ≡ None → Facts set shape story → Facts set shape (record story { now = now; bound = bound })
-facts-later set shape story now bound later up none so = record {
-  answers = so.answers;
-  early = all-weaker (λ (c : Written). c.tick < story.bound) (λ (c : Written). c.tick < bound) story.controls (λ c early. omega (arith, early, up)) so.early;
-  came_by = λ k s there. let by : s.at ≤ story.now = so.came_by k s there in omega (arith, by, later);
-  ended_by = λ k told there. let by : told.end.0 ≤ story.now = so.ended_by k told there in omega (arith, by, later);
-  order = so.order;
-  opened = so.opened;
-  refused = λ k s told there here first refused. answered-later shape story now bound k s.at none (so.refused k s told there here first refused);
-}
-
-lies-later : (set : RxSet) (shape : Shape) (story : Story) (now bound : ℕ) (busy : Reception) → story.lies ≡ None → LiesBusy set shape story busy → LiesBusy set shape (record story { now = now; bound = bound }) busy
-lies-later set shape story now bound busy none (Waits box lies at) = absurd cc
-lies-later set shape story now bound busy none (Went cf gone left) = Went cf gone left
-
-pub later : (set : RxSet) (shape : Shape) (story : Story) (now bound : ℕ) (busy : Option Reception) → story.now ≤ now → story.bound ≤ bound → story.lies ≡ None → SoFar set shape story busy → SoFar set shape (record story { now = now; bound = bound }) busy
-later set shape story now bound None le up none so = record { facts = facts-later set shape story now bound le up none so.facts; all_told = so.all_told; lies = subst (LiesIdle (record story { now = now; bound = bound })) (sym none) tt }
-later set shape story now bound (Some busy) le up none so = record {
-  facts = facts-later set shape story now bound le up none so.facts;
-  one_more = so.one_more;
-  start = so.start;
-  start_is = so.start_is;
-  first = so.first;
-  begin = so.begin;
-  lies = lies-later set shape story now bound busy none so.lies;
 }

@@ -1,5 +1,5 @@
 -- Each record of the source channel's receptions comes of its cause, in every run.
-use Rattle.std.proofs.Common.{◌≡◌, ℕ, ◌+◌, ◌≤◌, inl, inr, Option, Some, None, List, [], ◌∷◌, ◌++◌, zero, suc, refl, ap, sym, ◌∙◌, subst, arith, append-nil}
+use Rattle.std.proofs.Common.{◌≡◌, ℕ, ◌+◌, ◌≤◌, Bool, true, inl, inr, Option, Some, None, List, [], ◌∷◌, ◌++◌, zero, suc, refl, ap, sym, ◌∙◌, subst, arith, append-nil}
 use Rattle.tp_unit.specs.Box.{Written}
 use Rattle.tp_receiver.specs.State.{Reception, RxDid, RunEnd}
 use Rattle.tp_receiver.specs.Table.{ended, EndRow, continue_to_send}
@@ -20,12 +20,13 @@ use Rattle.tp_attempts.proofs.Walks.{last_place-more}
 use Rattle.tp_receiver.specs.declared.set.RxSet.{RxSet}
 use Rattle.tp_unit.specs.Shape.{address_size}
 use Rattle.tp_unit.specs.Unit.{Meaning}
-use Rattle.receiver_law.specs.ReceptionCauses.{HasCause, HasRoom, IsCaused, IsNeverBoxed, LetGoIn, StillWaits}
+use Rattle.receiver_law.specs.ReceptionCauses.{AreCaused, HasCause, HasRoom, IsCaused, IsNeverBoxed, LetGoIn, StillWaits}
 use Rattle.receiver_law.specs.Channel.{SourceChannel}
 use Rattle.receiver_law.specs.Source.{Tells}
-use Rattle.receiver_law.proofs.RxCauses.{IsGoing, all-late, SoBy, WaitsSo}
+use Rattle.receiver_law.proofs.CausesSoFar.{IsGoing, SoBy, WaitsSo}
+use Rattle.receiver_law.proofs.RxCauses.{all-late}
 use Rattle.receiver_law.proofs.RxSettled.{AreSettled, Comes, IsLast, IsSettled, starts_of}
-use Rattle.gw_base.proofs.Lists.{zip-push}
+use Rattle.gw_base.proofs.Lists.{zip-push, zip-weaker}
 
 last-is : (begin at : ℕ) (pieces : List Piece) → IsLast at pieces → last_place begin pieces ≡ at
 last-is begin at pieces last = ap (last_place begin) last.are ∙ last_place-more begin last.front last.piece ∙ last.at_is
@@ -45,22 +46,22 @@ begins-there chan address (attempt ∷ attempts) (told ∷ records) (suc place) 
     record { next = there.next; is = there.is; begins = there.begins }
 
 -- a record that was told before the run's end
-cause-by : (r : SourceChannel) (over : ℕ) (attempt : Cut Seen) (told : SessionRecord) (how : SessionResult) → AllZip (Tells r.rx.chan.0 r.rx.a) (attempts_in r.rx.functional r.seen) r.sessions → told.result ≡ how → Comes how → HasRoom how →
-    IsSettled r.rx (address_size r.shape) r.controls over (starts_of (attempts_in r.rx.functional r.seen)) attempt told → HasCause r attempt told how
-cause-by r over attempt told Whole tells is comes room_is so = sym (last-is told.begin.0 told.end.0 (walk_of r.rx.a attempt).pieces (so.whole is).0)
-cause-by r over attempt told (Overflow change free need) tells is comes room_is so = tt
-cause-by r over attempt told (WrongSn want got) tells is comes room_is so = tt
-cause-by r over attempt told (RxTimeout BoxLimit) tells is comes room_is so = cc
-cause-by r over attempt told (RxTimeout CfLimit) tells is comes room_is so =
+cause-by : (full : ℕ → Bool) (r : SourceChannel) (over : ℕ) (attempt : Cut Seen) (told : SessionRecord) (how : SessionResult) → AllZip (Tells r.rx.chan.0 r.rx.a) (attempts_in r.rx.functional r.seen) r.sessions → told.result ≡ how → Comes how → HasRoom how →
+    IsSettled r.rx (address_size r.shape) r.controls over (starts_of (attempts_in r.rx.functional r.seen)) attempt told → HasCause full r attempt told how
+cause-by full r over attempt told Whole tells is comes room_is so = sym (last-is told.begin.0 told.end.0 (walk_of r.rx.a attempt).pieces (so.whole is).0)
+cause-by full r over attempt told (Overflow change free need) tells is comes room_is so = tt
+cause-by full r over attempt told (WrongSn want got) tells is comes room_is so = tt
+cause-by full r over attempt told (RxTimeout BoxLimit) tells is comes room_is so = cc
+cause-by full r over attempt told (RxTimeout CfLimit) tells is comes room_is so =
     let late = so.late is in record { at = told.begin.0; from = omega arith; left = late.left; limit = late.limit; silent = late.silent }
-cause-by r over attempt told Restarted tells is comes room_is so =
+cause-by full r over attempt told Restarted tells is comes room_is so =
     let there : BeginsThere r.sessions (told.n + 1) told.end.0 = begins-there r.rx.chan.0 r.rx.a (attempts_in r.rx.functional r.seen) r.sessions (told.n + 1) told.end.0 tells (so.restarted is) in
     record { next = there.next; is = there.is; begins = there.begins }
-cause-by r over attempt told (NoRoom room need) tells is comes room_is so = absurd room_is
-cause-by r over attempt told WaitOver tells is comes room_is so = absurd comes
-cause-by r over attempt told NoReaders tells is comes room_is so = so.unread is
-cause-by r over attempt told Cancelled tells is comes room_is so = absurd comes
-cause-by r over attempt told (RunEnd wait since) tells is comes room_is so = absurd comes
+cause-by full r over attempt told (NoRoom room need) tells is comes room_is so = absurd room_is
+cause-by full r over attempt told WaitOver tells is comes room_is so = absurd comes
+cause-by full r over attempt told NoReaders tells is comes room_is so = so.unread is
+cause-by full r over attempt told Cancelled tells is comes room_is so = absurd comes
+cause-by full r over attempt told (RunEnd wait since) tells is comes room_is so = absurd comes
 
 never-boxed : (how : SessionResult) → Comes how → IsNeverBoxed how
 never-boxed Whole comes = tt
@@ -75,23 +76,23 @@ never-boxed Cancelled comes = tt
 never-boxed (RunEnd wait since) comes = absurd comes
 
 -- what is said of a record
-abbrev pub IsSaid : SourceChannel → Cut Seen → SessionRecord → Type 0
-IsSaid r attempt told = IsCaused r attempt told × IsNeverBoxed told.result
+abbrev pub IsSaid : (full : ℕ → Bool) → SourceChannel → Cut Seen → SessionRecord → Type 0
+IsSaid full r attempt told = IsCaused full r attempt told × IsNeverBoxed told.result
 
-said-all : (r : SourceChannel) (over : ℕ) → AllZip (Tells r.rx.chan.0 r.rx.a) (attempts_in r.rx.functional r.seen) r.sessions → (attempts : List (Cut Seen)) (records : List SessionRecord) →
-    AllByRecursion (λ (told : SessionRecord). HasRoom told.result) records → AreSettled r.rx (address_size r.shape) r.controls over (starts_of (attempts_in r.rx.functional r.seen)) attempts records → AllZip (IsSaid r) attempts records
-said-all r over tells [] [] roomy so = tt
-said-all r over tells [] (told ∷ records) roomy so = absurd so
-said-all r over tells (attempt ∷ attempts) [] roomy so = absurd so
-said-all r over tells (attempt ∷ attempts) (told ∷ records) roomy so = (
+said-all : (full : ℕ → Bool) (r : SourceChannel) (over : ℕ) → AllZip (Tells r.rx.chan.0 r.rx.a) (attempts_in r.rx.functional r.seen) r.sessions → (attempts : List (Cut Seen)) (records : List SessionRecord) →
+    AllByRecursion (λ (told : SessionRecord). HasRoom told.result) records → AreSettled r.rx (address_size r.shape) r.controls over (starts_of (attempts_in r.rx.functional r.seen)) attempts records → AllZip (IsSaid full r) attempts records
+said-all full r over tells [] [] roomy so = tt
+said-all full r over tells [] (told ∷ records) roomy so = absurd so
+said-all full r over tells (attempt ∷ attempts) [] roomy so = absurd so
+said-all full r over tells (attempt ∷ attempts) (told ∷ records) roomy so = (
   (
     record {
-      cause = cause-by r over attempt told told.result tells refl so.0.comes roomy.0 so.0;
+      cause = cause-by full r over attempt told told.result tells refl so.0.comes roomy.0 so.0;
       none_passed = λ tick from below late. so.0.none_passed tick from below late.silent;
     },
     never-boxed told.result so.0.comes,
   ),
-  said-all r over tells attempts records roomy.1 so.1,
+  said-all full r over tells attempts records roomy.1 so.1,
 )
 
 -- in an empty box nothing is waited for
@@ -101,13 +102,13 @@ waits-cf set address lies controls now begin since Box empty waits = let clash :
 waits-cf set address lies controls now begin since Room empty waits = absurd waits
 
 -- the record that the run's end makes
-said-last : (r : SourceChannel) (lies : Option Meaning) (now over : ℕ) (busy : Reception) (attempt : Cut Seen) → lies ≡ None → over ≡ r.last + 1 → now ≤ r.last → IsGoing r.rx (address_size r.shape) lies r.controls now over busy attempt →
-    IsSaid r attempt (ended r.rx busy (RunEnd busy.wait (record { 0 = busy.since })) r.last)
-said-last r lies now over busy attempt empty over_is later so =
+said-last : (full : ℕ → Bool) (r : SourceChannel) (lies : Option Meaning) (now over : ℕ) (busy : Reception) (attempt : Cut Seen) → lies ≡ None → over ≡ r.last + 1 → now ≤ r.last → IsGoing r.rx (address_size r.shape) lies r.controls now over busy attempt →
+    IsSaid full r attempt (ended r.rx busy (RunEnd busy.wait (record { 0 = busy.since })) r.last)
+said-last full r lies now over busy attempt empty over_is later so =
     let waits = waits-cf r.rx (address_size r.shape) lies r.controls now busy.begin busy.since busy.wait empty so.waits in
     let told : SessionRecord = ended r.rx busy (RunEnd busy.wait (record { 0 = busy.since })) r.last in
     let last : last_place busy.begin (walk_of r.rx.a attempt).pieces ≡ busy.since = last-is busy.begin busy.since (walk_of r.rx.a attempt).pieces so.last in
-    let P : RxWait → Type 0 = λ wait. StillWaits r attempt told busy.since wait in (
+    let P : RxWait → Type 0 = λ wait. StillWaits full r attempt told busy.since wait in (
       record {
         cause = (
           refl,
@@ -129,14 +130,34 @@ said-last r lies now over busy attempt empty over_is later so =
     )
 
 -- all records, after the run's end
-pub said-ended : (r : SourceChannel) (next seq now over : ℕ) (busy : Option Reception) (lies : Option Meaning) (m : RxDid) (records : List SessionRecord) → AllZip (Tells r.rx.chan.0 r.rx.a) (attempts_in r.rx.functional r.seen) r.sessions →
+pub said-ended : (full : ℕ → Bool) (r : SourceChannel) (next seq now over : ℕ) (busy : Option Reception) (lies : Option Meaning) (m : RxDid) (records : List SessionRecord) → AllZip (Tells r.rx.chan.0 r.rx.a) (attempts_in r.rx.functional r.seen) r.sessions →
     AllByRecursion (λ (told : SessionRecord). HasRoom told.result) records → SoBy r.rx (address_size r.shape) busy lies r.controls now over r.seen records → lies ≡ None → ((b : Reception) → busy ≡ Some b → over ≡ r.last + 1) → now ≤ m.tick → m.tick ≡ r.last → EndRow r.rx (record { next = next; seq = seq; busy = busy }) busy m →
-    AllZip (IsSaid r) (attempts_in r.rx.functional r.seen) (records ++ m.records)
-said-ended r next seq now over None lies m records tells roomy so empty past later at row = rw (row.records, append-nil) (said-all r over tells (attempts_in r.rx.functional r.seen) records roomy so)
-said-ended r next seq now over (Some busy) lies m records tells roomy so empty past later at row =
-    let P : List SessionRecord → Type 0 = λ more. AllZip (IsSaid r) (attempts_in r.rx.functional r.seen) (records ++ more) in
+    AllZip (IsSaid full r) (attempts_in r.rx.functional r.seen) (records ++ m.records)
+said-ended full r next seq now over None lies m records tells roomy so empty past later at row = rw (row.records, append-nil) (said-all full r over tells (attempts_in r.rx.functional r.seen) records roomy so)
+said-ended full r next seq now over (Some busy) lies m records tells roomy so empty past later at row =
+    let P : List SessionRecord → Type 0 = λ more. AllZip (IsSaid full r) (attempts_in r.rx.functional r.seen) (records ++ more) in
     let told : SessionRecord = ended r.rx busy (RunEnd busy.wait (record { 0 = busy.since })) r.last in
-    let Q : List (Cut Seen) → Type 0 = λ attempts. AllZip (IsSaid r) attempts (records ++ told ∷ []) in
+    let Q : List (Cut Seen) → Type 0 = λ attempts. AllZip (IsSaid full r) attempts (records ++ told ∷ []) in
     subst P (sym (row.records ∙ ap (λ t. ended r.rx busy (RunEnd busy.wait (record { 0 = busy.since })) t ∷ []) at))
-    (subst Q (sym so.cut) (zip-push (IsSaid r) so.earlier records so.attempt told (said-all r over tells so.earlier records roomy so.told)
-    (said-last r lies now over busy so.attempt empty (past busy refl) (omega (arith, later, at)) so.going)))
+    (subst Q (sym so.cut) (zip-push (IsSaid full r) so.earlier records so.attempt told (said-all full r over tells so.earlier records roomy so.told)
+    (said-last full r lies now over busy so.attempt empty (past busy refl) (omega (arith, later, at)) so.going)))
+
+-- the same causes, where the bus is said to be full in more ticks
+cause-fuller : (full other : ℕ → Bool) (r : SourceChannel) (attempt : Cut Seen) (told : SessionRecord) (how : SessionResult) → ((tick : ℕ) → full tick ≡ true → other tick ≡ true) → HasCause full r attempt told how → HasCause other r attempt told how
+cause-fuller full other r attempt told Whole more cause = cause
+cause-fuller full other r attempt told (Overflow change free need) more cause = tt
+cause-fuller full other r attempt told (WrongSn want got) more cause = tt
+cause-fuller full other r attempt told (RxTimeout BoxLimit) more cause = record { since = cause.since; from = cause.from; limit = cause.limit; kept = λ tick from below. more tick (cause.kept tick from below) }
+cause-fuller full other r attempt told (RxTimeout CfLimit) more cause = cause
+cause-fuller full other r attempt told Restarted more cause = cause
+cause-fuller full other r attempt told (NoRoom room need) more cause = absurd cause
+cause-fuller full other r attempt told WaitOver more cause = absurd cause
+cause-fuller full other r attempt told NoReaders more cause = cause
+cause-fuller full other r attempt told Cancelled more cause = absurd cause
+cause-fuller full other r attempt told (RunEnd Box since) more cause = (cause.0, cause.1, (cause.2.0, λ tick from by. more tick (cause.2.1 tick from by)))
+cause-fuller full other r attempt told (RunEnd Room since) more cause = absurd cause.2
+cause-fuller full other r attempt told (RunEnd Cf since) more cause = cause
+
+pub caused-fuller : (full other : ℕ → Bool) (r : SourceChannel) → ((tick : ℕ) → full tick ≡ true → other tick ≡ true) → AreCaused full r → AreCaused other r
+caused-fuller full other r more all =
+    zip-weaker (IsCaused full r) (IsCaused other r) (attempts_in r.rx.functional r.seen) r.sessions (λ attempt told one. record { cause = cause-fuller full other r attempt told told.result more one.cause; none_passed = one.none_passed }) all

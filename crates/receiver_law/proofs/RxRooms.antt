@@ -22,6 +22,7 @@ use Rattle.tp_attempts.specs.Seen.{Seen}
 use Rattle.tp_receiver.specs.declared.set.RxSet.{RxSet}
 use Rattle.tp_unit.specs.Unit.{Meaning, SingleFrame, FirstFrame, ConsecutiveFrame, FlowControl, NoUnit}
 use Rattle.receiver_law.specs.ReceptionCauses.{HasRoom, IsShortStart}
+use Rattle.receiver_law.specs.Looks.{AllLook, LooksWell, many}
 use Rattle.receiver_law.proofs.Sessions.{AllFilled, all-filled, cells_at}
 use Rattle.receiver_law.proofs.Stores.{cells_in-puts}
 use Rattle.gw_base.proofs.Lists.{all-front, all-join, all-last}
@@ -35,10 +36,6 @@ one-cell bytes (c ∷ d ∷ cells) packed short =
     let full : count_of c ≡ 7 = packed.full 0 (omega arith) in
     let other : IsCell d = All-head IsCell d cells (All-tail IsCell c (d ∷ cells) packed.cells_only) in
     absurd (omega (arith, all, sum_by-cons count_of c (d ∷ cells), sum_by-cons count_of d cells, full, other.some, short))
-
--- the cells that calls put into the session of a number
-abbrev pub many : (path seq : ℕ) → List Event → ℕ
-many path seq calls = length (cells_in path seq calls)
 
 many-append : (path seq : ℕ) (calls more : List Event) → many path seq (calls ++ more) ≡ many path seq calls + many path seq more
 many-append path seq calls more = ap length (flat_map-append (cell_in path seq) calls more) ∙ length-append (cells_in path seq calls) (cells_in path seq more)
@@ -56,11 +53,6 @@ pub record IsFew (set : RxSet) (busy : Reception) (calls : List Event) : Type 0 
 abbrev pub FewBy : RxSet → Option Reception → List Event → Type 0
 FewBy set None calls = Unit {0}
 FewBy set (Some busy) calls = IsFew set busy calls
-
--- a look at the room counts all of the buffer's 4 cells but those that were put
-abbrev pub LooksWell : RxSet → Option Reception → List Event → List Event → Type 0
-LooksWell set None calls more = Unit {0}
-LooksWell set (Some busy) calls more = (room readers : ℕ) (rest : List Event) → more ≡ asks set busy room readers ++ rest → 4 ≤ room + many set.path.0 busy.opened.seq calls
 
 -- what a move comes to
 record IsRoomy (set : RxSet) (calls : List Event) (m : RxDid) : Type 0 where
@@ -218,11 +210,6 @@ short-event (Came size meaning) tick seen all = all-last (λ (frame : Seen). IsS
 short-event Timer tick seen all = tt
 short-event FcLeft tick seen all = tt
 short-event RunEnd tick seen all = tt
-
--- each look of the turns is such a look
-abbrev pub AllLook : RxSet → List RxTurn → Type 0
-AllLook set [] = Unit {0}
-AllLook set (turn ∷ earlier) = LooksWell set (state_after rx_new earlier).busy (calls_by earlier) turn.did.calls × AllLook set earlier
 
 -- all turns
 pub rooms : (set : RxSet) (turns : List RxTurn) → set.a ≡ 0 → HasReceived set turns → AllLook set turns → AllByRecursion (λ (frame : Seen). IsShortStart frame.size frame.meaning) (came_by frames_in turns) →

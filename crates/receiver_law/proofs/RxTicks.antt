@@ -1,8 +1,9 @@
 -- In what order a receiver's turns stand: the frames of a tick, the timer, the flow control that leaves.
-use Rattle.std.proofs.Common.{◌≡◌, ℕ, ◌+◌, ◌≤◌, Option, Some, None, List, [], ◌∷◌, ◌++◌, refl, ap, sym, ◌∙◌, subst, arith}
+use Rattle.std.proofs.Common.{◌≡◌, ℕ, ◌+◌, ◌≤◌, Option, Some, None, List, [], ◌∷◌, ◌++◌, ap, sym, ◌∙◌, subst, arith}
 use Rattle.tp_unit.specs.Box.{box_then}
-use Rattle.tp_receiver.specs.State.{Reception, RxEvent, RxDid, RxState, Came, Timer, FcLeft, RunEnd, RxTurn, rx_new}
-use Rattle.tp_receiver.specs.Table.{RxStep, FromBox, NotAwaited}
+use Rattle.tp_receiver.specs.State.{Reception, RxEvent, Came, Timer, FcLeft, RunEnd, RxTurn, rx_new}
+use Rattle.tp_receiver.specs.Table.{RxStep}
+use Rattle.tp_receiver.proofs.Made.{after-left}
 use Rattle.tp_receiver.specs.Runs.{HasReceived}
 use Rattle.hub_core.specs.Turns.{now_of, state_after}
 use Rattle.std.specs.List.{AllByRecursion}
@@ -59,15 +60,6 @@ came-ordered tick (turn ∷ came) turns all ready ordered =
     came-follows tick turn.did.tick (now_of (came ++ turns)) (over_of (came ++ turns)) (state_after rx_new (came ++ turns)).busy turn.did.new.busy (control_after (came ++ turns)) (control_after (turn ∷ (came ++ turns))) turn.event all.0 below.1 in
     ((this.0, below.0), this.1)
 
--- what left is gone
-left-keeps : (set : RxSet) (old : RxState) (busy : Option Reception) (m : RxDid) → old.busy ≡ busy → RxStep set old FcLeft m → m.act ≡ Keeps
-left-keeps set old busy m is row = left-by set old.next old.seq old.busy m row
-  where
-    left-by : (set : RxSet) (next seq : ℕ) (busy : Option Reception) (m : RxDid) → RxStep set (record { next = next; seq = seq; busy = busy }) FcLeft m → m.act ≡ Keeps
-    left-by set next seq None m row = row.act
-    left-by set next seq (Some busy) m (FromBox waits row) = row.act
-    left-by set next seq (Some busy) m (NotAwaited waits row) = row.act
-
 -- a tick is over, and nothing lies in the box
 pub record AreOver (tick : ℕ) (turns : List RxTurn) : Type 0 where
   pub ordered : AreOrdered turns
@@ -91,7 +83,7 @@ left-over set tick (Some meaning) (turn ∷ []) timer turns lies is event at ord
     let over : over_by timer.event timer.did.tick ≡ tick + 1 = ap (λ e. over_by e timer.did.tick) event ∙ ap (λ t. t + 1) at in
     let P : RxEvent → Type 0 = λ e. Follows e turn.did.tick timer.did.tick (over_by timer.event timer.did.tick) timer.did.new.busy (control_after (timer ∷ turns)) in
     let Q : RxEvent → Type 0 = λ e. RxStep set timer.did.new e turn.did in
-    let keeps : turn.did.act ≡ Keeps = left-keeps set timer.did.new timer.did.new.busy turn.did refl (subst Q is.0 happened.1) in
+    let keeps : turn.did.act ≡ Keeps = (after-left set timer.did.new turn.did (subst Q is.0 happened.1)).0 in
     record {
       ordered = (subst P (sym is.0) (is.1 ∙ sym at, over ∙ ap (λ t. t + 1) (sym is.1)), ordered);
       over = ap (λ e. over_by e turn.did.tick) is.0 ∙ ap (λ t. t + 1) is.1;

@@ -1,25 +1,24 @@
 -- What a writer's calls make of its path's sessions.
-use Rattle.std.proofs.Common.{◌≡◌, ◌≢◌, ℕ, ◌+◌, ◌-◌, ◌<◌, zero, suc, Bool, true, false, ◌==◌, if◌then◌else◌, Option, Some, None, List, [], ◌∷◌, ◌++◌, length, take, refl, ap, sym, ◌∙◌, subst, arith, append-nil, append_assoc, eq-eqb}
-use Rattle.tp_receiver.specs.State.{Reception, RxState, RxEvent, RxDid, Came, Timer, FcLeft, RunEnd, idle, RxTurn, rx_new}
-use Rattle.tp_receiver.specs.Table.{begun, due, gone_on, After, Begins, Carries, Ends, FirstRow, Grants, Interrupts, Opens, Overflows, Quiet, RxStep, Starts, asks, overflow, puts, NoneReads, All, NoBuffer, Completes, NoBufferFirst, Opened, NoneReadsOn, TooLittleRoom, Adds, Fills as FillsRow, TooLong, TooShort, WrongNumber, RightNumber, InTime, TooLate, FromBox, NotAwaited}
-use Rattle.tp_receiver.specs.Runs.{HasReceived, cell_in, cells_in, put_in}
-use Rattle.hub_core.specs.Turns.{calls_by, state_after}
+use Rattle.std.proofs.Common.{◌≡◌, ◌≢◌, ℕ, ◌+◌, ◌-◌, ◌<◌, zero, suc, Bool, true, false, ◌==◌, if◌then◌else◌, Some, List, [], ◌∷◌, ◌++◌, length, refl, ap, sym, ◌∙◌, subst, arith, append-nil, append_assoc, eq-eqb}
 use Rattle.std.specs.Prelude.{map, slice_get}
 use Rattle.std.proofs.lemmas.Bool.Decides.{nat_tests}
 use Rattle.std.proofs.lemmas.Grind.{flat_map-append}
 use Rattle.std.proofs.lemmas.List.{length-append}
 use Rattle.hub_core.proofs.Growing.{at_one-same, grows-append, length-change_at}
 use Rattle.hub_core.specs.Calls.{freed_by}
+use Rattle.hub_core.specs.Turns.{calls_by, state_after}
 use Rattle.hub_core.specs.View.{View, Change, Event, Session, at_one, change_at, empty_view, session_at, session_new, grow, grows, Took, Refused, Entered, Asked, Put, Published, Closed}
-use Rattle.gw_base.specs.Cell.{counted}
 use Rattle.hub_core.specs.declared.record.OpenedAt.{OpenedAt}
-use Rattle.hub_core.specs.declared.record.RxLimit.TheVariants.{Cf as CfLimit}
-use Rattle.hub_core.specs.declared.record.RxWait.TheVariants.{Box, Cf}
-use Rattle.hub_core.specs.declared.record.SessionResult.{SessionResult}
-use Rattle.hub_core.specs.declared.record.SessionResult.TheVariants.{Whole, WrongSn, RxTimeout, Restarted, NoRoom, NoReaders, RunEnd}
+use Rattle.hub_core.specs.declared.record.SessionRecord.{SessionRecord}
+use Rattle.gw_base.specs.Cell.{counted}
 use Rattle.tp_receiver.specs.declared.set.RxSet.{RxSet}
-use Rattle.tp_unit.specs.Unit.{BoxMeaning, Keeps, Offers, Meaning, SingleFrame, FirstFrame, ConsecutiveFrame, FlowControl, NoUnit}
-use Rattle.receiver_law.proofs.Openings.{IsBelow}
+use Rattle.tp_receiver.specs.Effects.{Ends, Looks, Opens, Puts, Refuses, RxDone, RxEffect, RxStage, Waits}
+use Rattle.tp_receiver.specs.Runs.{HasReceived, cell_in, cells_in, put_in}
+use Rattle.tp_receiver.specs.State.{RxEvent, RxState, RxTurn, rx_new}
+use Rattle.tp_receiver.specs.Table.{Opens as OpensSession}
+use Rattle.tp_receiver.proofs.Through.{turns-through}
+use Rattle.receiver_law.proofs.Entries.{IsBelow}
+use Rattle.receiver_law.proofs.Openings.{below-of}
 
 false_true : false ≡ true → ⊥
 false_true is = cc
@@ -165,127 +164,40 @@ fills-after path a b xs ys v first second =
 pub fills-nothing : (path : ℕ) (v : View) → Fills path 0 [] v v
 fills-nothing path v = fills-none path [] v v refl (λ place. refl)
 
--- a move's calls add to the sessions of its path, and its state counts them
-pub record Counts (path seq : ℕ) (m : RxDid) (v : View) : Type 0 where
-  pub more : ℕ
-  pub fills : Fills path more m.calls v (grows m.calls v)
-  pub counted : m.new.seq ≡ seq + more
-  pub below : IsBelow m.new.seq m.new.busy
+-- the calls so far fill the sessions of the path, and the state counts them
+pub record IsFilled (path : ℕ) (state : RxState) (calls : List Event) : Type 0 where
+  pub number : length ((grows calls empty_view).sessions path) ≡ state.seq
+  pub below : IsBelow state.seq state.busy
+  pub cells : (place : ℕ) → cells_at ((grows calls empty_view).sessions path) place ≡ cells_in path place calls
 
--- the calls that are known
-counts-by : (path seq more : ℕ) (m : RxDid) (v : View) (calls : List Event) (state : RxState) → m.calls ≡ calls → m.new ≡ state → Fills path more calls v (grows calls v) → state.seq ≡ seq + more → IsBelow state.seq state.busy → Counts path seq m v
-counts-by path seq more m v calls state is new fills counted below =
-    let P : List Event → Type 0 = λ c. Fills path more c v (grows c v) in
-    let Q : RxState → Type 0 = λ s. IsBelow s.seq s.busy in
-    record { more = more; fills = subst P (sym is) fills; counted = ap (λ (s : RxState). s.seq) new ∙ counted; below = subst Q (sym new) below }
+filled-more : (path more : ℕ) (old new : RxState) (calls done : List Event) → IsFilled path old calls → Fills path more done (grows calls empty_view) (grows done (grows calls empty_view)) → new.seq ≡ old.seq + more → IsBelow new.seq new.busy → IsFilled path new (calls ++ done)
+filled-more path more old new calls done so fills counts below =
+    let is : grows (calls ++ done) empty_view ≡ grows done (grows calls empty_view) = grows-append calls done empty_view in
+    record {
+      number = ap (λ (w : View). length (w.sessions path)) is ∙ omega (arith, fills.number, so.number, counts);
+      below = below;
+      cells = λ place. ap (λ (w : View). cells_at (w.sessions path) place) is ∙ fills.cells place ∙ ap (λ c. c ++ cells_in path place done) (so.cells place) ∙ sym (flat_map-append (cell_in path place) calls done);
+    }
 
-counts-quiet : (path next seq : ℕ) (busy : Option Reception) (m : RxDid) (v : View) → IsBelow seq busy → Quiet (record { next = next; seq = seq; busy = busy }) m → Counts path seq m v
-counts-quiet path next seq busy m v below row = counts-by path seq 0 m v [] (record { next = next; seq = seq; busy = busy }) row.calls row.new (fills-nothing path v) (omega arith) below
-
-counts-ends : (set : RxSet) (next seq : ℕ) (busy : Reception) (how : SessionResult) (m : RxDid) (v : View) → Ends set next seq busy how m → Counts set.path.0 seq m v
-counts-ends set next seq busy how m v row =
-    counts-by set.path.0 seq 0 m v (Closed set.path.0 busy.opened.seq (freed_by row.left) ∷ []) (idle next seq) row.calls row.new (fills-closed set.path.0 busy.opened.seq (freed_by row.left) v) (omega arith) tt
-
--- first calls, and the rest
-counts-after : (path seq more : ℕ) (m : RxDid) (v : View) (before rest : List Event) → m.calls ≡ before ++ rest → Fills path more before v (grows before v) → Counts path (seq + more) (record m { calls = rest }) (grows before v) → Counts path seq m v
-counts-after path seq more m v before rest is first later =
-    counts-by path seq (more + later.more) m v (before ++ rest) m.new is refl (fills-after path more later.more before rest v first later.fills) (later.counted ∙ omega arith) later.below
-
-counts-silent : (path next seq : ℕ) (busy : Option Reception) (m : RxDid) (v : View) → m.calls ≡ [] → m.new ≡ record { next = next; seq = seq; busy = busy } → IsBelow seq busy → Counts path seq m v
-counts-silent path next seq busy m v silent new below = counts-by path seq 0 m v [] (record { next = next; seq = seq; busy = busy }) silent new (fills-nothing path v) (omega arith) below
-
-same-count : (path seq : ℕ) (m : RxDid) (v : View) → Counts path seq m v → Counts path (seq + 0) m v
-same-count path seq m v counts = let same : seq ≡ seq + 0 = omega arith in let P : ℕ → Type 0 = λ s. Counts path s m v in subst P same counts
-
-counts-asked : (set : RxSet) (next seq room readers : ℕ) (busy : Reception) (how : SessionResult) (m : RxDid) (v : View) → After (asks set busy room readers) m (Ends set next seq busy how) → Counts set.path.0 seq m v
-counts-asked set next seq room readers busy how m v row =
-    counts-after set.path.0 seq 0 m v (asks set busy room readers) row.rest row.calls (fills-asked set.path.0 busy.opened.seq room readers v)
-    (same-count set.path.0 seq (record m { calls = row.rest }) (grows (asks set busy room readers) v) (counts-ends set next seq busy how (record m { calls = row.rest }) (grows (asks set busy room readers) v) row.row))
-
-counts-grants : (set : RxSet) (next seq : ℕ) (busy : Reception) (m : RxDid) (v : View) → busy.opened.seq < seq → Grants set next seq busy m → Counts set.path.0 seq m v
-counts-grants set next seq busy m v below (NoneReads room readers none row) = counts-asked set next seq room readers busy NoReaders m v row
-counts-grants set next seq busy m v below (All room readers some row) =
-    counts-after set.path.0 seq 0 m v (asks set busy room readers) row.rest row.calls (fills-asked set.path.0 busy.opened.seq room readers v)
-    (same-count set.path.0 seq (record m { calls = row.rest }) (grows (asks set busy room readers) v)
-    (counts-silent set.path.0 next seq (Some (record busy { wait = Box; since = m.tick })) (record m { calls = row.rest }) (grows (asks set busy room readers) v) row.row.calls row.row.new below))
-
-fills-opens : (set : RxSet) (seq len : ℕ) (bytes : List ℕ) (opened : OpenedAt) (opening : List Event) (v : View) → length (v.sessions set.path.0) ≡ seq → Opens set seq len bytes opened opening → Fills set.path.0 1 opening v (grows opening v)
-fills-opens set seq len bytes opened opening v at opens =
+filled-opens : (set : RxSet) (len : ℕ) (bytes : List ℕ) (opened : OpenedAt) (old new : RxState) (calls done : List Event) → IsFilled set.path.0 old calls → OpensSession set old.seq len bytes opened done → new.seq ≡ old.seq + 1 → IsBelow new.seq new.busy → IsFilled set.path.0 new (calls ++ done)
+filled-opens set len bytes opened old new calls done so opens counts below =
+    let v : View = grows calls empty_view in
     let P : List Event → Type 0 = λ c. Fills set.path.0 1 c v (grows c v) in
-    subst P (sym opens.calls_are) (fills-opening set.path.0 seq opened.buf.0 opened.change opens.size opens.need len set.readers (counted opens.cells) opens.cells v at)
+    filled-more set.path.0 1 old new calls done so (subst P (sym opens.calls_are) (fills-opening set.path.0 old.seq opened.buf.0 opened.change opens.size opens.need len set.readers (counted opens.cells) opens.cells v so.number)) counts below
 
-counts-overflow : (set : RxSet) (next seq len : ℕ) (bytes : List ℕ) (act : BoxMeaning) (m : RxDid) (v : View) → Overflows set next seq len bytes act m → Counts set.path.0 seq m v
-counts-overflow set next seq len bytes act m v row =
-    counts-by set.path.0 seq 0 m v (Refused row.number row.free row.need ∷ []) (idle (next + 1) seq) row.calls row.new (fills-refused set.path.0 row.number row.free row.need v) (omega arith) tt
-
-counts-begins : (set : RxSet) (next seq size : ℕ) (meaning : Meaning) (m : RxDid) (v : View) → length (v.sessions set.path.0) ≡ seq → Begins set next seq size meaning m → Counts set.path.0 seq m v
-counts-begins set next seq size (SingleFrame bytes) m v at (NoBuffer row) = counts-overflow set next seq (length bytes) bytes Keeps m v row
-counts-begins set next seq size (SingleFrame bytes) m v at (Completes opened opening opens row) =
-    counts-after set.path.0 seq 1 m v opening row.rest row.calls (fills-opens set seq (length bytes) bytes opened opening v at opens)
-    (counts-ends set (next + 1) (seq + 1) (begun next (length bytes) size (length bytes) m.tick opened) Whole (record m { calls = row.rest }) (grows opening v) row.row)
-counts-begins set next seq size (FirstFrame len bytes) m v at (NoBufferFirst more row) = counts-overflow set next seq len bytes (Offers overflow) m v row
-counts-begins set next seq size (FirstFrame len bytes) m v at (Opened more opened opening opens row) =
-    counts-after set.path.0 seq 1 m v opening row.rest row.calls (fills-opens set seq len bytes opened opening v at opens)
-    (counts-grants set (next + 1) (seq + 1) (begun next len size (length bytes) m.tick opened) (record m { calls = row.rest }) (grows opening v) (omega (arith, opens.seq_is)) row.row)
-counts-begins set next seq size (ConsecutiveFrame number bytes) m v at row = absurd row
-counts-begins set next seq size (FlowControl status block_size separation) m v at row = absurd row
-counts-begins set next seq size (NoUnit why) m v at row = absurd row
-
-counts-interrupts : (set : RxSet) (next seq : ℕ) (busy : Option Reception) (m : RxDid) (v : View) → Interrupts set next seq busy m → Counts set.path.0 seq m v × (m.new.seq ≡ seq)
-counts-interrupts set next seq None m v row = (counts-quiet set.path.0 next seq None m v tt row, ap (λ (s : RxState). s.seq) row.new)
-counts-interrupts set next seq (Some busy) m v row = (counts-ends set next seq busy Restarted m v row, ap (λ (s : RxState). s.seq) row.new)
-
-counts-starts : (set : RxSet) (next seq size : ℕ) (busy : Option Reception) (meaning : Meaning) (m : RxDid) (v : View) → length (v.sessions set.path.0) ≡ seq → Starts set (record { next = next; seq = seq; busy = busy }) size meaning m → Counts set.path.0 seq m v
-counts-starts set next seq size busy meaning m v at row =
-    let first : Counts set.path.0 seq row.earlier v × (row.earlier.new.seq ≡ seq) = counts-interrupts set next seq busy row.earlier v row.interrupts in
-    let none : first.0.more ≡ 0 = omega (arith, first.0.counted, first.1) in
-    let kept : length ((grows row.earlier.calls v).sessions set.path.0) ≡ seq = omega (arith, first.0.fills.number, none, at) in
-    let later : Counts set.path.0 seq row.later (grows row.earlier.calls v) = counts-begins set next seq size meaning row.later (grows row.earlier.calls v) kept row.begins in
-    counts-by set.path.0 seq (first.0.more + later.more) m v (row.earlier.calls ++ row.later.calls) row.later.new row.calls row.new
-    (fills-after set.path.0 first.0.more later.more row.earlier.calls row.later.calls v first.0.fills later.fills) (omega (arith, later.counted, none)) later.below
-
-counts-put : (set : RxSet) (seq room readers : ℕ) (busy : Reception) (cells : List ℕ) (m : RxDid) (v : View) (rest left : List Event) → length (v.sessions set.path.0) ≡ seq → busy.opened.seq < seq → m.calls ≡ asks set busy room readers ++ rest → rest ≡ puts set.path.0 busy.opened.seq cells ++ left →
-    Counts set.path.0 seq (record m { calls = left }) (grows (puts set.path.0 busy.opened.seq cells) (grows (asks set busy room readers) v)) → Counts set.path.0 seq m v
-counts-put set seq room readers busy cells m v rest left at below calls rests later =
-    let here : View = grows (asks set busy room readers) v in
-    let one : Fills set.path.0 0 (asks set busy room readers) v here = fills-asked set.path.0 busy.opened.seq room readers v in
-    counts-after set.path.0 seq 0 m v (asks set busy room readers) rest calls one
-    (counts-after set.path.0 (seq + 0) 0 (record m { calls = rest }) here (puts set.path.0 busy.opened.seq cells) left rests (fills-puts set.path.0 busy.opened.seq (counted cells) cells here (omega (arith, one.number, at, below)))
-    (same-count set.path.0 (seq + 0) (record m { calls = left }) (grows (puts set.path.0 busy.opened.seq cells) here) (same-count set.path.0 seq (record m { calls = left }) (grows (puts set.path.0 busy.opened.seq cells) here) later)))
-
-counts-carries : (set : RxSet) (next seq : ℕ) (busy : Reception) (bytes : List ℕ) (m : RxDid) (v : View) → length (v.sessions set.path.0) ≡ seq → busy.opened.seq < seq → Carries set next seq busy bytes m → Counts set.path.0 seq m v
-counts-carries set next seq busy bytes m v at below (NoneReadsOn room readers none row) = counts-asked set next seq room readers busy NoReaders m v row
-counts-carries set next seq busy bytes m v at below (TooLittleRoom room readers need some need_is little row) = counts-asked set next seq room readers busy (NoRoom room need) m v row
-counts-carries set next seq busy bytes m v at below (Adds room readers cells some fits packed row) =
-    counts-put set seq room readers busy cells m v row.rest row.row.rest at below row.calls row.row.calls
-    (counts-silent set.path.0 next seq (Some (gone_on busy (length bytes) m.tick)) (record m { calls = row.row.rest }) (grows (puts set.path.0 busy.opened.seq cells) (grows (asks set busy room readers) v)) row.row.row.calls row.row.row.new below)
-counts-carries set next seq busy bytes m v at below (FillsRow room readers cells some fits packed full row) =
-    counts-put set seq room readers busy cells m v row.rest row.row.rest at below row.calls row.row.calls
-    (counts-ends set next seq (gone_on busy (length bytes) m.tick) Whole (record m { calls = row.row.rest }) (grows (puts set.path.0 busy.opened.seq cells) (grows (asks set busy room readers) v)) row.row.row)
-
-counts-first : (set : RxSet) (next seq size : ℕ) (busy : Option Reception) (meaning : Meaning) (functional : Bool) (m : RxDid) (v : View) → length (v.sessions set.path.0) ≡ seq → IsBelow seq busy → FirstRow set (record { next = next; seq = seq; busy = busy }) size meaning functional m → Counts set.path.0 seq m v
-counts-first set next seq size busy meaning true m v at below row = counts-quiet set.path.0 next seq busy m v below row
-counts-first set next seq size busy meaning false m v at below row = counts-starts set next seq size busy meaning m v at row
-
--- each row
-counts : (set : RxSet) (next seq : ℕ) (busy : Option Reception) (event : RxEvent) (m : RxDid) (v : View) → length (v.sessions set.path.0) ≡ seq → IsBelow seq busy → RxStep set (record { next = next; seq = seq; busy = busy }) event m → Counts set.path.0 seq m v
-counts set next seq busy (Came size (SingleFrame bytes)) m v at below row = counts-starts set next seq size busy (SingleFrame bytes) m v at row
-counts set next seq busy (Came size (FirstFrame len bytes)) m v at below row = counts-first set next seq size busy (FirstFrame len bytes) set.functional m v at below row
-counts set next seq None (Came size (ConsecutiveFrame number bytes)) m v at below row = counts-quiet set.path.0 next seq None m v below row
-counts set next seq (Some busy) (Came size (ConsecutiveFrame number bytes)) m v at below (TooLong long row) = counts-quiet set.path.0 next seq (Some busy) m v below row
-counts set next seq (Some busy) (Came size (ConsecutiveFrame number bytes)) m v at below (TooShort short row) = counts-quiet set.path.0 next seq (Some busy) m v below row
-counts set next seq (Some busy) (Came size (ConsecutiveFrame number bytes)) m v at below (WrongNumber looked other row) = counts-ends set next seq busy (WrongSn busy.number number) m v row
-counts set next seq (Some busy) (Came size (ConsecutiveFrame number bytes)) m v at below (RightNumber looked right row) = counts-carries set next seq busy (take (due set.a busy) bytes) m v at below row
-counts set next seq busy (Came size (FlowControl status block_size separation)) m v at below row = counts-quiet set.path.0 next seq busy m v below row
-counts set next seq busy (Came size (NoUnit why)) m v at below row = counts-quiet set.path.0 next seq busy m v below row
-counts set next seq None Timer m v at below row = counts-quiet set.path.0 next seq None m v below row
-counts set next seq None FcLeft m v at below row = counts-quiet set.path.0 next seq None m v below row
-counts set next seq None RunEnd m v at below row = counts-quiet set.path.0 next seq None m v below row
-counts set next seq (Some busy) Timer m v at below (InTime early row) = counts-quiet set.path.0 next seq (Some busy) m v below row
-counts set next seq (Some busy) Timer m v at below (TooLate late row) = counts-ends set next seq busy (RxTimeout CfLimit) m v row
-counts set next seq (Some busy) FcLeft m v at below (FromBox waits row) = counts-silent set.path.0 next seq (Some (record busy { wait = Cf; since = m.tick })) m v row.calls row.new below
-counts set next seq (Some busy) FcLeft m v at below (NotAwaited waits row) = counts-quiet set.path.0 next seq (Some busy) m v below row
-counts set next seq (Some busy) RunEnd m v at below row = counts-ends set next seq busy (RunEnd busy.wait (record { 0 = busy.since })) m v row
+-- each effect
+filled-effect : (set : RxSet) (event : RxEvent) (tick : ℕ) (old : RxStage) (done : RxDone) (calls : List Event) (records : List SessionRecord) → RxEffect set event tick old done → IsFilled set.path.0 old.state calls → IsFilled set.path.0 done.new.state (calls ++ done.calls)
+filled-effect set event tick old done calls records (Refuses e) so = rw (e.calls, e.new) (filled-more set.path.0 0 old.state _ calls _ so (fills-refused set.path.0 e.number e.free _ (grows calls empty_view)) (omega arith) tt)
+filled-effect set event tick old done calls records (Opens e) so = rw e.new (filled-opens set _ _ e.opened old.state _ calls done.calls so e.opens refl (omega (arith, e.opens.seq_is)))
+filled-effect set event tick old done calls records (Looks e) so =
+    rw (e.calls, e.new) (filled-more set.path.0 0 old.state _ calls _ so (fills-asked set.path.0 e.busy.opened.seq e.look.cells e.look.readers (grows calls empty_view)) (omega arith) so.below)
+filled-effect set event tick old done calls records (Puts e) so =
+    let below : e.busy.opened.seq < old.state.seq = below-of old.state.seq old.state.busy e.busy e.was so.below in
+    rw (e.calls, e.new) (filled-more set.path.0 0 old.state _ calls _ so (fills-puts set.path.0 e.busy.opened.seq (counted e.cells) e.cells (grows calls empty_view) (omega (arith, so.number, below))) (omega arith) below)
+filled-effect set event tick old done calls records (Waits e) so =
+    rw (e.calls, e.new) (filled-more set.path.0 0 old.state _ calls _ so (fills-nothing set.path.0 (grows calls empty_view)) (omega arith) (below-of old.state.seq old.state.busy e.busy e.was so.below))
+filled-effect set event tick old done calls records (Ends e) so =
+    rw (e.calls, e.new) (filled-more set.path.0 0 old.state _ calls _ so (fills-closed set.path.0 e.busy.opened.seq (freed_by e.left) (grows calls empty_view)) (omega arith) tt)
 
 -- all turns
 pub record AllFilled (set : RxSet) (turns : List RxTurn) : Type 0 where
@@ -294,18 +206,9 @@ pub record AllFilled (set : RxSet) (turns : List RxTurn) : Type 0 where
   pub cells : (place : ℕ) → cells_at ((grows (calls_by turns) empty_view).sessions set.path.0) place ≡ put_in set turns place
 
 pub all-filled : (set : RxSet) (turns : List RxTurn) → HasReceived set turns → AllFilled set turns
-all-filled set [] happened = record { number = refl; below = tt; cells = λ place. refl }
-all-filled set (turn ∷ earlier) happened =
-    let so : AllFilled set earlier = all-filled set earlier happened.2 in
-    let v : View = grows (calls_by earlier) empty_view in
-    let row : Counts set.path.0 (state_after rx_new earlier).seq turn.did v = counts set (state_after rx_new earlier).next (state_after rx_new earlier).seq (state_after rx_new earlier).busy turn.event turn.did v so.number so.below happened.1 in
-    let is : grows (calls_by earlier ++ turn.did.calls) empty_view ≡ grows turn.did.calls v = grows-append (calls_by earlier) turn.did.calls empty_view in
-    record {
-      number = ap (λ (w : View). length (w.sessions set.path.0)) is ∙ omega (arith, row.fills.number, so.number, row.counted);
-      below = row.below;
-      cells = λ place. ap (λ (w : View). cells_at (w.sessions set.path.0) place) is ∙ row.fills.cells place ∙ ap (λ c. c ++ cells_in set.path.0 place turn.did.calls) (so.cells place)
-          ∙ sym (flat_map-append (cell_in set.path.0 place) (calls_by earlier) turn.did.calls);
-    }
+all-filled set turns happened =
+    let so : IsFilled set.path.0 (state_after rx_new turns) (calls_by turns) = turns-through set (λ state calls records. IsFilled set.path.0 state calls) (λ event tick. filled-effect set event tick) (record { number = refl; below = tt; cells = λ place. refl }) turns happened in
+    record { number = so.number; below = so.below; cells = so.cells }
 
 pub stored_in : (set : RxSet) (turns : List RxTurn) → HasReceived set turns → (seq : ℕ) (s : Session) → session_at (grows (calls_by turns) empty_view) set.path.0 seq ≡ Some s → s.cells ≡ put_in set turns seq
 stored_in set turns happened seq s known =

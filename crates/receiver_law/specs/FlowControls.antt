@@ -9,7 +9,6 @@ use Rattle.tp_attempts.specs.Seen.{Seen}
 use Rattle.tp_unit.specs.Reading.{unit_of}
 use Rattle.tp_unit.specs.Shape.{address_size}
 use Rattle.tp_unit.specs.Unit.{Meaning, SingleFrame, FirstFrame, ConsecutiveFrame, FlowControl, NoUnit}
-use Rattle.tp_unit.specs.Box.{IsFull}
 use Rattle.receiver_law.specs.Channel.{SourceChannel}
 use Rattle.receiver_law.specs.Source.{is_overflow}
 
@@ -83,8 +82,8 @@ pub record AreOfOverflows (r : SourceChannel) : Type 0 where
   pub tells : (k : ℕ) (w : Written) → slice_get r.controls k ≡ Some w → HasStatus r 2 w → TellsNoRoom r (place_of k) w
   pub rising : (k later : ℕ) (w next : Written) → k < later → slice_get r.controls k ≡ Some w → slice_get r.controls later ≡ Some next → HasStatus r 2 w → HasStatus r 2 next → place_of k < place_of later
 
--- which flow controls leave, and where one that is owed doesn't leave its bus is full
-pub record FlowControlLaw (r : SourceChannel) : Type 0 where
+-- which flow controls leave, and where one that is owed doesn't leave its bus is full for it in that tick
+pub record FlowControlLaw (full : ℕ → Bool) (r : SourceChannel) : Type 0 where
   pub lets_come : AllByRecursion (λ (w : Written). HasStatus r 0 w → LetsCome r w) r.controls
   pub no_room : AreOfOverflows r
   -- after one that lets all frames come no further one of its session leaves
@@ -92,7 +91,7 @@ pub record FlowControlLaw (r : SourceChannel) : Type 0 where
       IsOfSession r place told w → said_in r w ≡ FlowControl 0 0 separation → AllByRecursion (λ (next : Written). IsOfSession r place told next → ⊥) after
   -- a session of a first frame owes one from its begin on
   pub owes : (place tick : ℕ) (told : SessionRecord) → IsSegmented r place told false → told.begin.0 ≤ tick → tick < told.end.0 →
-      AllByRecursion (λ (w : Written). IsOfSession r place told w → tick < w.tick) r.controls → IsFull r.controls r.budget tick
+      AllByRecursion (λ (w : Written). IsOfSession r place told w → tick < w.tick) r.controls → full tick ≡ true
   -- an overflow of a first frame owes one for N_Ar, until the next start or the run's end
   pub owes_no_room : (place tick : ℕ) (told : SessionRecord) → IsSegmented r place told true → told.begin.0 ≤ tick → tick < told.begin.0 + r.rx.n_ar → tick ≤ r.last → NoneBegins r place tick →
-      AllByRecursion (λ (w : Written). HasStatus r 2 w → told.begin.0 ≤ w.tick → tick < w.tick) r.controls → IsFull r.controls r.budget tick
+      AllByRecursion (λ (w : Written). HasStatus r 2 w → told.begin.0 ≤ w.tick → tick < w.tick) r.controls → full tick ≡ true

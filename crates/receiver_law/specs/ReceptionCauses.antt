@@ -1,5 +1,5 @@
 -- Each record of the source channel's receptions comes of its cause, and no earlier cause is passed over (ISO 15765-2, segmentation and reassembly, N_Ar and N_Cr).
-use Rattle.std.specs.Prelude.{◌≡◌, ◌⊎◌, ℕ, ◌+◌, ◌<◌, ◌≤◌, max, Some, List, [], ◌∷◌, ◌++◌, length, slice_get}
+use Rattle.std.specs.Prelude.{◌≡◌, ◌⊎◌, ℕ, ◌+◌, ◌<◌, ◌≤◌, Bool, true, max, Some, List, [], ◌∷◌, ◌++◌, length, slice_get}
 use Rattle.tp_unit.specs.Box.{Written}
 use Rattle.std.specs.List.{AllByRecursion, AllZip}
 use Rattle.hub_core.specs.declared.record.RxLimit.{RxLimit}
@@ -17,7 +17,6 @@ use Rattle.tp_unit.specs.Reading.{unit_of}
 use Rattle.tp_unit.specs.Shape.{address_size}
 use Rattle.tp_unit.specs.Unit.{Meaning, SingleFrame, FirstFrame, ConsecutiveFrame, FlowControl, NoUnit}
 use Rattle.receiver_law.specs.Channel.{SourceChannel}
-use Rattle.tp_unit.specs.Box.{IsFull}
 
 -- a flow control that asks for all frames that remain left in that tick
 pub record LetGoIn (address : ℕ) (controls : List Written) (tick : ℕ) : Type 0 where
@@ -41,10 +40,17 @@ pub record IsCfLate (r : SourceChannel) (attempt : Cut Seen) (told : SessionReco
   pub limit : at + r.rx.n_cr ≤ tick
   pub silent : IsSilent r.rx.a r.rx.n_cr tick attempt
 
+-- for the time limit N_Ar up to the tick of the end, the bus was full for the flow control in its box
+pub record IsBoxLate (full : ℕ → Bool) (r : SourceChannel) (told : SessionRecord) : Type 0 where
+  pub since : ℕ
+  pub from : told.begin.0 ≤ since
+  pub limit : since + r.rx.n_ar ≡ told.end.0
+  pub kept : (tick : ℕ) → since ≤ tick → tick < told.end.0 → full tick ≡ true
+
 -- a time limit is over in the tick of the end: of the flow control in its box, or of the next consecutive frame
-abbrev pub IsOverLimit : SourceChannel → Cut Seen → SessionRecord → RxLimit → Type 0
-IsOverLimit r attempt told BoxLimit = (tick : ℕ) → told.end.0 ≤ tick + r.rx.n_ar → tick < told.end.0 → IsFull r.controls r.budget tick
-IsOverLimit r attempt told CfLimit = IsCfLate r attempt told told.end.0
+abbrev pub IsOverLimit : (full : ℕ → Bool) → SourceChannel → Cut Seen → SessionRecord → RxLimit → Type 0
+IsOverLimit full r attempt told BoxLimit = IsBoxLate full r told
+IsOverLimit full r attempt told CfLimit = IsCfLate r attempt told told.end.0
 
 -- the next start of the channel has its record, which begins in that tick
 pub record NextBegins (r : SourceChannel) (place tick : ℕ) : Type 0 where
@@ -61,10 +67,10 @@ pub record IsAwaited (r : SourceChannel) (attempt : Cut Seen) (told : SessionRec
   pub in_time : r.last < since + r.rx.n_cr
 
 -- what is waited for at the run's end, since a tick
-abbrev pub StillWaits : SourceChannel → Cut Seen → SessionRecord → ℕ → RxWait → Type 0
-StillWaits r attempt told since Box = (tick : ℕ) → since ≤ tick → tick ≤ r.last → IsFull r.controls r.budget tick
-StillWaits r attempt told since Room = ⊥
-StillWaits r attempt told since Cf = IsAwaited r attempt told since
+abbrev pub StillWaits : (full : ℕ → Bool) → SourceChannel → Cut Seen → SessionRecord → ℕ → RxWait → Type 0
+StillWaits full r attempt told since Box = (r.last < since + r.rx.n_ar) × ((tick : ℕ) → since ≤ tick → tick ≤ r.last → full tick ≡ true)
+StillWaits full r attempt told since Room = ⊥
+StillWaits full r attempt told since Cf = IsAwaited r attempt told since
 
 -- a counted frame of that tick is the next one after the bytes that are told, or the last one of them
 pub record IsFoundBy (address : ℕ) (attempt : Cut Seen) (bytes tick : ℕ) : Type 0 where
@@ -77,26 +83,26 @@ pub record IsFoundBy (address : ℕ) (attempt : Cut Seen) (bytes tick : ℕ) : T
 
 -- what a result says: whole in the tick of the last counted frame; no destination reading in the tick of
 -- the frame that finds it; that a buffer was missing and a number wrong is told by other laws; and there is room for each frame, none is asked to wait and nothing is cancelled
-abbrev pub HasCause : SourceChannel → Cut Seen → SessionRecord → SessionResult → Type 0
-HasCause r attempt told Whole = told.end.0 ≡ last_place told.begin.0 (walk_of r.rx.a attempt).pieces
-HasCause r attempt told (Overflow change free need) = Unit {0}
-HasCause r attempt told (WrongSn want got) = Unit {0}
-HasCause r attempt told (RxTimeout limit) = IsOverLimit r attempt told limit
-HasCause r attempt told Restarted = NextBegins r told.n told.end.0
-HasCause r attempt told (NoRoom room need) = ⊥
-HasCause r attempt told WaitOver = ⊥
-HasCause r attempt told NoReaders = IsFoundBy r.rx.a attempt told.bytes told.end.0
-HasCause r attempt told Cancelled = ⊥
-HasCause r attempt told (RunEnd wait since) = (told.end.0 ≡ r.last) × (since.0 ≤ r.last) × StillWaits r attempt told since.0 wait
+abbrev pub HasCause : (full : ℕ → Bool) → SourceChannel → Cut Seen → SessionRecord → SessionResult → Type 0
+HasCause full r attempt told Whole = told.end.0 ≡ last_place told.begin.0 (walk_of r.rx.a attempt).pieces
+HasCause full r attempt told (Overflow change free need) = Unit {0}
+HasCause full r attempt told (WrongSn want got) = Unit {0}
+HasCause full r attempt told (RxTimeout limit) = IsOverLimit full r attempt told limit
+HasCause full r attempt told Restarted = NextBegins r told.n told.end.0
+HasCause full r attempt told (NoRoom room need) = ⊥
+HasCause full r attempt told WaitOver = ⊥
+HasCause full r attempt told NoReaders = IsFoundBy r.rx.a attempt told.bytes told.end.0
+HasCause full r attempt told Cancelled = ⊥
+HasCause full r attempt told (RunEnd wait since) = (told.end.0 ≡ r.last) × (since.0 ≤ r.last) × StillWaits full r attempt told since.0 wait
 
 -- the record comes of its cause, and in no earlier tick was the time of the next consecutive frame over
-pub record IsCaused (r : SourceChannel) (attempt : Cut Seen) (told : SessionRecord) : Type 0 where
-  pub cause : HasCause r attempt told told.result
+pub record IsCaused (full : ℕ → Bool) (r : SourceChannel) (attempt : Cut Seen) (told : SessionRecord) : Type 0 where
+  pub cause : HasCause full r attempt told told.result
   pub none_passed : (tick : ℕ) → told.begin.0 ≤ tick → tick < told.end.0 → IsCfLate r attempt told tick → ⊥
 
 -- each record of the source channel, with its attempt
-abbrev pub AreCaused : SourceChannel → Type 0
-AreCaused r = AllZip (IsCaused r) (attempts_in r.rx.functional r.seen) r.sessions
+abbrev pub AreCaused : (full : ℕ → Bool) → SourceChannel → Type 0
+AreCaused full r = AllZip (IsCaused full r) (attempts_in r.rx.functional r.seen) r.sessions
 
 -- no flow control is waited for in its box, where each leaves in the tick in which it is offered
 abbrev pub IsNeverBoxed : SessionResult → Type 0

@@ -24,6 +24,19 @@ is_overflow NoReaders = false
 is_overflow Cancelled = false
 is_overflow (RunEnd wait since) = false
 
+-- the run's end ended it
+abbrev pub is_run_end : SessionResult → Bool
+is_run_end Whole = false
+is_run_end (Overflow change free need) = false
+is_run_end (WrongSn want got) = false
+is_run_end (RxTimeout limit) = false
+is_run_end Restarted = false
+is_run_end (NoRoom room need) = false
+is_run_end WaitOver = false
+is_run_end NoReaders = false
+is_run_end Cancelled = false
+is_run_end (RunEnd wait since) = true
+
 -- so many bytes are those of the start and of the first counted frames, the start's at least: all that stand below that tick are among
 -- them, and none above it
 pub record Covers (pieces : List Piece) (bytes end : ℕ) : Type 0 where

@@ -5,8 +5,6 @@
 
 mod print;
 mod report;
-#[cfg(test)]
-mod tests;
 mod words;
 
 pub use print::print_report;

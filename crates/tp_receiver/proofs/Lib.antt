@@ -1,3 +1,6 @@
 pub mod CellByCell
 pub mod Composing
+pub mod Made
+pub mod OwnSteps
 pub mod Sizes
+pub mod Through

@@ -1,3 +1,4 @@
+pub mod Effects
 pub mod Port
 pub mod Runs
 pub mod Set

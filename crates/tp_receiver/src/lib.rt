@@ -2,10 +2,14 @@
 #![tactic(auto)]
 
 mod acts;
+mod consecutive;
+mod ending;
 mod putting;
 mod receiver;
 mod reception;
 mod set;
+mod starting;
+mod timing;
 
 pub use acts::RxActs;
 pub use receiver::Receiver;

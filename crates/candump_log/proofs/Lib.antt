@@ -1,0 +1,4 @@
+pub mod Cuts
+mod LineFeeds
+mod Logs
+mod Stopping

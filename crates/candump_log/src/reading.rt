@@ -1,0 +1,188 @@
+//! The reading of a log: in pieces, cut at each line feed.
+ghost use Rattle.std.specs.Prelude.{◌≡◌, ◌<◌, ◌≤◌, ◌+◌, ◌-◌, ◌*◌, ◌^◌, [], ◌∷◌, length, take, All, IfErr, IfOk, MatchOption, OnOk};
+ghost use Rattle.std.specs.Bool.{OnFalse, OnTrue};
+ghost use Rattle.candump_log.specs.Dated.{AreDated};
+ghost use Rattle.candump_log.specs.Line.{IsSupported};
+ghost use Rattle.candump_log.specs.Log.{HasNoFeed, IsFeedAt, LogStops};
+ghost use Rattle.candump_log.specs.Reading.{FaultsReading, IsLogIn};
+
+use crate::line::push_line;
+use crate::log::{LineRefusal, LineStop, Log, LogStop};
+use crate::so_far::LogSoFar;
+use crate::source::LogSource;
+use arrayvec::ArrayVec;
+use candump_line::{LineFault, LineKind};
+use gw_base::ListOf;
+use gw_depot::Depot;
+use memchr::memchr;
+use std::alloc::Global;
+
+/// The byte that ends a line.
+const LINE_FEED: u8 = b'\n';
+
+/// The most bytes of a line without its line end.
+const MOST_LINE: u32 = 512;
+
+/// How many bytes one read asks for.
+const PIECE: usize = 65_536;
+
+/// The place of the first line feed.
+fn feed_place(bytes: &[u8]) -> Option<usize>
+    ensures { MatchOption result (HasNoFeed bytes.now) (IsFeedAt bytes.now) }
+{
+    memchr(LINE_FEED, bytes)
+}
+
+impl LogSoFar {
+    ghost use Rattle.candump_log.specs.Reading.{EndsAs, KeepsSupported, ReadsOn, StopsAtEnd, StopsAtFeed, StopsIn};
+
+    /// Whether no further line may begin.
+    fn is_past_limit(&self) -> bool
+        ensures past { OnTrue result ((self.now.piece.items ≡ []) × (self.now.most ≤ self.now.lines)) }
+        ensures within { OnFalse result (self.now.lines < self.now.most) }
+    {
+        self.piece.is_empty() && self.lines >= self.most
+    }
+
+    /// Keeps bytes of a line.
+    fn keep<S: LogSource>(&mut self, source: &S, part: &[u8]) -> Result<(), LineStop>
+        requires few { self.old.lines < self.old.most }
+        requires kept { HasNoFeed part.now }
+        ensures same { self.new.most ≡ self.old.most }
+        ensures lines { self.new.lines ≡ self.old.lines }
+        ensures count { OnOk result (self.new.taken ≡ self.old.taken + length part.now) }
+        ensures read { OnOk result (ReadsOn (S.source source.now) part.now self.old self.new) }
+        ensures stops { IfErr result (StopsIn (S.source source.now) self.old.most part.now self.old) }
+    {
+        let Ok(()) = self.piece.try_extend_from_slice(part) else {
+            let line = self.lines + 1;
+            let refusal = LineRefusal::Bad(LineFault {
+                kind: LineKind::TooLong,
+                at: MOST_LINE,
+            });
+            return Err(LineStop::Refused { line, refusal });
+        };
+        self.taken += part.len() as u64;
+        Ok(())
+    }
+
+    /// Ends the line that is kept, at its line feed.
+    fn end_line<S: LogSource>(&mut self, source: &S) -> Result<(), LineStop>
+        requires { self.old.lines < self.old.most }
+        ensures same { self.new.most ≡ self.old.most }
+        ensures count { OnOk result (self.new.taken ≡ self.old.taken + 1) }
+        ensures read { OnOk result (ReadsOn (S.source source.now) (10 ∷ []) self.old self.new) }
+        ensures stops { IfErr result (StopsAtFeed (S.source source.now) self.old.most self.old) }
+    {
+        push_line(source, self.piece.as_slice(), self.lines, &mut self.frames)?;
+        self.piece.clear();
+        self.lines += 1;
+        self.taken += 1;
+        Ok(())
+    }
+
+    /// Takes the next bytes of the log, as far as their first line feed or else all, and says how many.
+    fn take_part<S: LogSource>(&mut self, source: &S, bytes: &[u8]) -> Result<usize, LineStop>
+        requires { 0 < length bytes.now }
+        ensures same { self.new.most ≡ self.old.most }
+        ensures some { IfOk result (λ count. (0 < count) × (count ≤ length bytes.now)) }
+        ensures count { IfOk result (λ count. self.new.taken ≡ self.old.taken + count) }
+        ensures read { IfOk result (λ count. ReadsOn (S.source source.now) (take count bytes.now) self.old self.new) }
+        ensures stops { IfErr result (StopsIn (S.source source.now) self.old.most bytes.now self.old) }
+    {
+        if self.is_past_limit() {
+            return Err(LineStop::Limit);
+        }
+        let Some(end) = feed_place(bytes) else {
+            self.keep(source, bytes)?;
+            return Ok(bytes.len());
+        };
+        self.keep(source, &bytes[..end])?;
+        self.end_line(source)?;
+        Ok(end + 1)
+    }
+
+    /// Takes the next bytes of the log.
+    fn take_all<S: LogSource>(&mut self, source: &S, bytes: &[u8]) -> Result<(), LineStop>
+        ensures same { self.new.most ≡ self.old.most }
+        ensures count { OnOk result (self.new.taken ≡ self.old.taken + length bytes.now) }
+        ensures read { OnOk result (ReadsOn (S.source source.now) bytes.now self.old self.new) }
+        ensures stops { IfErr result (StopsIn (S.source source.now) self.old.most bytes.now self.old) }
+    {
+        let mut done = 0;
+        while done < bytes.len() {
+            let count = self.take_part(source, &bytes[done..])?;
+            done += count;
+        }
+        Ok(())
+    }
+
+    /// Ends the log: a last line needs no line feed.
+    fn finish<S: LogSource>(self, source: &S) -> Result<Log, LineStop>
+        ensures read { IfOk result (λ log. EndsAs (S.source source.now) self log.lines log.frames) }
+        ensures few { IfOk result (λ log. log.lines ≤ self.most) }
+        ensures given { IfOk result (λ log. length log.frames ≤ log.lines) }
+        ensures supported { IfOk result (λ log. KeepsSupported (S.source source.now) self log.frames) }
+        ensures stops { IfErr result (StopsAtEnd (S.source source.now) self.most self) }
+    {
+        let LogSoFar {
+            most: _,
+            lines,
+            taken: _,
+            piece,
+            mut frames,
+        } = self;
+        let last = piece.as_slice();
+        if last.is_empty() {
+            return Ok(Log { lines, frames });
+        }
+        push_line(source, last, lines, &mut frames)?;
+        Ok(Log {
+            lines: lines + 1,
+            frames,
+        })
+    }
+}
+
+/// Reads a log to its end; it may have at most so many lines.
+///
+/// A line ends at its line feed, and a last one may lack it; one carriage return before it is dropped. Else the log
+/// stops at `Fault` where a read failed, and at the first line that isn't taken: `Refused` with its number where it has
+/// a fault or a frame that isn't supported, `Limit` where it is one line too many. After `Memory` nothing is known of
+/// the log.
+pub fn read_log<D: Depot, S: LogSource>(
+    alloc: Global,
+    depot: &mut D,
+    source: &S,
+    most: u32,
+) -> Result<Log, LogStop>
+    requires { most < 2 ^ 32 - 1 }
+    ensures told { D.told depot.new ≡ D.told depot.old }
+    ensures files { D.files depot.new ≡ D.files depot.old }
+    ensures read { IfOk result (IsLogIn (D.told depot.old) (D.files depot.old) (S.source source.now)) }
+    ensures few { IfOk result (λ log. log.lines ≤ most) }
+    ensures given { IfOk result (λ log. length log.frames ≤ log.lines) }
+    ensures dated { IfOk result (λ log. AreDated log.frames) }
+    ensures supported { IfOk result (λ log. All (λ s. IsSupported (S.source source.now) s.frame) log.frames) }
+    ensures stops { IfErr result (LogStops (D.told depot.old) (D.files depot.old) (S.source source.now) most) }
+    ensures later { D.faults depot.old ≤ D.faults depot.new }
+    ensures fault { FaultsReading (S.source source.now) (D.faults depot.old) (D.faults depot.new) (D.blame depot.new) result }
+{
+    let mut log = LogSoFar {
+        most,
+        lines: 0,
+        taken: 0,
+        piece: ArrayVec::new(),
+        frames: ListOf::new(alloc),
+    };
+    let mut piece = [0u8; PIECE];
+    loop {
+        let Ok(count) = depot.read(source.file(), log.taken, &mut piece) else {
+            return Err(LogStop::Fault);
+        };
+        if count == 0 {
+            return Ok(log.finish(source)?);
+        }
+        log.take_all(source, &piece[..count])?;
+    }
+}

@@ -1,0 +1,5 @@
+mod ConfigBack
+mod IdBack
+mod PrintLemmas
+mod PutLemmas
+mod ReadBack

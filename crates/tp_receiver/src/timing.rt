@@ -1,0 +1,58 @@
+use crate::reception::State;
+use crate::{Receiver, RxActs};
+use gw_base::Tick;
+use hub_core::{Port, RxLimit, RxWait, SessionResult};
+use std::mem;
+
+impl Receiver {
+    ghost use Rattle.std.specs.Prelude.{◌≡◌, ◌<◌, []};
+    ghost use Rattle.tp_receiver.specs.Port.{Kept, Knows, did_by};
+    ghost use Rattle.tp_receiver.specs.State.{WaitsBy, reception_in, state_of};
+    ghost use Rattle.hub_core.specs.Turns.{Over};
+    ghost use Rattle.tp_receiver.specs.Table.{TimerRow, LeftRow};
+    ghost use Rattle.hub_core.specs.Floors.{Rise};
+    ghost use Rattle.hub_core.specs.View.{View};
+
+    /// A tick is over.
+    pub(crate) fn timer<P: Port>(&mut self, tick: Tick, port: &mut P) -> RxActs
+        requires knows { Knows (P.view port.old) self.old }
+        requires tick { WaitsBy self.old.state tick.0 }
+        ensures over { Over (P.floors port.old) (P.view port.old) (P.view port.new) result.moves.items (λ calls. TimerRow self.old.set (state_of self.old) (reception_in self.old.state) (did_by tick.0 calls result (state_of self.new))) }
+        ensures set { self.new.set ≡ self.old.set }
+        ensures next_n { self.new.next_n ≡ self.old.next_n }
+        ensures knows { Knows (P.view port.new) self.new }
+        ensures tick { WaitsBy self.new.state tick.0 }
+        ensures kept { Kept self.old.set.path.0 0 0 (P.view port.old) (P.view port.new) (P.means port.old) (P.means port.new) }
+        ensures rise { Rise (P.floors port.old) (P.floors port.new) }
+    {
+        match mem::replace(&mut self.state, State::Idle) {
+            State::Idle => RxActs::nothing(),
+            State::Busy(reception) if reception.is_late(&self.set, tick) => {
+                self.end(reception, SessionResult::RxTimeout(RxLimit::Cf), tick, port)
+            }
+            State::Busy(reception) => {
+                self.state = State::Busy(reception);
+                RxActs::nothing()
+            }
+        }
+    }
+
+    /// The flow control left: a consecutive frame is awaited from now on.
+    pub(crate) fn flow_control_left(&mut self, tick: Tick) -> RxActs
+        requires { WaitsBy self.old.state tick.0 }
+        ensures row { LeftRow (state_of self.old) (reception_in self.old.state) (did_by tick.0 [] result (state_of self.new)) }
+        ensures moves { result.moves.items ≡ [] }
+        ensures set { self.new.set ≡ self.old.set }
+        ensures next_n { self.new.next_n ≡ self.old.next_n }
+        ensures knows { (v : View) → Knows v self.old → Knows v self.new }
+        ensures tick { WaitsBy self.new.state tick.0 }
+    {
+        if let State::Busy(reception) = &mut self.state {
+            if matches!(reception.wait, RxWait::Box) {
+                reception.wait = RxWait::Cf;
+                reception.since = tick;
+            }
+        }
+        RxActs::nothing()
+    }
+}

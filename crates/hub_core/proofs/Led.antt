@@ -5,7 +5,7 @@ use Rattle.std.specs.Prelude.{slice_get, if◌then◌else◌}
 use Rattle.gw_base.specs.Cell.{IsCell, count_of, counted}
 use Rattle.hub_core.proofs.EveryStep.{Lawful, lawful-of}
 use Rattle.hub_core.proofs.OneGroup.{law}
-use Rattle.hub_core.proofs.Sure.{sure-joint, from}
+use Rattle.hub_core.proofs.Sure.{sure-joint}
 use Rattle.hub_core.specs.Alone.{IsRoomOf, IsSeenOf}
 use Rattle.hub_core.specs.Core.{HubState, opening, Step, after, May, MayDo, Leads, IsLed, LedLaw, LeadingLaw}
 use Rattle.hub_core.specs.Floors.{staying, has_left, floors_of}
@@ -18,7 +18,7 @@ use Rattle.hub_core.specs.declared.token.Held.{Held}
 use Rattle.hub_core.specs.declared.token.Joined.{Joined}
 use Rattle.hub_core.specs.declared.token.Opened.{Opened}
 
-leads-more : (groups : List (List ℕ)) (steps : List Step) (step : Step) (h last : HubState) → Leads groups h steps last → May groups last step → Leads groups h (steps ++ step ∷ []) (after step last)
+pub leads-more : (groups : List (List ℕ)) (steps : List Step) (step : Step) (h last : HubState) → Leads groups h steps last → May groups last step → Leads groups h (steps ++ step ∷ []) (after step last)
 leads-more groups [] step h last is may = subst (λ (x : HubState). Leads groups x (step ∷ []) (after step last)) is (inl (may, refl))
 leads-more groups (first ∷ steps) step h last led may = elim led [
   | inl did ↦ inl (did.0, leads-more groups steps step (after first h) last did.1 may)

@@ -1,5 +1,5 @@
 -- Where all stands, both machines can be told.
-use Rattle.std.proofs.Common.{◌≡◌, ℕ, ◌<◌, ◌≤◌, ◌==◌, ◌&&◌, Bool, true, false, List, length, refl, sym, subst, ap, ◌∙◌, arith}
+use Rattle.std.proofs.Common.{◌≡◌, ℕ, ◌<◌, ◌≤◌, ◌&&◌, nat_lt, Bool, true, false, List, length, refl, sym, subst, ap, ◌∙◌, arith}
 use Rattle.tp_unit.specs.Box.{Answer}
 use Rattle.tp_sender.specs.Port.{Knows as KnowsPort}
 use Rattle.tp_receiver.specs.Port.{CanTake, Knows}
@@ -29,7 +29,7 @@ can-tell g t tick turns moments view event s by can =
     let readers : g.receiver.set.readers ≡ 1 = ap (λ (r : RxSet). r.readers) set ∙ g.machines.are.readers in
     let P : View → Type 0 = λ v. Knows v g.receiver in
     record {
-      acts = record { writes = ap (λ n. n == 0) path; most = omega (arith, readers) };
+      acts = record { writes = ap (λ n. nat_lt n 64) path; most = omega (arith, readers) };
       knows = subst P (sym s.pool.view_is) s.receives.knows;
       waits = waits-later g.receiver.state t tick by s.receives.waits;
       can = can;
@@ -47,7 +47,7 @@ can-receive g seen answers tick frame lawful few at =
     let count = ap length at.seen_is in
     let address : g.receiver.set.a ≡ 0 = ap (λ (r : RxSet). r.a) s.receives.set ∙ g.machines.are.address in
     can-tell g tick tick _ _ _ (Came (length frame.bytes) (unit_of 0 frame)) s (omega arith) (
-      record { takes = omega (arith, count, s.pool.takes); spare = omega (arith, count, s.pool.spare); number = omega (arith, count, s.receives.number) },
+      record { takes = omega (arith, count, s.pool.takes); spare = omega arith; number = omega (arith, count, s.receives.number) },
       record { frame = frame; size_is = refl; most = lawful-most frame.fd (length frame.bytes) lawful.len; reads = ap (λ a. unit_of a frame) address },
     )
 
@@ -60,7 +60,8 @@ can-tell-sender g t tick turns moments view event s by low left plain =
     let P : View → Type 0 = λ v. KnowsPort v g.sender in
     record {
       knows = subst P (sym s.pool.view_is) s.sends.knows;
-      acts = ap (λ n. (n == 0) && (g.sender.set.dest.0 == 0)) path ∙ ap (λ n. (0 == 0) && (n == 0)) dest;
+      acts = ap (λ n. nat_lt n 64 && nat_lt g.sender.set.dest.0 8) path ∙ ap (λ n. nat_lt 0 64 && nat_lt n 8) dest;
+      dest = dest;
       since = omega (arith, s.sends.since);
       tick_is = low;
       left = left;

@@ -5,10 +5,10 @@ use Rattle.tp_receiver.specs.State.{Reception, RxDid, RxState, RunEnd, RxTurn}
 use Rattle.tp_receiver.specs.Table.{EndRow}
 use Rattle.hub_core.specs.Turns.{came_by, calls_by}
 use Rattle.tp_receiver.specs.Runs.{frames_in}
-use Rattle.hub_core.specs.Floors.{AreFresh, floors_of}
+use Rattle.hub_core.specs.Floors.{AreFresh, IsFresh, floors_of}
 use Rattle.hub_core.specs.Joint.{AreInOrder, Joint}
 use Rattle.gw_base.specs.declared.numbers.PathNo.{PathNo}
-use Rattle.hub_core.proofs.Whole.{is-joint, none-missed}
+use Rattle.hub_core.proofs.Hubs.{is-joint, none-missed}
 use Rattle.hub_core.specs.declared.plain.PlainHub.{PlainHub}
 use Rattle.hub_core.specs.View.{Event, Missed, Session, View, grows}
 use Rattle.hub_core.specs.declared.record.DestRecord.{DestRecord}
@@ -68,22 +68,24 @@ none-told set next (Some s) did entered row none missed = let some = row.0.recor
 none-told set next None did entered (NothingStands row) none missed = (row.live, omega (arith, missed next [] row.calls_are, row.next_is))
 none-told set next None did entered (FindsOne buf len more joins ends) none missed = let some = ends.records in cc
 
-missed-fresh : (hub : PlainHub) (path dest number : ℕ) (calls more : List Event) → (means_in hub).reads path dest ≡ true → AreFresh (floors_of (view_in hub)) (view_in hub) calls → calls ≡ Missed path dest number ∷ more →
-    length ((view_in hub).sessions path) ≤ number
-missed-fresh hub path dest number calls more acts fresh is = let P : List Event → Type 0 = λ c. AreFresh (floors_of (view_in hub)) (view_in hub) c in none-missed hub path dest number acts (subst P is fresh).0
+missed-fresh : (hub : PlainHub) (path dest number : ℕ) (calls more : List Event) → dest ≡ 0 → AreFresh (floors_of (view_in hub)) (view_in hub) calls → calls ≡ Missed path dest number ∷ more → length ((view_in hub).sessions path) ≤ number
+missed-fresh hub path dest number calls more first fresh is =
+    let P : List Event → Type 0 = λ c. AreFresh (floors_of (view_in hub)) (view_in hub) c in
+    let Q : ℕ → Type 0 = λ d. IsFresh (view_in hub) (floors_of (view_in hub)) (Missed path d number) in
+    none-missed hub path number (subst Q first (subst P is fresh).0)
 
 no-more : (before after more : List DestRecord) → after ≡ before ++ more → length after ≤ length before → more ≡ []
 no-more before after [] is few = refl
 no-more before after (told ∷ more) is few = absurd (omega (arith, ap length is ∙ length-append before (told ∷ more), few))
 
-pub is-over : (g h : Gateway) (last : ℕ) → ActsForSender (means_in g.hub) g.sender → TellsSender g h RunEnd last (lying g.frame) g.frames → length h.dests ≤ length g.dests → IsOver h
-is-over g h last acts told few =
+pub is-over : (g h : Gateway) (last : ℕ) → (set_of g.sender).dest.0 ≡ 0 → TellsSender g h RunEnd last (lying g.frame) g.frames → length h.dests ≤ length g.dests → IsOver h
+is-over g h last first told few =
     let turn = told.turn in
     let st = told.stepped in
     let next = ap (λ (s : TxState). s.next) st.state in
     let row : TxRow (set_of g.sender) (state_of g.sender).next (state_of g.sender).live RunEnd turn.did = (let P : TxEvent → Type 0 = λ e. TxRow (set_of g.sender) (state_of g.sender).next (state_of g.sender).live e turn.did in subst P st.event_is st.row) in
     let out = none-told (set_of g.sender) (state_of g.sender).next (state_of g.sender).live turn.did (λ path. length ((view_in g.hub).sessions path)) row (no-more g.dests h.dests turn.did.records told.dests few)
-    (λ number more is. missed-fresh g.hub (set_of g.sender).path.0 (set_of g.sender).dest.0 number turn.did.calls more acts st.fresh is) in
+    (λ number more is. missed-fresh g.hub (set_of g.sender).path.0 (set_of g.sender).dest.0 number turn.did.calls more first st.fresh is) in
     let joined : length ((view_in h.hub).sessions h.sender.set.path.0) ≡ length ((view_in g.hub).sessions g.sender.set.path.0) =
     ap (λ (s : ℕ → List Session). length (s h.sender.set.path.0)) st.sessions ∙ ap (λ (x : TxSet). length ((view_in g.hub).sessions x.path.0)) st.set in
     record { live = ap (λ (s : TxState). s.live) st.state ∙ out.0; joined = omega (arith, joined, next, out.1) }

@@ -23,7 +23,7 @@ idle-waits : (state : State) (tick : ℕ) → reception_in state ≡ None → Wa
 idle-waits Idle tick is = tt
 idle-waits (Busy r) tick is = cc
 
-pub begins : (g : Gateway) → view_in g.hub ≡ empty_view → means_in g.hub ≡ hub_means BUFFER_CELLS 1000000 9000000 → g.receiver.set ≡ g.machines.rx → receiver_state g.receiver ≡ idle 0 0 →
+pub begins : (g : Gateway) → view_in g.hub ≡ empty_view → means_in g.hub ≡ hub_means (BUFFER_CELLS ∷ []) 1000000 → g.receiver.set ≡ g.machines.rx → receiver_state g.receiver ≡ idle 0 0 →
     set_of g.sender ≡ g.machines.tx → sender_state g.sender ≡ tx_new → KnowsPort empty_view g.sender → lying g.control ≡ None → lying g.frame ≡ None →
     g.controls ≡ [] → g.frames ≡ [] → g.sessions ≡ [] → g.dests ≡ [] → g.moves ≡ [] → AtBarrier g [] [] 0
 begins g view means rx rx_state tx tx_state knows control frame controls frames sessions dests moves =
@@ -32,8 +32,7 @@ begins g view means rx rx_state tx tx_state knows control frame controls frames 
     let seq : g.receiver.next_seq ≡ 0 = ap (λ (s : RxState). s.seq) rx_state in
     let live : (sender_state g.sender).live ≡ None = ap (λ (s : TxState). s.live) tx_state in
     let takes : g.hub.takes ≡ 1000000 = ap (λ (m : Means). m.takes) means in
-    let spare : g.hub.spare ≡ 9000000 = ap (λ (m : Means). m.spare) means in
-    let sizes : g.hub.size ∷ [] ≡ BUFFER_CELLS ∷ [] = ap (λ (m : Means). m.sizes) means in
+    let sizes : g.hub.sizes.items ≡ BUFFER_CELLS ∷ [] = ap (λ (m : Means). m.sizes) means in
     let L : Option Transmission → Type 0 = λ l. HasFrame l → Lies (lying g.frame) in
     let N : Option Meaning → Type 0 = λ l. Lies l → HasFrame (sender_state g.sender).live in
     let S : Option Transmission → Type 0 = λ l. since_of l ≤ 0 in
@@ -69,7 +68,7 @@ begins g view means rx rx_state tx tx_state knows control frame controls frames 
           frames_are = frames;
           dests_are = dests;
         };
-        pool = record { view_is = view; size = cc sizes; takes = omega (arith, takes); spare = omega (arith, spare); moves_are = moves };
+        pool = record { view_is = view; sizes = sizes; takes = omega (arith, takes); moves_are = moves };
       };
       clear = omega arith;
       seen_is = refl;

@@ -2,7 +2,7 @@
 use Rattle.std.proofs.Common.{◌≡◌, ℕ, ◌+◌, ◌*◌, ◌≤◌, Option, List, [], ◌∷◌, ◌++◌, length, map, refl, sym, subst, ap, ◌∙◌, append-nil, append_assoc, length-append, arith}
 use Rattle.tp_sender.specs.State.{TxTurn}
 use Rattle.tp_unit.specs.Box.{Written, box_then}
-use Rattle.tp_receiver.specs.Port.{Knows, cells_for, takes_for}
+use Rattle.tp_receiver.specs.Port.{Knows, takes_for}
 use Rattle.tp_receiver.specs.State.{RxEvent, RxDid, RxState, Came, Timer, FcLeft, RunEnd, RxTurn, rx_new}
 use Rattle.hub_core.specs.Moves.{move_of, moves_in, moves_of}
 use Rattle.tp_receiver.specs.Table.{RxStep}
@@ -48,18 +48,12 @@ pub moves-grows : (calls : List Event) (v : View) → map move_of (grows calls v
 moves-grows [] v = sym (append-nil (map move_of v.changes))
 moves-grows (call ∷ calls) v = moves-grows calls (grow call v) ∙ ap (λ ms. ms ++ moves_in calls) (moves-grow call v) ∙ append_assoc (map move_of v.changes) (moves_of call) (moves_in calls)
 
--- a frame that came is one more, and needs a take and nine cells
+-- a frame that came is one more, and needs a take
 came-takes : (tick : ℕ) (event : RxEvent) → length (frames_in tick event) ≡ takes_for event
 came-takes tick (Came size meaning) = refl
 came-takes tick Timer = refl
 came-takes tick FcLeft = refl
 came-takes tick RunEnd = refl
-
-came-cells : (event : RxEvent) → cells_for event ≡ 9 * takes_for event
-came-cells (Came size meaning) = refl
-came-cells Timer = refl
-came-cells FcLeft = refl
-came-cells RunEnd = refl
 
 came-more : (turns : List RxTurn) (tick : ℕ) (event : RxEvent) → length (came_by frames_in turns ++ frames_in tick event) ≡ length (came_by frames_in turns) + takes_for event
 came-more turns tick event = length-append (came_by frames_in turns) (frames_in tick event) ∙ ap (λ n. length (came_by frames_in turns) + n) (came-takes tick event)
@@ -114,7 +108,6 @@ turn-stands g h t tick turns moments view event s by told =
     let grown : view_in h.hub ≡ grows did.calls view = st.grown ∙ ap (λ v. grows did.calls v) pool.view_is in
     let readings : (grows did.calls view).readings ≡ view.readings = sym (ap (λ (v : View). v.readings) grown) ∙ st.readings ∙ ap (λ (v : View). v.readings) pool.view_is in
     let more = came-more turns did.tick event in
-    let cells = came-cells event in
     let R : Gateway → Type 0 = λ x. RxStands x.machines.rx x.machines.shape tick (record { event = event; did = did } ∷ turns) (grows did.calls view) h.receiver (lying h.control) h.controls h.sessions in
     let T : Gateway → Type 0 = λ x. TxStands x.machines.tx tick moments (grows did.calls view) x.sender (lying x.frame) x.frames x.dests in
     record {
@@ -122,9 +115,8 @@ turn-stands g h t tick turns moments view event s by told =
       sends = subst T (sym told.rest) (sender-stays g.machines.tx t tick moments view (grows did.calls view) g.sender (lying g.frame) g.frames g.dests readings by s.sends);
       pool = record {
         view_is = grown;
-        size = st.size ∙ pool.size;
+        sizes = st.sizes ∙ pool.sizes;
         takes = omega (arith, more, st.takes, pool.takes);
-        spare = omega (arith, more, cells, st.spare, pool.spare);
         moves_are = told.moves ∙ ap (λ l. l ++ moves_in did.calls) pool.moves_are ∙ sym (moves-grows did.calls view);
       };
     }

@@ -8,7 +8,7 @@ use Rattle.tp_receiver.specs.Runs.{frames_in}
 use Rattle.can_frame.specs.Frame.{CanFrame}
 use Rattle.hub_core.specs.Floors.{floors_of}
 use Rattle.hub_core.specs.View.{View, grows}
-use Rattle.hub_core.proofs.Whole.{is-joint}
+use Rattle.hub_core.proofs.Hubs.{is-joint}
 use Rattle.gw_law.proofs.RxLooks.{fresh-counts}
 use Rattle.receiver_law.specs.Parts.{AreLooks, ControlLeaves, LooksCount}
 use Rattle.gw_law.specs.Run.{IsJoint, moments_of, turns_of, view_of}
@@ -28,8 +28,8 @@ use Rattle.hub_core.proofs.Turns.{calls-append}
 pub stands-joint : (g : Gateway) (t : ℕ) (turns : List RxTurn) (moments : List TxTurn) (view : View) → Stands g t turns moments view → IsJoint (BUFFER_CELLS ∷ []) view
 stands-joint g t turns moments view s =
     let P : View → Type 0 = λ v. IsJoint (BUFFER_CELLS ∷ []) v in
-    let Q : ℕ → Type 0 = λ size. IsJoint (size ∷ []) (view_in g.hub) in
-    subst P s.pool.view_is (subst Q s.pool.size (is-joint g.hub))
+    let Q : List ℕ → Type 0 = λ sizes. IsJoint sizes (view_in g.hub) in
+    subst P s.pool.view_is (subst Q s.pool.sizes (is-joint g.hub))
 
 -- the same step, with the flow controls that had left written otherwise
 abbrev pub told-with : (g h : Gateway) (event : RxEvent) (tick : ℕ) (lies : Option Meaning) (controls other : List Written) → controls ≡ other → TellsReceiver g h event tick lies controls → TellsReceiver g h event tick lies other

@@ -13,7 +13,7 @@ use Rattle.receiver_law.specs.Parts.{AreLooks, CameIn, ReceivesIn}
 use Rattle.gw_law.specs.Run.{AreTicks, IsIdle, IsJoint, IsRun, Route, Work, moments_of, route_of, tick_after, turns_of, view_of}
 use Rattle.sender_law.specs.Parts.{IsAnswerIn}
 use Rattle.tp_receiver.specs.Runs.{control_after, controls_by}
-use Rattle.hub_core.specs.Plain.{hub_view}
+use Rattle.hub_core.specs.Past.{view_after}
 use Rattle.hub_core.specs.View.{View, grows}
 use Rattle.hub_core.specs.declared.plain.PlainHub.{PlainHub}
 use Rattle.hub_core.specs.declared.record.DestRecord.{DestRecord}
@@ -51,7 +51,7 @@ FitsIn shape (Some meaning) = fits_shape shape meaning ≡ true
 
 -- what the hub did and saw
 abbrev pub view_in : PlainHub → View
-view_in hub = hub_view hub.size hub.place hub.past.items hub.changes.items hub.refused.items hub.cells.items
+view_in hub = view_after hub.past.seat.me.0.deeds
 
 -- the receiver after these turns, the last of them no later than the tick, with what lies in its box, what left and what is told
 pub record RxStands (rx : RxSet) (shape : Shape) (tick : ℕ) (turns : List RxTurn) (view : View) (receiver : Receiver) (lies : Option Meaning) (controls : List Written) (sessions : List SessionRecord) : Type 0 where
@@ -82,12 +82,11 @@ pub record TxStands (tx : TxSet) (tick : ℕ) (moments : List TxTurn) (view : Vi
   pub frames_are : frames ≡ left_by tx.shape moments
   pub dests_are : dests ≡ records_by moments
 
--- the pool after so many frames of the source channel: one take and nine cells are used for each at most, and its moves are told
+-- the pool after so many frames of the source channel: one take is used for each at most, and its moves are told
 pub record PoolStands (came : ℕ) (view : View) (hub : PlainHub) (moves : List Move) : Type 0 where
   pub view_is : view_in hub ≡ view
-  pub size : hub.size ≡ BUFFER_CELLS
+  pub sizes : hub.sizes.items ≡ BUFFER_CELLS ∷ []
   pub takes : 1000000 ≤ came + hub.takes
-  pub spare : 9000000 ≤ 9 * came + hub.spare
   pub moves_are : moves ≡ map move_of view.changes
 
 -- the gateway after these turns and moments, the last of them no later than the tick

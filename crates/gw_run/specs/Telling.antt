@@ -3,7 +3,7 @@ use Rattle.std.specs.Prelude.{◌≡◌, ℕ, ◌+◌, ◌≤◌, None, Some, Op
 use Rattle.tp_unit.specs.Box.{Written, box_then, written_of}
 use Rattle.hub_core.specs.Turns.{calls_by}
 use Rattle.tp_sender.specs.Port.{Knows as KnowsPort, ActsFor as ActsForSender}
-use Rattle.tp_receiver.specs.Port.{ActsFor, CanTake, Knows, cells_for, takes_for}
+use Rattle.tp_receiver.specs.Port.{ActsFor, CanTake, Knows, takes_for}
 use Rattle.tp_receiver.specs.State.{WaitsBy, RxEvent, RxDid, FcLeft, state_of as receiver_state, RxTurn}
 use Rattle.hub_core.specs.Moves.{moves_in}
 use Rattle.tp_receiver.specs.Table.{RxStep}
@@ -29,7 +29,7 @@ use Rattle.gw_run.specs.declared.gateway.Gateway.{Gateway}
 
 -- what the hub may do
 abbrev pub means_in : PlainHub → Means
-means_in hub = hub_means hub.size hub.takes hub.spare
+means_in hub = hub_means hub.sizes.items hub.takes
 
 -- the receiver can be told of this in that tick
 pub record CanTell (receiver : Receiver) (hub : PlainHub) (event : RxEvent) (tick : ℕ) : Type 0 where
@@ -50,9 +50,8 @@ pub record RxStepped (receiver : Receiver) (hub : PlainHub) (next : Receiver) (l
   pub waits : WaitsBy next.state tick
   pub number : next.next_n ≤ receiver.next_n + takes_for event
   pub readings : (view_in later).readings ≡ (view_in hub).readings
-  pub size : later.size ≡ hub.size
+  pub sizes : later.sizes.items ≡ hub.sizes.items
   pub takes : hub.takes ≤ later.takes + takes_for event
-  pub spare : hub.spare ≤ later.spare + cells_for event
 
 -- the receiver was told of this in that tick, where this lay in its box and these flow controls had left, and its step is noted
 pub record TellsReceiver (g h : Gateway) (event : RxEvent) (tick : ℕ) (lies : Option Meaning) (controls : List Written) : Type 0 where
@@ -73,6 +72,7 @@ LeavesControl (Some meaning) g h tick = TellsReceiver g h FcLeft tick None (g.co
 pub record CanTellSender (sender : Sender) (hub : PlainHub) (event : TxEvent) (tick : ℕ) : Type 0 where
   pub knows : KnowsPort (view_in hub) sender
   pub acts : ActsForSender (means_in hub) sender
+  pub dest : (set_of sender).dest.0 ≡ 0
   pub since : since_of (sender_state sender).live ≤ tick
   pub tick_is : tick ≤ 10000000
   pub left : event ≡ Left → HasFrame (sender_state sender).live
@@ -91,9 +91,8 @@ pub record TxStepped (sender : Sender) (hub : PlainHub) (next : Sender) (later :
   pub since : since_of (sender_state next).live ≤ tick
   pub boxed : IsInBox turn.did.act (StillHasFrame event (sender_state sender).live) (sender_state next).live
   pub sessions : (view_in later).sessions ≡ (view_in hub).sessions
-  pub size : later.size ≡ hub.size
+  pub sizes : later.sizes.items ≡ hub.sizes.items
   pub takes : hub.takes ≤ later.takes
-  pub spare : hub.spare ≤ later.spare
 
 -- the sender was told of this in that tick, where this lay in its box and these frames had left, and its step is noted
 pub record TellsSender (g h : Gateway) (event : TxEvent) (tick : ℕ) (lies : Option Meaning) (frames : List Written) : Type 0 where

@@ -34,7 +34,7 @@ const ALL_FREE: u64 = 1;
 const ONE_CHANGE: u64 = 0x1_0000_0000;
 
 /// The two machines over one hub, with what lies in their boxes, what left and what is told.
-#[derive(Debug, Drop)]
+#[derive(Drop)]
 pub(crate) struct Gateway {
     machines: Machines,
     hub: PlainHub,

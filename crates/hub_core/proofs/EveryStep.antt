@@ -177,7 +177,7 @@ pub lawful-of : (groups : List (List ℕ)) (steps : List Step) (h : HubState) �
 lawful-of groups steps h led = leads groups steps opening h (begins groups) led
 
 -- what is kept is what the law says
-joint : (groups : List (List ℕ)) (h : HubState) → Lawful groups h → AreJoint groups h
+pub joint : (groups : List (List ℕ)) (h : HubState) → Lawful groups h → AreJoint groups h
 joint groups h so = record {
   journal = λ g. record { count_is = refl; free_is = refl; order = so.journals.order g; own = own-numbers (changes_in groups g h.view) (so.journals.order g); each = so.journals.lawful g; overflows = so.overflows g };
   streams = so.streamed.streams;

@@ -18,7 +18,7 @@ use Rattle.hub_core.specs.declared.token.Held.{Held}
 use Rattle.hub_core.specs.declared.token.Joined.{Joined}
 use Rattle.hub_core.specs.declared.token.Opened.{Opened}
 
-leads-more : (groups : List (List ℕ)) (steps : List Step) (step : Step) (h last : HubState) → Leads groups h steps last → May groups last step → Leads groups h (steps ++ step ∷ []) (after step last)
+pub leads-more : (groups : List (List ℕ)) (steps : List Step) (step : Step) (h last : HubState) → Leads groups h steps last → May groups last step → Leads groups h (steps ++ step ∷ []) (after step last)
 leads-more groups [] step h last is may = subst (λ (x : HubState). Leads groups x (step ∷ []) (after step last)) is (inl (may, refl))
 leads-more groups (first ∷ steps) step h last led may = elim led [
   | inl did ↦ inl (did.0, leads-more groups steps step (after first h) last did.1 may)

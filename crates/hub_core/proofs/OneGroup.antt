@@ -75,7 +75,7 @@ module _ (sizes : List ℕ) (h : HubState) (joint : AreJoint (sizes ∷ []) h) w
       nothing [] none = refl
       nothing (c ∷ l) none = absurd (none (omega arith))
 
-  same : journal_of groups 0 v.changes ≡ v.changes
+  pub same : journal_of groups 0 v.changes ≡ v.changes
   same = all-one sizes v.changes no-other
 
   -- a session's buffer is one of the group

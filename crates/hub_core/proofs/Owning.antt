@@ -332,7 +332,7 @@ owned-on groups changes held v w on owned = record {
   ];
 }
 
-same-take : (s : Session) → SameTake s s
+pub same-take : (s : Session) → SameTake s s
 same-take s = record { buf = refl; number = refl; size = refl; dests = refl; gone = λ gone. gone }
 
 -- one session is changed, one reading is, or one more comes

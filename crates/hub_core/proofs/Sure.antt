@@ -1,12 +1,12 @@
 -- What can't fail to hold holds, for all that a joint view says: equations and bounds of numbers, and items that are found.
-use Rattle.std.proofs.Common.{◌≡◌, ℕ, ◌+◌, ◌<◌, ◌≤◌, ◌⊎◌, inl, inr, zero, suc, Bool, true, false, true≢false, List, [], ◌∷◌, length, drop, get_or, Option, Some, None, All, refl, ap, sym, ◌∙◌, subst, arith}
+use Rattle.std.proofs.Common.{◌≡◌, ℕ, ◌+◌, ◌<◌, ◌≤◌, ◌⊎◌, inl, inr, zero, suc, Bool, true, false, true≢false, List, [], ◌∷◌, length, drop, get_or, map, Option, Some, None, All, refl, ap, sym, ◌∙◌, subst, arith}
 use Rattle.std.proofs.lemmas.Bool.{cases_lt}
 use Rattle.std.proofs.lemmas.Bool.Decides.{eqb_tells}
 use Rattle.std.proofs.lemmas.List.Elements.{All-nil, All-cons, All-head, All-tail}
 use Rattle.std.specs.Prelude.{slice_get}
 use Rattle.gw_base.specs.Fit.{IsSmallest}
 use Rattle.hub_core.proofs.Numbered.{within}
-use Rattle.hub_core.specs.Joint.{AreInOrder, number_of, numbered, replay, IsLawful, IsOverflow, IsJournal, IsStream, AreStreams, changed_buf, IsOver, AreOwned, Joint}
+use Rattle.hub_core.specs.Joint.{AreInOrder, CountsFrom, number_of, numbered, replay, IsLawful, IsOverflow, IsJournal, IsStream, AreStreams, changed_buf, IsOver, AreOwned, Joint}
 use Rattle.hub_core.specs.View.{View, Change, Taken, Freed, Session, Reading, session_at, reading_at}
 
 abbrev pub NotNot : Type 0 → Type 0
@@ -78,7 +78,7 @@ decide-free (Some (Freed n b)) number buf = elim (eqb_tells n number) [
   | inr other ↦ inr (λ f. other.1 (ap number_of (let e : Freed n b ≡ Freed number buf = cc in e)))
 ]
 
-search-free : (changes : List Change) (buf after bound : ℕ) → ((later : ℕ) × (after < later) × (numbered changes later ≡ Some (Freed later buf))) ⊎ ((later : ℕ) → later ≤ bound → after < later → numbered changes later ≡ Some (Freed later buf) → ⊥)
+pub search-free : (changes : List Change) (buf after bound : ℕ) → ((later : ℕ) × (after < later) × (numbered changes later ≡ Some (Freed later buf))) ⊎ ((later : ℕ) → later ≤ bound → after < later → numbered changes later ≡ Some (Freed later buf) → ⊥)
 search-free changes buf after zero = inr (λ later most above. absurd (omega (arith, most, above)))
 search-free changes buf after (suc bound) = elim (search-free changes buf after bound) [
   | inl found ↦ inl found
@@ -136,7 +136,17 @@ sure-streams v nn = record {
   joined = λ path dest seq r at. sure-item (session_at v path seq) (λ s. IsStream s r) (λ s. sure-stream s r) (from (λ x. x.joined path dest seq r at) nn);
 }
 
-sure-over : (v : View) (path seq : ℕ) (s : Session) → NotNot (IsOver v path seq s) → IsOver v path seq s
+-- a number that is found
+pub sure-some : (found : Option ℕ) (n : ℕ) → NotNot (found ≡ Some n) → found ≡ Some n
+sure-some None n nn = absurd (nn (λ e. absurd cc))
+sure-some (Some m) n nn = ap Some (sure-ℕ m n (from (λ e. (let f : Some m ≡ Some n = e in let is : m ≡ n = cc in is)) nn))
+
+-- numbers that count from one on
+pub sure-order : (first : ℕ) (changes : List Change) → NotNot (CountsFrom first (map number_of changes)) → CountsFrom first (map number_of changes)
+sure-order first [] nn = tt
+sure-order first (c ∷ changes) nn = (sure-ℕ (number_of c) first (from (λ x. x.0) nn), sure-order (first + 1) changes (from (λ x. x.1) nn))
+
+pub sure-over : (v : View) (path seq : ℕ) (s : Session) → NotNot (IsOver v path seq s) → IsOver v path seq s
 sure-over v path seq s nn = record {
   writer = sure-Bool _ _ (from (λ x. x.writer) nn);
   dests = λ dest below. sure-item (reading_at v path dest seq) (λ r. r.stands ≡ false) (λ r. sure-Bool r.stands false) (from (λ x. x.dests dest below) nn);
@@ -159,10 +169,6 @@ sure-owned sizes v order nn = record {
   no_readers = λ path seq s at none dest below. sure-left (reading_at v path dest seq) (from (λ x. x.no_readers path seq s at none dest below) nn);
 }
   where
-    sure-some : (found : Option ℕ) (n : ℕ) → NotNot (found ≡ Some n) → found ≡ Some n
-    sure-some None n nn = absurd (nn (λ e. absurd cc))
-    sure-some (Some m) n nn = ap Some (sure-ℕ m n (from (λ e. (let f : Some m ≡ Some n = e in let is : m ≡ n = cc in is)) nn))
-
     sure-left : (found : Option Reading) → NotNot ((r : Reading) × (found ≡ Some r) × (r.stands ≡ false) × (r.writer ≡ true)) → (r : Reading) × (found ≡ Some r) × (r.stands ≡ false) × (r.writer ≡ true)
     sure-left None nn = absurd (nn (λ x. absurd (let e = x.1 in cc)))
     sure-left (Some a) nn =

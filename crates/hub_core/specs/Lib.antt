@@ -6,6 +6,7 @@ pub mod Groups
 pub mod Joint
 pub mod Moves
 pub mod Parts
+pub mod Past
 pub mod Plain
 pub mod Records
 pub mod Tokens

@@ -1,165 +1,149 @@
--- The plain hub of one buffer, one path and one destination: what its fields stand for, and what they keep.
-use Rattle.std.specs.Prelude.{◌≡◌, ℕ, ◌+◌, ◌-◌, ◌*◌, ◌<◌, ◌≤◌, ◌%◌, ◌==◌, ◌&&◌, ◌||◌, if◌then◌else◌, Bool, true, false, List, [], ◌∷◌, ◌++◌, length, map, take, drop, Option, Some, None, All, slice_get}
-use Rattle.gw_base.specs.Cell.{IsCell, counted}
+-- The plain hub: how its words, places and numbers show what was done with it.
+use Rattle.std.specs.Prelude.{◌≡◌, ℕ, ◌+◌, ◌*◌, ◌<◌, ◌≤◌, ◌%◌, ◌==◌, ◌&&◌, nat_lt, if◌then◌else◌, zero, suc, Bool, true, false, List, [], ◌∷◌, length, take, sum, sum_by, Option, Some, None, All, slice_get, slice_set, slice_index, option_map}
+use Rattle.gw_base.specs.Cell.{IsCell}
+use Rattle.hub_core.specs.Alone.{free_now}
+use Rattle.hub_core.specs.Calls.{Means}
+use Rattle.hub_core.specs.Core.{HubState, IsFreed}
+use Rattle.hub_core.specs.Floors.{is_for}
+use Rattle.hub_core.specs.Joint.{IsOver}
+use Rattle.hub_core.specs.View.{View, Session, Reading, Taking, session_at, reading_at}
 use Rattle.hub_core.specs.declared.port.Room.{Room}
+use Rattle.hub_core.specs.declared.place.Place.{Place}
+use Rattle.hub_core.specs.declared.place.Place.TheVariants.{Free, Reserved, Occupied}
+use Rattle.hub_core.specs.declared.place.Row.{Row}
 use Rattle.hub_core.specs.declared.token.End.{End}
 use Rattle.hub_core.specs.declared.token.End.TheVariants.{Write, Read}
-use Rattle.hub_core.specs.declared.row.ChangeRow.{ChangeRow}
-use Rattle.hub_core.specs.declared.row.ChangeRow.TheVariants.{Took, Gave}
-use Rattle.hub_core.specs.declared.row.Place.{Place}
-use Rattle.hub_core.specs.declared.row.Place.TheVariants.{Free, Reserved, Occupied}
-use Rattle.hub_core.specs.declared.row.RefusalRow.{RefusalRow}
-use Rattle.hub_core.specs.declared.row.Row.{Row}
-use Rattle.hub_core.specs.Calls.{Means}
-use Rattle.hub_core.specs.View.{View, Change, Taken, Freed, Refusal, Taking, Session, Reading, at_one, at_two}
 
--- the view of a port of one buffer, one path and one destination
-abbrev pub one_view : List Change → List Refusal → Option Taking → List Session → List Reading → View
-one_view changes refused held sessions readings = record { changes = changes; refused = refused; held = at_one 0 held (λ buf. None); sessions = at_one 0 sessions (λ path. []); readings = at_two 0 0 readings (λ path dest. []) }
+-- the hub's state in the words of the law: all buffers are one group
+abbrev pub state_of : View → HubState
+state_of v = record { view = v; refused = λ group. if group == 0 then v.refused else [] }
 
--- the change that a row stands for
-abbrev pub change_of : ChangeRow → Change
-change_of (Took change need) = Taken change 0 need
-change_of (Gave change) = Freed change 0
+-- the plain hub may act for 64 paths, and for 8 destinations of each
+abbrev pub hub_means : (sizes : List ℕ) (takes : ℕ) → Means
+hub_means sizes takes = record { sizes = sizes; takes = takes; spare = 9000000; writes = λ path. nat_lt path 64; reads = λ path dest. nat_lt path 64 && nat_lt dest 8; most = 8 }
 
--- the overflow that a row stands for
-abbrev pub refusal_of : RefusalRow → Refusal
-refusal_of row = record { number = row.change; free = row.free; need = row.need }
+-- where a buffer's ring begins among the words
+abbrev pub start_of : List ℕ → ℕ → ℕ
+start_of sizes buf = sum (take buf sizes)
 
--- the session of a row, whose cells stand in the list of all cells
-abbrev pub session_of : ℕ → List ℕ → Row → Session
-session_of size cells row = record { buf = 0; number = row.change; size = size; len = row.len; dests = 1; cells = take row.put (drop row.from cells); shown = row.shown; told = row.told; room = row.room; readers = row.readers; stands = row.writes }
+-- the rings of so many buffers begin there
+abbrev pub StartAt : List ℕ → (bufs : ℕ) → List ℕ → Type 0
+StartAt sizes bufs starts = (buf : ℕ) → buf < bufs → slice_get starts buf ≡ Some (start_of sizes buf)
 
--- the reading of a row
-abbrev pub reading_of : List ℕ → Row → Reading
-reading_of cells row = record { buf = 0; len = row.len; cells = take row.at (drop row.from cells); seen = row.seen; bytes = row.bytes; writer = row.saw_writer; stands = row.reads }
+-- the sizes of the buffers, and where all the rest lies
+pub record AreLaid (sizes starts words : List ℕ) (places : List Place) : Type 0 where
+  pub few : length sizes ≤ 32
+  pub each : All (λ size. (1 ≤ size) × (size ≤ 8192)) sizes
+  pub begin : StartAt sizes (length sizes) starts
+  pub words_are : length words ≡ sum sizes
+  pub places_are : length places ≡ length sizes
 
--- the buffer's taking, session and reading, where it has one
-abbrev pub taking_in : ℕ → Place → Option Taking
-taking_in size Free = None
-taking_in size (Reserved change) = Some (record { number = change; size = size })
-taking_in size (Occupied row) = None
+-- the path and the number of the session in a place
+abbrev pub session_in : Option Place → Option (ℕ × ℕ)
+session_in None = None
+session_in (Some Free) = None
+session_in (Some Reserved) = None
+session_in (Some (Occupied row)) = Some (row.path, row.seq)
 
-abbrev pub session_in : ℕ → List ℕ → Place → List Session
-session_in size cells Free = []
-session_in size cells (Reserved change) = []
-session_in size cells (Occupied row) = session_of size cells row ∷ []
+-- whether a buffer is taken and has no session yet, and whether it is taken, counted
+abbrev pub reserved : Place → ℕ
+reserved Free = 0
+reserved Reserved = 1
+reserved (Occupied row) = 0
 
-abbrev pub reading_in : List ℕ → Place → List Reading
-reading_in cells Free = []
-reading_in cells (Reserved change) = []
-reading_in cells (Occupied row) = if row.joined then reading_of cells row ∷ [] else []
-
--- the view of the plain hub
-abbrev pub hub_view : (size : ℕ) → Place → (past : List Row) → List ChangeRow → List RefusalRow → (cells : List ℕ) → View
-hub_view size place past changes refused cells = one_view (map change_of changes) (map refusal_of refused) (taking_in size place) (map (session_of size cells) past ++ session_in size cells place) (map (reading_of cells) past ++ reading_in cells place)
-
--- the plain hub may act for the one writer and the one destination
-abbrev pub hub_means : (size takes spare : ℕ) → Means
-hub_means size takes spare = record { sizes = size ∷ []; takes = takes; spare = spare; writes = λ path. path == 0; reads = λ path dest. (path == 0) && (dest == 0); most = 1 }
-
--- a row's numbers are in order, and are those of its cells
-pub record IsRow (size : ℕ) (cells : List ℕ) (row : Row) : Type 0 where
-  pub within : row.from + row.put ≤ length cells
-  pub some : 0 < row.len
-  pub fits : counted (take row.put (drop row.from cells)) ≤ row.len
-  pub shown : row.shown ≤ row.put
-  pub told : row.told ≡ counted (take row.shown (drop row.from cells))
-  pub at : row.at ≤ row.seen
-  pub seen : row.seen ≤ row.shown
-  pub bytes : row.bytes ≡ counted (take row.seen (drop row.from cells))
-  pub gone : row.saw_writer ≡ false → row.seen ≡ row.shown
-  pub unjoined : row.joined ≡ false → (row.seen ≡ 0) × (row.saw_writer ≡ true)
-  pub unended : row.readers ≡ 0 → row.saw_writer ≡ true
-
--- a session that is over: its destination joined, and both parties left
-pub record IsPast (size : ℕ) (cells : List ℕ) (row : Row) : Type 0 where
-  pub numbers : IsRow size cells row
-  pub joined : row.joined ≡ true
-  pub writes : row.writes ≡ false
-  pub reads : row.reads ≡ false
-
--- the session in the buffer: its cells are the last ones, no cell is overwritten that is still to be read, a destination that was
--- seen gone doesn't read, and a party stands
-pub record IsOpen (size : ℕ) (cells : List ℕ) (row : Row) : Type 0 where
-  pub numbers : IsRow size cells row
-  pub last : row.from + row.put ≡ length cells
-  pub room : row.room ≤ size
-  pub ring : row.reads ≡ true → row.put + row.room ≤ row.at + size
-  pub writer : row.saw_writer ≡ false → row.writes ≡ false
-  pub unjoined : row.joined ≡ false → row.reads ≡ true
-  pub none : row.readers ≡ 0 → row.reads ≡ false
-  pub party : (row.writes || row.reads) ≡ true
-
--- what the plain hub keeps of its sessions
-pub record Kept (size : ℕ) (place : Place) (past : List Row) (cells : List ℕ) : Type 0 where
-  pub cells_only : All IsCell cells
-  pub over : All (IsPast size cells) past
-  pub at_work : (row : Row) → place ≡ Occupied row → IsOpen size cells row
-
--- whether the buffer is taken
 abbrev pub taken : Place → ℕ
 taken Free = 0
-taken (Reserved change) = 1
+taken Reserved = 1
 taken (Occupied row) = 1
 
--- the free set: bit 0 for the one buffer
-abbrev pub free_set : Place → ℕ
-free_set Free = 1
-free_set (Reserved change) = 0
-free_set (Occupied row) = 0
+-- what a session's destinations see of it: its buffer, its unit's length, the cells and bytes published, whether the writer takes part
+abbrev pub sight_of : Session → ℕ × ℕ × ℕ × ℕ × Bool
+sight_of s = (s.buf, s.len, s.shown, s.told, s.stands)
 
--- a change's number, whether it takes, and its need
-abbrev pub number_in : ChangeRow → ℕ
-number_in (Took change need) = change
-number_in (Gave change) = change
+abbrev pub sight_in : (buf : ℕ) → Row → ℕ × ℕ × ℕ × ℕ × Bool
+sight_in buf row = (buf, row.len, row.shown, row.told, row.writes)
 
-abbrev pub takes_in : ChangeRow → Bool
-takes_in (Took change need) = true
-takes_in (Gave change) = false
+-- the cells that a destination read, while it takes part
+abbrev pub standing : Option Reading → Option ℕ
+standing None = Some 0
+standing (Some r) = if r.stands then Some (length r.cells) else None
 
-abbrev pub need_in : ChangeRow → ℕ
-need_in (Took change need) = need
-need_in (Gave change) = 0
+abbrev pub position_of : Option Session → (dest : ℕ) → Option Reading → Option ℕ
+position_of session dest reading = if is_for dest session then standing reading else None
 
--- changes of one buffer have their place's number, take and free it in turn, and take it for what it holds
-pub record IsMove (size at : ℕ) (row : ChangeRow) : Type 0 where
-  pub number : number_in row ≡ at + 1
-  pub kind : takes_in row ≡ (at % 2 == 0)
-  pub fits : need_in row ≤ size
+-- a row is what the parties of its session see
+pub record IsRowOf (v : View) (buf : ℕ) (row : Row) : Type 0 where
+  pub session : option_map sight_of (session_at v row.path row.seq) ≡ Some (sight_in buf row)
+  pub positions : (dest : ℕ) → dest < 8 → slice_get row.positions dest ≡ Some (position_of (session_at v row.path row.seq) dest (reading_at v row.path dest row.seq))
 
--- an overflow's word is of changes that were made, and the buffer was taken or too small
-pub record IsRefused (size count : ℕ) (row : RefusalRow) : Type 0 where
-  pub there : row.change ≤ count
-  pub set : row.free ≡ 1 - row.change % 2
-  pub small : row.free ≡ 1 → size < row.need
+-- the places show who has each buffer: a session, of which a party takes part, until the buffer is freed, or who holds it
+pub record ShowPlaces (sizes : List ℕ) (places : List Place) (v : View) : Type 0 where
+  pub rows : (buf : ℕ) (row : Row) → slice_get places buf ≡ Some (Occupied row) → IsRowOf v buf row
+  pub party : (buf : ℕ) (row : Row) (s : Session) → slice_get places buf ≡ Some (Occupied row) → session_at v row.path row.seq ≡ Some s → IsOver v row.path row.seq s → ⊥
+  pub sessions : (path seq : ℕ) (s : Session) → session_at v path seq ≡ Some s → (IsFreed (sizes ∷ []) v s → ⊥) → session_in (slice_get places s.buf) ≡ Some (path, seq)
+  pub held : (buf : ℕ) (t : Taking) → v.held buf ≡ Some t → option_map reserved (slice_get places buf) ≡ Some 1
 
--- the change that took the buffer, or the given one where it is free
-abbrev pub take_in : ℕ → Place → ℕ
-take_in number Free = number
-take_in number (Reserved change) = change
-take_in number (Occupied row) = row.change
+-- the words show the last cells of each session until its buffer is freed: as many as the buffer has
+pub record ShowWords (sizes words : List ℕ) (v : View) : Type 0 where
+  pub cells : (path seq : ℕ) (s : Session) → session_at v path seq ≡ Some s → All IsCell s.cells
+  pub ring : (path seq k cell : ℕ) (s : Session) → session_at v path seq ≡ Some s → (IsFreed (sizes ∷ []) v s → ⊥) → slice_get s.cells k ≡ Some cell → length s.cells ≤ k + s.size →
+      slice_get words (start_of sizes s.buf + k % s.size) ≡ Some cell
 
--- what the plain hub keeps of its changes and overflows: each session has the take in its turn, and the buffer was taken last
-pub record Moves (size : ℕ) (place : Place) (changes : List ChangeRow) (overflows : List RefusalRow) (past : List Row) : Type 0 where
-  pub each : (at : ℕ) (row : ChangeRow) → slice_get changes at ≡ Some row → IsMove size at row
-  pub turn : length changes ≡ 2 * length past + taken place
-  pub own : (at : ℕ) (row : Row) → slice_get past at ≡ Some row → row.change ≡ 2 * at + 1
-  pub last : take_in (length changes) place ≡ length changes
-  pub refused : All (IsRefused size (length changes)) overflows
+-- the numbers are those of what was done, and leave place for the takes that are left
+pub record AreCounts (sizes : List ℕ) (places : List Place) (changes free takes : ℕ) (v : View) : Type 0 where
+  pub changes_are : changes ≡ length v.changes
+  pub free_is : free ≡ free_now sizes v
+  pub moves : changes + sum_by taken places + 2 * takes ≤ 2000000
+  pub sessions : (path : ℕ) → length (v.sessions path) + sum_by reserved places + takes ≤ 1000000
+  pub some : (path seq : ℕ) (s : Session) → session_at v path seq ≡ Some s → 0 < s.dests
+  pub dests : (path seq : ℕ) (s : Session) → session_at v path seq ≡ Some s → s.dests ≤ 8
 
--- the lists have place for what the takes and cells that are left may add
-pub record HasPlace (place : Place) (takes spare : ℕ) (moves overflows sessions words : ℕ) : Type 0 where
-  pub changes : moves + 2 * takes + taken place ≤ 2000000
-  pub refused : overflows + takes ≤ 1000000
-  pub past : sessions + takes + taken place ≤ 1000000
-  pub cells : words + spare ≤ 9000000
+-- the destinations below a number that take part, by their positions
+abbrev pub counts_one : Option (Option ℕ) → ℕ
+counts_one None = 0
+counts_one (Some None) = 0
+counts_one (Some (Some at)) = 1
 
--- what the writer of a row sees of its destination, in a buffer of so many cells
-abbrev pub room_in : ℕ → Row → Room
-room_in size row = if row.reads then record { cells = size - (row.put - row.at); readers = 1 } else record { cells = size; readers = 0 }
+abbrev pub readers_to : List (Option ℕ) → ℕ → ℕ
+readers_to positions zero = 0
+readers_to positions (suc dest) = counts_one (slice_get positions dest) + readers_to positions dest
+
+-- the room that the destinations below a number leave in a buffer of so many cells, where so many were put
+pub record IsRoomTo (size put : ℕ) (positions : List (Option ℕ)) (dests : ℕ) (room : Room) : Type 0 where
+  pub readers : room.readers ≡ readers_to positions dests
+  pub most : room.cells ≤ size
+  pub all : room.readers ≡ 0 → room.cells ≡ size
+  pub each : (dest at : ℕ) → dest < dests → slice_get positions dest ≡ Some (Some at) → put + room.cells ≤ at + size
+  pub least : 0 < room.readers → (dest : ℕ) × (at : ℕ) × (dest < dests) × (slice_get positions dest ≡ Some (Some at)) × (put + room.cells ≡ at + size)
+
+-- no position is past the cells put, and none so far behind that a cell was put over one unread
+abbrev pub AreWithin : (size put : ℕ) → List (Option ℕ) → Type 0
+AreWithin size put positions = (dest at : ℕ) → dest < 8 → slice_get positions dest ≡ Some (Some at) → (at ≤ put) × (put ≤ at + size)
+
+-- so many destinations are at their session's beginning, and no other takes part
+abbrev pub AreFirst : (readers dests : ℕ) → List (Option ℕ) → Type 0
+AreFirst readers dests positions = (dest : ℕ) → dest < dests → slice_get positions dest ≡ Some (if nat_lt dest readers then Some 0 else None)
+
+-- a session's place, where a place has it
+abbrev pub IsPlaceOf : List Place → (path seq : ℕ) → Option (ℕ × Row) → Type 0
+IsPlaceOf places path seq None = (at : ℕ) → session_in (slice_get places at) ≡ Some (path, seq) → ⊥
+IsPlaceOf places path seq (Some found) = (slice_get places found.0 ≡ Some (Occupied found.1)) × (found.1.path ≡ path) × (found.1.seq ≡ seq)
+
+-- whether a buffer has fewer cells than the one found before, where one was
+abbrev pub is_smaller : List ℕ → (buf : ℕ) → Option ℕ → Bool
+is_smaller sizes buf None = true
+is_smaller sizes buf (Some found) = nat_lt (slice_index sizes buf) (slice_index sizes found)
+
+-- a row whose destination has read so many cells
+abbrev pub advance : (dest at : ℕ) → Row → Row
+advance dest at row = record row { positions = slice_set row.positions dest (Some at) }
+
+-- a destination that leaves is one of those that a row has
+abbrev pub IsEndOf : End → Type 0
+IsEndOf (Write t) = Unit {0}
+IsEndOf (Read t) = t.dest.0 < 8
 
 -- a row that a party leaves
 abbrev pub left_by : End → Row → Row
 left_by (Write t) row = record row { writes = false }
-left_by (Read t) row = record row { reads = false }
+left_by (Read t) row = record row { positions = slice_set row.positions t.dest.0 None }

@@ -2,10 +2,14 @@
 //! and a plain hub.
 #![tactic(auto)]
 
+mod fit;
+mod history;
 mod law;
+mod place;
 mod plain;
 mod port;
 mod record;
+mod rings;
 mod row;
 mod token;
 

@@ -1,18 +1,23 @@
-ghost use Rattle.std.specs.Prelude.{◌≡◌, ◌+◌, ◌/◌, ◌%◌, ◌^◌, ◌≤◌, ◌||◌, true, length, vec_capacity, slice_index, All, IfOk};
+//! A hub on one thread.
+ghost use Rattle.std.specs.Prelude.{◌≡◌, ◌+◌, ◌/◌, ◌%◌, ◌^◌, ◌≤◌, [], ◌∷◌, length, vec_capacity, All, IfOk};
 ghost use Rattle.gw_base.specs.Cell.{count_of};
+ghost use Rattle.hub_core.specs.Core.{IsLed};
 ghost use Rattle.hub_core.specs.View.{empty_view};
-ghost use Rattle.hub_core.specs.Plain.{Kept, HasPlace, Moves, room_in, left_by, free_set, hub_means};
+ghost use Rattle.hub_core.specs.Calls.{buf_of, left_of};
+ghost use Rattle.hub_core.specs.Past.{event_of, view_after};
+ghost use Rattle.hub_core.specs.Plain.{AreLaid, ShowPlaces, ShowWords, AreCounts, state_of, hub_means};
 
-use crate::row::{ChangeRow, Place, RefusalRow, Row};
+use crate::fit::smallest_fitting;
+use crate::history::{Deed, History};
+use crate::place::{Place, Row};
+use crate::rings::{all_free, ring_starts};
+use crate::row::{advanced, find_session, first_positions, has_party, room_left, without};
 use crate::{End, Held, Joined, Left, Opened, Port, Room, Seen, Take};
 use gw_base::{BufNo, DestNo, Memory, PathNo};
 use std::alloc::Global;
 
 /// The takes of a plain hub: one for each frame that a run may have.
 const MOST_TAKES: u32 = 1_000_000;
-
-/// The cells of all sessions of a plain hub: nine for each frame.
-const MOST_CELLS: u32 = 9_000_000;
 
 /// The bytes that a cell counts: its low byte.
 fn bytes_counted(cell: u64) -> u32
@@ -21,88 +26,82 @@ fn bytes_counted(cell: u64) -> u32
     (cell & 0xff) as u32
 }
 
-/// What the session's writer sees of its destination, in a buffer of so many cells.
-fn room_left(size: u32, row: Row) -> Room
-    requires order { row.at ≤ row.put }
-    requires ring { row.reads ≡ true → row.put ≤ row.at + size }
-    ensures { result ≡ room_in size row }
-{
-    if !row.reads {
-        return Room {
-            cells: size,
-            readers: 0,
-        };
-    }
-    Room {
-        cells: size - (row.put - row.at),
-        readers: 1,
-    }
-}
-
-/// The session once the party has left.
-fn without(row: Row, end: &End) -> Row
-    ensures { result ≡ left_by end.now row }
+/// The buffer of the party's session.
+fn session_buf(end: &End) -> BufNo
+    ensures { result.0 ≡ buf_of end.now }
 {
     match end {
-        End::Write(_) => Row {
-            writes: false,
-            ..row
+        End::Write(at) => at.buf,
+        End::Read(at) => at.buf,
+    }
+}
+
+/// A party's leave, and what it left.
+fn leaving(end: &End, left: Left) -> Deed
+    ensures { event_of result ≡ left_of end.now left }
+{
+    match end {
+        End::Write(at) => Deed::Closed {
+            path: at.path.0,
+            seq: at.seq,
+            left,
         },
-        End::Read(_) => Row {
-            reads: false,
-            ..row
+        End::Read(at) => Deed::Parted {
+            path: at.path.0,
+            dest: at.dest.0,
+            seq: at.seq,
+            left,
         },
     }
 }
 
-/// Whether the writer or the destination takes part.
-fn has_party(row: Row) -> bool
-    ensures { result ≡ (row.writes || row.reads) }
-{
-    row.writes || row.reads
-}
-
-/// A hub of one buffer for one path with one destination, on one thread. It acts for both parties.
-#[derive(Debug, Drop)]
+/// A hub of up to 32 buffers for 64 paths with eight destinations each, on one thread. It acts for all parties.
+///
+/// Each call costs the same whatever was done before, and no call takes memory.
+#[derive(Drop)]
 pub struct PlainHub {
-    /// The buffer's cells.
-    size: u32,
+    /// The cells of each buffer.
+    sizes: Vec<u32>,
+    /// Where each buffer's ring of cells begins in the words.
+    starts: Vec<u32>,
+    /// The rings of all buffers: the cell of a session's k-th put lies at k modulo its buffer's cells.
+    words: Vec<u64>,
+    /// What each buffer is used for.
+    places: Vec<Place>,
+    /// The changes made, and the free set after them: bit i for buffer i.
+    changes: u32,
+    free: u32,
     takes: u32,
-    spare: u32,
-    place: Place,
-    /// The sessions that are over.
-    past: Vec<Row>,
-    changes: Vec<ChangeRow>,
-    refused: Vec<RefusalRow>,
-    /// The cells of all sessions, one session after another.
-    cells: Vec<u64>,
-    ghost kept: { Kept size place past.items cells.items },
-    ghost counts: { HasPlace place takes spare (length changes.items) (length refused.items) (length past.items) (length cells.items) },
-    ghost moves: { Moves size place changes.items refused.items past.items },
-    ghost changes_room: { 2000000 ≤ vec_capacity changes },
-    ghost refused_room: { 1000000 ≤ vec_capacity refused },
-    ghost past_room: { 1000000 ≤ vec_capacity past },
-    ghost cells_room: { 9000000 ≤ vec_capacity cells },
+    past: History,
+    ghost laid: { AreLaid sizes.items starts.items words.items places.items },
+    ghost places_show: { ShowPlaces sizes.items places.items (view_after past.seat.me.0.deeds) },
+    ghost words_show: { ShowWords sizes.items words.items (view_after past.seat.me.0.deeds) },
+    ghost counts: { AreCounts sizes.items places.items changes free takes (view_after past.seat.me.0.deeds) },
+    ghost led: { IsLed (sizes.items ∷ []) (state_of (view_after past.seat.me.0.deeds)) },
 }
 
 impl PlainHub {
-    /// A hub of one buffer of 1 to 8192 cells, which is free, for 1,000,000 takes and 9,000,000 cells put; it takes no
-    /// memory later. `cells` is the buffer's cells. `Memory` where a growth was refused.
+    /// A hub of 1 to 32 buffers, each of 1 to 8192 cells, all of them free, for 1,000,000 takes; it takes no memory
+    /// later. `cells` is the cells of each buffer. `Memory` where a growth was refused.
     pub fn new(alloc: Global, cells: &[u32]) -> Result<PlainHub, Memory>
-        requires one { length cells.now ≡ 1 }
+        requires few { (1 ≤ length cells.now) × (length cells.now ≤ 32) }
         requires cells { All (λ size. (1 ≤ size) × (size ≤ 8192)) cells.now }
         ensures view { IfOk result (λ hub. ⟦<PlainHub as Port>⟧.view hub ≡ empty_view) }
-        ensures means { IfOk result (λ hub. ⟦<PlainHub as Port>⟧.means hub ≡ hub_means (slice_index cells.now 0) 1000000 9000000) }
+        ensures means { IfOk result (λ hub. ⟦<PlainHub as Port>⟧.means hub ≡ hub_means cells.now 1000000) }
     {
+        let sizes = Vec::from_slice(alloc, cells)?;
+        let (starts, total) = ring_starts(alloc, cells)?;
+        let words = vec![in alloc; 0; total as usize]?;
+        let places = vec![in alloc; Place::Free; cells.len()]?;
         Ok(PlainHub {
-            size: cells[0],
+            sizes,
+            starts,
+            words,
+            places,
+            changes: 0,
+            free: all_free(cells.len()),
             takes: MOST_TAKES,
-            spare: MOST_CELLS,
-            place: Place::Free,
-            past: Vec::with_capacity(alloc, MOST_TAKES as usize)?,
-            changes: Vec::with_capacity(alloc, 2 * MOST_TAKES as usize)?,
-            refused: Vec::with_capacity(alloc, MOST_TAKES as usize)?,
-            cells: Vec::with_capacity(alloc, MOST_CELLS as usize)?,
+            past: History::new(alloc)?,
         })
     }
 }
@@ -115,17 +114,14 @@ impl PlainHub {
         ensures joint { Joint (⟦<PlainHub as Port>⟧.means self.now).sizes (result / 2 ^ 32) (result % 2 ^ 32) (⟦<PlainHub as Port>⟧.view self.now) }
         ensures in_order { AreInOrder (⟦<PlainHub as Port>⟧.view self.now).changes }
     {
-        ((self.changes.len() as u64) << 32) + self.free_set() as u64
+        (u64::from(self.changes) << 32) + u64::from(self.free_set())
     }
 
-    /// The free set: bit 0 for the one buffer.
+    /// The free set: bit i for buffer i.
     fn free_set(&self) -> u32
-        ensures { result ≡ free_set self.now.place }
+        ensures { result ≡ self.now.free }
     {
-        match self.place {
-            Place::Free => 1,
-            _ => 0,
-        }
+        self.free
     }
 }
 
@@ -136,13 +132,13 @@ impl Port for PlainHub {
     ghost use Rattle.hub_core.specs.Floors.{Rise, IsFresh, floors_of};
     ghost use Rattle.hub_core.specs.Tokens.{Writes, Reads, TakesPart, asked, saw, SameOpened, SameJoined};
     ghost use Rattle.hub_core.specs.View.{grow, Asked, Saw};
-    ghost use Rattle.hub_core.specs.Plain.{hub_view};
+    ghost use Rattle.hub_core.specs.Past.{view_after};
 
-    ghost view = { λ hub. hub_view hub.size hub.place hub.past.items hub.changes.items hub.refused.items hub.cells.items };
+    ghost view = { λ hub. view_after hub.past.seat.me.0.deeds };
 
-    ghost means = { λ hub. hub_means hub.size hub.takes hub.spare };
+    ghost means = { λ hub. hub_means hub.sizes.items hub.takes };
 
-    ghost floors = { λ hub. floors_of (hub_view hub.size hub.place hub.past.items hub.changes.items hub.refused.items hub.cells.items) };
+    ghost floors = { λ hub. floors_of (view_after hub.past.seat.me.0.deeds) };
 
     /// As for any port; the answer has the pool word of this call.
     fn take(&mut self, need: u64) -> Take
@@ -157,43 +153,57 @@ impl Port for PlainHub {
         // Beside the port's: a buffer that fits is taken by the next change, and an overflow's word is the present one.
         ensures exact { IsTakeOf (⟦<PlainHub as Port>⟧.view self.old) (⟦<PlainHub as Port>⟧.means self.old).sizes need result }
     {
-        let change = self.changes.len() as u32;
-        let free = self.free_set();
         self.takes -= 1;
-        if matches!(self.place, Place::Free) && need <= self.size as u64 {
-            let change = change + 1;
-            self.changes.push_reserved(ChangeRow::Took { change, need });
-            self.place = Place::Reserved(change);
-            let held = Held {
-                buf: BufNo(0),
-                cells: self.size,
-                change,
+        let Some(at) = smallest_fitting(&self.sizes, self.free, need) else {
+            self.past.note(Deed::Refused {
+                change: self.changes,
+                free: self.free,
+                need,
+            });
+            return Take::Overflow {
+                change: self.changes,
+                free: self.free,
             };
-            return Take::Granted { change, held };
+        };
+        self.changes += 1;
+        self.free -= 1 << at;
+        self.places[at] = Place::Reserved;
+        let held = Held {
+            buf: BufNo(at as u8),
+            cells: self.sizes[at],
+            change: self.changes,
+        };
+        self.past.note(Deed::Took {
+            change: held.change,
+            buf: held.buf.0,
+            size: held.cells,
+            need,
+        });
+        Take::Granted {
+            change: self.changes,
+            held,
         }
-        self.refused
-            .push_reserved(RefusalRow { change, free, need });
-        Take::Overflow { change, free }
     }
 
     fn enter(&mut self, held: Held, path: PathNo, seq: u32, len: u32, readers: u8) -> Opened {
         let Held { buf, cells, change } = held;
-        self.place = Place::Occupied(Row {
-            change,
+        self.places[usize::from(buf.0)] = Place::Occupied(Row {
+            path: path.0,
+            seq,
             len,
-            from: self.cells.len(),
-            put: 0,
             shown: 0,
             told: 0,
-            room: cells,
-            readers,
             writes: true,
-            joined: false,
-            at: 0,
-            seen: 0,
-            bytes: 0,
-            saw_writer: true,
-            reads: true,
+            positions: first_positions(readers),
+        });
+        self.past.note(Deed::Entered {
+            path: path.0,
+            seq,
+            buf: buf.0,
+            change,
+            size: cells,
+            len,
+            readers,
         });
         Opened {
             path,
@@ -225,14 +235,15 @@ impl Port for PlainHub {
         // Beside the port's: the look is exact.
         ensures exact { IsRoomOf (⟦<PlainHub as Port>⟧.view self.old) at.old.path.0 at.old.seq result }
     {
-        let Place::Occupied(row) = self.place else {
+        let Place::Occupied(row) = self.places[usize::from(at.buf.0)] else {
             unreachable!();
         };
-        let room = room_left(self.size, row);
-        self.place = Place::Occupied(Row {
-            room: room.cells,
+        let room = room_left(at.cells, at.put, &row.positions);
+        self.past.note(Deed::Asked {
+            path: at.path.0,
+            seq: at.seq,
+            cells: room.cells,
             readers: room.readers,
-            ..row
         });
         at.room = room.cells;
         at.readers = room.readers;
@@ -240,15 +251,12 @@ impl Port for PlainHub {
     }
 
     fn put(&mut self, at: &mut Opened, cell: u64) {
-        let Place::Occupied(row) = self.place else {
-            unreachable!();
-        };
-        self.cells.push_reserved(cell);
-        self.spare -= 1;
-        self.place = Place::Occupied(Row {
-            put: row.put + 1,
-            room: row.room - 1,
-            ..row
+        let start = self.starts[usize::from(at.buf.0)];
+        self.words[(start + at.put % at.cells) as usize] = cell;
+        self.past.note(Deed::Put {
+            path: at.path.0,
+            seq: at.seq,
+            cell,
         });
         at.put += 1;
         at.given += bytes_counted(cell);
@@ -256,13 +264,19 @@ impl Port for PlainHub {
     }
 
     fn publish(&mut self, at: &mut Opened, bytes: u32) {
-        let Place::Occupied(row) = self.place else {
+        let buf = usize::from(at.buf.0);
+        let Place::Occupied(row) = self.places[buf] else {
             unreachable!();
         };
-        self.place = Place::Occupied(Row {
-            shown: row.put,
-            told: row.told + bytes,
+        self.places[buf] = Place::Occupied(Row {
+            shown: at.put,
+            told: at.given,
             ..row
+        });
+        self.past.note(Deed::Published {
+            path: at.path.0,
+            seq: at.seq,
+            bytes,
         });
         at.told = at.given;
     }
@@ -281,21 +295,21 @@ impl Port for PlainHub {
         // Beside the port's: the look is exact.
         ensures exact { IsNextOf (⟦<PlainHub as Port>⟧.view self.old) path.0 dest.0 seq result }
     {
-        let Place::Occupied(row) = self.place else {
-            return None;
-        };
-        if row.joined {
-            return None;
-        }
-        self.place = Place::Occupied(Row {
-            joined: true,
-            ..row
+        let (buf, row) = find_session(&self.places, path.0, seq)?;
+        row.positions[usize::from(dest.0)]?;
+        let buf = buf as u8;
+        self.past.note(Deed::Joining {
+            path: path.0,
+            dest: dest.0,
+            seq,
+            buf,
+            len: row.len,
         });
         Some(Joined {
             path,
             dest,
             seq,
-            buf: BufNo(0),
+            buf: BufNo(buf),
             len: row.len,
             at: 0,
             taken: 0,
@@ -319,14 +333,16 @@ impl Port for PlainHub {
         // Beside the port's: the look is exact.
         ensures exact { IsSeenOf (⟦<PlainHub as Port>⟧.view self.old) at.old.path.0 at.old.seq result }
     {
-        let Place::Occupied(row) = self.place else {
+        let Place::Occupied(row) = self.places[usize::from(at.buf.0)] else {
             unreachable!();
         };
-        self.place = Place::Occupied(Row {
-            seen: row.shown,
+        self.past.note(Deed::Saw {
+            path: at.path.0,
+            dest: at.dest.0,
+            seq: at.seq,
+            cells: row.shown,
             bytes: row.told,
-            saw_writer: row.writes,
-            ..row
+            writer: row.writes,
         });
         at.seen = row.shown;
         Seen {
@@ -337,13 +353,17 @@ impl Port for PlainHub {
     }
 
     fn read(&mut self, at: &mut Joined) -> u64 {
-        let Place::Occupied(row) = self.place else {
+        let buf = usize::from(at.buf.0);
+        let Place::Occupied(row) = self.places[buf] else {
             unreachable!();
         };
-        let cell = self.cells[row.from + row.at as usize];
-        self.place = Place::Occupied(Row {
-            at: row.at + 1,
-            ..row
+        let cell = self.words[(self.starts[buf] + at.at % self.sizes[buf]) as usize];
+        self.places[buf] = Place::Occupied(advanced(row, at.dest, at.at + 1));
+        self.past.note(Deed::Read {
+            path: at.path.0,
+            dest: at.dest.0,
+            seq: at.seq,
+            cell,
         });
         at.at += 1;
         at.taken += bytes_counted(cell);
@@ -362,21 +382,26 @@ impl Port for PlainHub {
         // Beside the port's: the last one is told so, and no other.
         ensures exact { IsLeavingOf (⟦<PlainHub as Port>⟧.view self.new) end result }
     {
-        let Place::Occupied(row) = self.place else {
+        let buf = session_buf(&end);
+        let at = usize::from(buf.0);
+        let Place::Occupied(row) = self.places[at] else {
             unreachable!();
         };
         let row = without(row, &end);
-        if has_party(row) {
-            self.place = Place::Occupied(row);
+        if has_party(&row) {
+            self.places[at] = Place::Occupied(row);
+            self.past.note(leaving(&end, Left::Others));
             return Left::Others;
         }
-        let change = self.changes.len() as u32 + 1;
-        self.changes.push_reserved(ChangeRow::Gave { change });
-        self.past.push_reserved(row);
-        self.place = Place::Free;
-        Left::Last {
-            change,
-            buf: BufNo(0),
-        }
+        let free = self.free_set() + (1 << at);
+        self.changes += 1;
+        self.free = free;
+        self.places[at] = Place::Free;
+        let left = Left::Last {
+            change: self.changes,
+            buf,
+        };
+        self.past.note(leaving(&end, left));
+        left
     }
 }

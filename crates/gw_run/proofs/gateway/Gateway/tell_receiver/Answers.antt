@@ -21,9 +21,8 @@ returns c =
         waits = c.step-fc.ensures.tick;
         number = c.step-fc.ensures.count;
         readings = kept.readings;
-        size = cc sizes;
+        sizes = sizes;
         takes = kept.takes_used;
-        spare = kept.spare_used;
       };
       lies_is = c.put.ensures;
       controls_are = refl;

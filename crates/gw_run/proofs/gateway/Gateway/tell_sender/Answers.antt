@@ -22,9 +22,8 @@ returns c =
         since = c.step-boxed.ensures.since;
         boxed = c.step-boxed.ensures.boxed;
         sessions = c.step-boxed.ensures.others.sessions;
-        size = cc sizes;
+        sizes = sizes;
         takes = (let same : c.step-boxed.new.port.takes ≡ c.args.self.now.hub.takes = means.takes in omega arith);
-        spare = means.spare;
       };
       lies_is = c.put.ensures;
       frames_are = refl;

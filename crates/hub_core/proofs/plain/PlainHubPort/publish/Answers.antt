@@ -1,30 +1,43 @@
-use Rattle.std.proofs.Common.{arith, refl}
-use Rattle.hub_core.proofs.Done.{published-done}
-use Rattle.hub_core.proofs.Exact.{hub-rises}
-use Rattle.hub_core.proofs.Growing.{same-opened, writes-published}
-use Rattle.hub_core.proofs.Keeps.{kept-occupied, open-published}
-use Rattle.hub_core.proofs.Party.{not-idle-writer, writer-of}
+use Rattle.std.proofs.Common.{ap, sym, subst, refl}
+use Rattle.std.specs.Prelude.{slice_set}
+use Rattle.hub_core.proofs.Growing.{same-opened, writes-published, by-published}
+use Rattle.hub_core.proofs.Hubs.{shown-of, laid-place, hub-rises, party-at, party-there, party-row}
+use Rattle.hub_core.proofs.Led.{published-may}
+use Rattle.hub_core.proofs.Shown.{IsShown, after-published}
 use Rattle.hub_core.proofs.plain.PlainHubPort.publish.Goals as goal
+use Rattle.hub_core.specs.Past.{view_after}
+use Rattle.hub_core.specs.View.{Published}
+use Rattle.hub_core.specs.declared.place.Place.TheVariants.{Occupied}
+use Rattle.hub_core.specs.declared.token.End.TheVariants.{Write}
+
+pub index-requires : goal.index-requires
+index-requires c = party-at c.args.self.now (Write c.args.at.now) c.from-buf.result c.requires.writes c.from-buf.ensures
 
 pub unreachable-requires : goal.unreachable-requires
-unreachable-requires c = not-idle-writer _ _ _ _ _ _ _ c.args.self.now.kept.over c.requires.writes c.in_default.not-Occupied
+unreachable-requires c = party-there c.args.self.now (Write c.args.at.now) c.from-buf.result c.index.result.now c.requires.writes c.from-buf.ensures c.index.ensures c.in_default.not-Occupied
 
-pub overflow_add-self : goal.overflow_add-self
-overflow_add-self c =
-    let writer = writer-of _ _ _ _ _ _ _ _ c.args.self.now.kept.over c.requires.writes c.in-Occupied.is in
-    omega (arith, writer.says.told, c.requires.bytes, writer.says.within, writer.says.len)
+pub index_mut-requires : goal.index_mut-requires
+index_mut-requires c = party-at c.args.self.now (Write c.args.at.now) c.from-buf.result c.requires.writes c.from-buf.ensures
 
-pub invariant_of-self-clause-kept : goal.invariant_of-self-clause-kept
-invariant_of-self-clause-kept c =
-    let writer = writer-of _ _ _ _ _ _ _ _ c.args.self.now.kept.over c.requires.writes c.in-Occupied.is in
-    kept-occupied _ _ _ _ c.args.self.now.kept.cells_only c.args.self.now.kept.over
-    (open-published _ _ _ _ _ (c.args.self.now.kept.at_work _ c.in-Occupied.is) writer.says c.requires.bytes)
+pub invariant_of-self : goal.invariant_of-self
+invariant_of-self c =
+    let hub = c.args.self.now in
+    let v = view_after hub.past.seat.me.0.deeds in
+    let t = c.args.at.now in
+    let row = c.in-Occupied.row in
+    let found = party-row hub (Write t) c.from-buf.result c.index.result.now row c.requires.writes c.from-buf.ensures c.index.ensures c.in-Occupied.is in
+    let next = Occupied (record row { shown = t.put; told = t.given }) in
+    let new = slice_set hub.places.items c.from-buf.result next in
+    let after = after-published hub.sizes.items hub.places.items hub.words.items hub.changes hub.free hub.takes v (shown-of hub) t row new c.args.bytes c.requires.writes found.0 found.1 found.2 c.requires.bytes
+    (ap (λ i. slice_set hub.places.items i next) c.from-buf.ensures) (published-may v t c.args.bytes c.requires.writes c.requires.bytes) in
+    let all = subst (IsShown hub.sizes.items new hub.words.items hub.changes hub.free hub.takes) (sym (ap view_after c.note.ensures)) after in
+    record { laid = laid-place _ _ _ _ _ _ hub.laid; places_show = all.places_show; words_show = all.words_show; counts = all.counts; led = all.led }
 
-pub returns-clause-view : goal.returns-clause-view
-returns-clause-view c = published-done _ _ _ _ _ _ _ _ _ c.args.self.now.kept c.requires.writes c.in-Occupied.is
+pub returns-clause-by : goal.returns-clause-by
+returns-clause-by c = by-published _ _ _ _ _ (ap view_after c.note.ensures)
 
 pub returns-clause-writes : goal.returns-clause-writes
-returns-clause-writes c = writes-published _ _ _ _ c.args.bytes c.requires.writes c.requires.bytes (returns-clause-view c) (same-opened _ _ refl)
+returns-clause-writes c = writes-published _ _ _ _ c.args.bytes c.requires.writes c.requires.bytes (ap view_after c.note.ensures) (same-opened _ _ refl)
 
 pub returns-clause-rise : goal.returns-clause-rise
-returns-clause-rise c = hub-rises _ _ _ _ _ _ _ _ c.args.self.now.kept (returns-clause-view c)
+returns-clause-rise c = hub-rises c.args.self.now (Published c.args.at.now.path.0 c.args.at.now.seq c.args.bytes) _ (ap view_after c.note.ensures)

@@ -1,37 +1,58 @@
-use Rattle.std.proofs.Common.{arith, rules}
-use Rattle.hub_core.proofs.Done.{put-done, put-kept}
-use Rattle.hub_core.proofs.Exact.{hub-rises}
+use Rattle.std.proofs.Common.{ℕ, ◌+◌, ◌%◌, ap, sym, subst, arith, rules}
+use Rattle.std.specs.Prelude.{slice_set}
 use Rattle.hub_core.proofs.Growing.{writes-put, by-put}
-use Rattle.hub_core.proofs.Keeps.{put-of}
-use Rattle.hub_core.proofs.Party.{not-idle-writer, writer-of}
+use Rattle.hub_core.proofs.Hubs.{shown-of, laid-word, hub-rises, party-place, start-at, word-at, writer-size, writer-start}
+use Rattle.hub_core.proofs.Led.{put-may}
+use Rattle.hub_core.proofs.Looks.{cells-few}
+use Rattle.hub_core.proofs.Rows.{occupied}
+use Rattle.hub_core.proofs.Shown.{IsShown, after-put}
+use Rattle.hub_core.proofs.Starts.{words-put}
 use Rattle.hub_core.proofs.plain.PlainHubPort.put.Goals as goal
+use Rattle.hub_core.specs.Past.{view_after}
+use Rattle.hub_core.specs.View.{Put}
+use Rattle.hub_core.specs.declared.token.End.TheVariants.{Write}
 
-pub unreachable-requires : goal.unreachable-requires
-unreachable-requires c = not-idle-writer _ _ _ _ _ _ _ c.args.self.now.kept.over c.requires.writes c.in_default.not-Occupied
+pub index-start-requires : goal.index-start-requires
+index-start-requires c = start-at c.args.self.now c.args.at.now.buf.0 c.args.at.now.cells c.from.result (writer-size c.args.self.now c.args.at.now c.requires.writes) c.from.ensures
 
-pub overflow_sub-self-2 : goal.overflow_sub-self-2
-overflow_sub-self-2 c =
-    let writer = writer-of _ _ _ _ _ _ _ _ c.args.self.now.kept.over c.requires.writes c.in-Occupied.is in
-    omega (arith, writer.says.room, c.requires.room)
+pub overflow_add-start : goal.overflow_add-start
+overflow_add-start c =
+    let start = writer-start c.args.self.now c.args.at.now c.from.result c.index-start.result.now c.requires.writes c.from.ensures c.index-start.ensures in
+    let low = (word-at c.args.self.now c.args.at.now.buf.0 c.args.at.now.cells c.args.at.now.put c.index-start.result.now (writer-size c.args.self.now c.args.at.now c.requires.writes) start).1 in
+    record { fits = low }
+
+pub index_mut-requires : goal.index_mut-requires
+index_mut-requires c =
+    let start = writer-start c.args.self.now c.args.at.now c.from.result c.index-start.result.now c.requires.writes c.from.ensures c.index-start.ensures in
+    (word-at c.args.self.now c.args.at.now.buf.0 c.args.at.now.cells c.args.at.now.put c.index-start.result.now (writer-size c.args.self.now c.args.at.now c.requires.writes) start).0
 
 pub overflow_add-at : goal.overflow_add-at
 overflow_add-at c =
-    let writer = writer-of _ _ _ _ _ _ _ _ c.args.self.now.kept.over c.requires.writes c.in-Occupied.is in
-    let at-work = c.args.self.now.kept.at_work _ c.in-Occupied.is in
-    omega (arith, put-of _ _ _ _ at-work writer.says, at-work.last, c.args.self.now.counts.cells)
+    let known = c.requires.writes in
+    let few = cells-few known.session.cells (c.args.self.now.words_show.cells c.args.at.now.path.0 c.args.at.now.seq known.session known.known) in
+    omega (arith, few, known.says.put, known.says.given, c.requires.len, c.requires.cell.some)
 
-pub invariant_of-self-clause-kept : goal.invariant_of-self-clause-kept
-invariant_of-self-clause-kept c =
-    put-kept _ _ _ _ _ _ _ _ _ _ c.args.self.now.kept c.requires.writes c.in-Occupied.is c.push_reserved.ensures.items c.requires.cell c.requires.room c.requires.len
-
-pub returns-clause-view : goal.returns-clause-view
-returns-clause-view c = put-done _ _ _ _ _ _ _ _ _ _ c.args.self.now.kept c.requires.writes c.in-Occupied.is c.push_reserved.ensures.items
+pub invariant_of-self : goal.invariant_of-self
+invariant_of-self c =
+    let hub = c.args.self.now in
+    let v = view_after hub.past.seat.me.0.deeds in
+    let t = c.args.at.now in
+    let known = c.requires.writes in
+    let start = writer-start hub t c.from.result c.index-start.result.now known c.from.ensures c.index-start.ensures in
+    let place = occupied _ t.path.0 t.seq (party-place hub (Write t) known) in
+    let more = slice_set hub.words.items (c.index-start.result.now + t.put % t.cells) c.args.cell in
+    let shows = words-put hub.sizes.items hub.places.items hub.words.items more hub.changes hub.free hub.takes v t c.args.cell (shown-of hub) known c.requires.cell hub.laid.words_are hub.laid.each
+    (ap (λ (s : ℕ). slice_set hub.words.items (s + t.put % t.cells) c.args.cell) start) in
+    let after = after-put hub.sizes.items hub.places.items hub.words.items hub.changes hub.free hub.takes v (shown-of hub) t place.0 more c.args.cell known place.1 place.2 place.3 shows
+    (put-may v t c.args.cell known c.requires.room c.requires.cell c.requires.len) in
+    let all = subst (IsShown hub.sizes.items hub.places.items more hub.changes hub.free hub.takes) (sym (ap view_after c.note.ensures)) after in
+    record { laid = laid-word _ _ _ _ _ _ hub.laid; places_show = all.places_show; words_show = all.words_show; counts = all.counts; led = all.led }
 
 pub returns-clause-by : goal.returns-clause-by
-returns-clause-by c = by-put _ _ _ _ _ (returns-clause-view c)
+returns-clause-by c = by-put _ _ _ _ _ (ap view_after c.note.ensures)
 
 pub returns-clause-writes : goal.returns-clause-writes
-returns-clause-writes c = writes-put _ _ _ _ _ c.requires.writes c.requires.room c.requires.len (returns-clause-view c) (search rules)
+returns-clause-writes c = writes-put _ _ _ _ _ c.requires.writes c.requires.room c.requires.len (ap view_after c.note.ensures) (search rules)
 
 pub returns-clause-rise : goal.returns-clause-rise
-returns-clause-rise c = hub-rises _ _ _ _ _ _ _ _ c.args.self.now.kept (returns-clause-view c)
+returns-clause-rise c = hub-rises c.args.self.now (Put c.args.at.now.path.0 c.args.at.now.seq c.args.cell) _ (ap view_after c.note.ensures)

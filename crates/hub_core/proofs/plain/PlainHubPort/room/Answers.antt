@@ -1,42 +1,62 @@
-use Rattle.std.proofs.Common.{refl}
-use Rattle.hub_core.proofs.Exact.{room-exact, room-fresh-here, hub-rises}
-use Rattle.hub_core.proofs.Growing.{same-opened, writes-asked}
-use Rattle.hub_core.proofs.Keeps.{kept-occupied, open-asked, room-bounds}
-use Rattle.hub_core.proofs.OneView.{hub-session}
-use Rattle.hub_core.proofs.Party.{not-idle-writer, writer-of}
+use Rattle.std.proofs.Common.{ap, sym, subst, refl}
+use Rattle.hub_core.proofs.Fresh.{room-fresh}
+use Rattle.hub_core.proofs.Growing.{same-opened, writes-asked, by-asked}
+use Rattle.hub_core.proofs.Hubs.{shown-of, hub-rises, party-at, party-there, party-row}
+use Rattle.hub_core.proofs.Led.{asked-may}
+use Rattle.hub_core.proofs.Looks.{positions-within, room-exact, room-bounds}
+use Rattle.hub_core.proofs.Shown.{IsShown, after-asked}
 use Rattle.hub_core.proofs.plain.PlainHubPort.room.Goals as goal
-use Rattle.hub_core.specs.View.{grow}
+use Rattle.hub_core.specs.Past.{view_after}
+use Rattle.hub_core.specs.View.{Asked}
+use Rattle.hub_core.specs.declared.token.End.TheVariants.{Write}
+
+pub index-requires : goal.index-requires
+index-requires c = party-at c.args.self.now (Write c.args.at.now) c.from.result c.requires c.from.ensures
 
 pub unreachable-requires : goal.unreachable-requires
-unreachable-requires c = not-idle-writer _ _ _ _ _ _ _ c.args.self.now.kept.over c.requires c.in_default.not-Occupied
+unreachable-requires c = party-there c.args.self.now (Write c.args.at.now) c.from.result c.index.result.now c.requires c.from.ensures c.index.ensures c.in_default.not-Occupied
 
-pub invariant_of-self-clause-kept : goal.invariant_of-self-clause-kept
-invariant_of-self-clause-kept c =
-    let writer = writer-of _ _ _ _ _ _ _ _ c.args.self.now.kept.over c.requires c.in-Occupied.is in
-    kept-occupied _ _ _ _ c.args.self.now.kept.cells_only c.args.self.now.kept.over
-    (open-asked _ _ _ c.room_left-room.result (c.args.self.now.kept.at_work _ c.in-Occupied.is) writer.says.stands c.room_left-room.ensures)
+pub room_left-room-requires : goal.room_left-room-requires
+room_left-room-requires c =
+    let hub = c.args.self.now in
+    let found = party-row hub (Write c.args.at.now) c.from.result c.index.result.now c.in-Occupied.row c.requires c.from.ensures c.index.ensures c.in-Occupied.is in
+    positions-within hub.sizes.items hub.places.items hub.words.items hub.changes hub.free hub.takes (view_after hub.past.seat.me.0.deeds) (shown-of hub) c.args.at.now c.in-Occupied.row c.requires found.0 found.1 found.2
 
-pub returns-clause-view : goal.returns-clause-view
-unfolding grow
-returns-clause-view c =
-    let writer = writer-of _ _ _ _ _ _ _ _ c.args.self.now.kept.over c.requires c.in-Occupied.is in
-    hub-session (λ s. record s { room = c.room_left-room.result.cells; readers = c.room_left-room.result.readers }) _ _ _ _ _ _ _ _ _ _ _ c.in-Occupied.is writer.path writer.seq refl refl refl refl
+pub returns-clause-exact : goal.returns-clause-exact
+returns-clause-exact c =
+    let hub = c.args.self.now in
+    let found = party-row hub (Write c.args.at.now) c.from.result c.index.result.now c.in-Occupied.row c.requires c.from.ensures c.index.ensures c.in-Occupied.is in
+    room-exact hub.sizes.items hub.places.items hub.words.items hub.changes hub.free hub.takes (view_after hub.past.seat.me.0.deeds) (shown-of hub) c.args.at.now c.in-Occupied.row c.requires found.0 found.1 found.2 c.room_left-room.result c.room_left-room.ensures
 
 pub returns-clause-cells : goal.returns-clause-cells
 returns-clause-cells c =
-    let writer = writer-of _ _ _ _ _ _ _ _ c.args.self.now.kept.over c.requires c.in-Occupied.is in
-    room-bounds _ _ _ _ _ (c.args.self.now.kept.at_work _ c.in-Occupied.is) writer.says c.room_left-room.ensures
+    let hub = c.args.self.now in
+    let found = party-row hub (Write c.args.at.now) c.from.result c.index.result.now c.in-Occupied.row c.requires c.from.ensures c.index.ensures c.in-Occupied.is in
+    room-bounds hub.sizes.items hub.places.items hub.words.items hub.changes hub.free hub.takes (view_after hub.past.seat.me.0.deeds) (shown-of hub) c.args.at.now c.in-Occupied.row c.requires found.0 found.1 found.2 c.room_left-room.result c.room_left-room.ensures
+
+pub invariant_of-self : goal.invariant_of-self
+invariant_of-self c =
+    let hub = c.args.self.now in
+    let v = view_after hub.past.seat.me.0.deeds in
+    let found = party-row hub (Write c.args.at.now) c.from.result c.index.result.now c.in-Occupied.row c.requires c.from.ensures c.index.ensures c.in-Occupied.is in
+    let room = c.room_left-room.result in
+    let bounds = room-bounds hub.sizes.items hub.places.items hub.words.items hub.changes hub.free hub.takes v (shown-of hub) c.args.at.now c.in-Occupied.row c.requires found.0 found.1 found.2 room c.room_left-room.ensures in
+    let exact = room-exact hub.sizes.items hub.places.items hub.words.items hub.changes hub.free hub.takes v (shown-of hub) c.args.at.now c.in-Occupied.row c.requires found.0 found.1 found.2 room c.room_left-room.ensures in
+    let after = after-asked hub.sizes.items hub.places.items hub.words.items hub.changes hub.free hub.takes v (shown-of hub) c.args.at.now c.in-Occupied.row room c.requires found.0 found.1 found.2
+    (asked-may v c.args.at.now room c.requires exact bounds.1) in
+    let all = subst (IsShown hub.sizes.items hub.places.items hub.words.items hub.changes hub.free hub.takes) (sym (ap view_after c.note.ensures)) after in
+    record { laid = hub.laid; places_show = all.places_show; words_show = all.words_show; counts = all.counts; led = all.led }
+
+pub returns-clause-by : goal.returns-clause-by
+returns-clause-by c = by-asked _ _ _ _ _ _ (ap view_after c.note.ensures)
 
 pub returns-clause-writes : goal.returns-clause-writes
 returns-clause-writes c =
     let bounds = returns-clause-cells c in
-    writes-asked _ _ _ _ c.room_left-room.result c.requires bounds.0 bounds.1 (returns-clause-view c) (same-opened _ _ refl)
-
-pub returns-clause-exact : goal.returns-clause-exact
-returns-clause-exact c = room-exact _ _ _ _ _ _ _ _ _ c.args.self.now.kept c.requires c.in-Occupied.is c.room_left-room.ensures
+    writes-asked _ _ _ _ c.room_left-room.result c.requires bounds.0 bounds.1 (ap view_after c.note.ensures) (same-opened _ _ refl)
 
 pub returns-clause-fresh : goal.returns-clause-fresh
-returns-clause-fresh c = room-fresh-here _ _ _ _ _ _ _ _ _ c.args.self.now.kept c.requires c.in-Occupied.is c.room_left-room.ensures
+returns-clause-fresh c = room-fresh (view_after c.args.self.now.past.seat.me.0.deeds) c.args.at.now.path.0 c.args.at.now.seq c.room_left-room.result (returns-clause-exact c)
 
 pub returns-clause-rise : goal.returns-clause-rise
-returns-clause-rise c = hub-rises _ _ _ _ _ _ _ _ c.args.self.now.kept (returns-clause-view c)
+returns-clause-rise c = hub-rises c.args.self.now (Asked c.args.at.now.path.0 c.args.at.now.seq c.room_left-room.result.cells c.room_left-room.result.readers) _ (ap view_after c.note.ensures)

@@ -1,36 +1,59 @@
-use Rattle.std.proofs.Common.{arith, refl}
-use Rattle.hub_core.proofs.Done.{seen-done}
-use Rattle.hub_core.proofs.Exact.{seen-exact, seen-fresh-here, hub-rises}
-use Rattle.hub_core.proofs.Growing.{same-joined, reads-saw}
-use Rattle.hub_core.proofs.Keeps.{kept-occupied, open-seen}
-use Rattle.hub_core.proofs.Party.{not-idle-reader, reader-of}
+use Rattle.std.proofs.Common.{ap, sym, subst, refl}
+use Rattle.hub_core.proofs.Growing.{same-joined, reads-saw, by-saw}
+use Rattle.hub_core.proofs.Hubs.{shown-of, hub-rises, party-at, party-there, party-row}
+use Rattle.hub_core.proofs.Led.{saw-may}
+use Rattle.hub_core.proofs.Ledger.{streams}
+use Rattle.hub_core.proofs.Looks.{seen-exact, seen-rises, seen-fresh}
+use Rattle.hub_core.proofs.Shown.{IsShown, after-saw}
 use Rattle.hub_core.proofs.plain.PlainHubPort.seen.Goals as goal
+use Rattle.hub_core.specs.Past.{view_after}
+use Rattle.hub_core.specs.View.{Saw}
+use Rattle.hub_core.specs.declared.port.Seen.{Seen}
+use Rattle.hub_core.specs.declared.token.End.TheVariants.{Read}
+
+pub index-requires : goal.index-requires
+index-requires c = party-at c.args.self.now (Read c.args.at.now) c.from.result c.requires c.from.ensures
 
 pub unreachable-requires : goal.unreachable-requires
-unreachable-requires c = not-idle-reader _ _ _ _ _ _ _ c.args.self.now.kept.over c.requires c.in_default.not-Occupied
+unreachable-requires c = party-there c.args.self.now (Read c.args.at.now) c.from.result c.index.result.now c.requires c.from.ensures c.index.ensures c.in_default.not-Occupied
 
-pub invariant_of-self-clause-kept : goal.invariant_of-self-clause-kept
-invariant_of-self-clause-kept c =
-    let reader = reader-of _ _ _ _ _ _ _ _ c.args.self.now.kept.over c.requires c.in-Occupied.is in
-    kept-occupied _ _ _ _ c.args.self.now.kept.cells_only c.args.self.now.kept.over (open-seen _ _ _ (c.args.self.now.kept.at_work _ c.in-Occupied.is) reader.joined reader.says.stands)
-
-pub returns-clause-view : goal.returns-clause-view
-returns-clause-view c = seen-done _ _ _ _ _ _ _ _ c.args.self.now.kept c.requires c.in-Occupied.is
+pub returns-clause-exact : goal.returns-clause-exact
+returns-clause-exact c =
+    let hub = c.args.self.now in
+    let found = party-row hub (Read c.args.at.now) c.from.result c.index.result.now c.in-Occupied.row c.requires c.from.ensures c.index.ensures c.in-Occupied.is in
+    seen-exact hub.sizes.items hub.places.items hub.words.items hub.changes hub.free hub.takes (view_after hub.past.seat.me.0.deeds) (shown-of hub) c.args.at.now c.in-Occupied.row c.requires found.0 found.1 found.2
 
 pub returns-clause-cells : goal.returns-clause-cells
 returns-clause-cells c =
-    let reader = reader-of _ _ _ _ _ _ _ _ c.args.self.now.kept.over c.requires c.in-Occupied.is in
-    let at-work = c.args.self.now.kept.at_work _ c.in-Occupied.is in
-    omega (arith, at-work.numbers.seen, reader.says.seen)
+    let hub = c.args.self.now in
+    let found = party-row hub (Read c.args.at.now) c.from.result c.index.result.now c.in-Occupied.row c.requires c.from.ensures c.index.ensures c.in-Occupied.is in
+    seen-rises hub.sizes.items hub.places.items hub.words.items hub.changes hub.free hub.takes (view_after hub.past.seat.me.0.deeds) (shown-of hub) c.args.at.now c.in-Occupied.row c.requires found.0 found.1 found.2
+
+pub invariant_of-self : goal.invariant_of-self
+invariant_of-self c =
+    let hub = c.args.self.now in
+    let v = view_after hub.past.seat.me.0.deeds in
+    let found = party-row hub (Read c.args.at.now) c.from.result c.index.result.now c.in-Occupied.row c.requires c.from.ensures c.index.ensures c.in-Occupied.is in
+    let row = c.in-Occupied.row in
+    let seen : Seen = record { cells = row.shown; bytes = row.told; writer = row.writes } in
+    let exact = seen-exact hub.sizes.items hub.places.items hub.words.items hub.changes hub.free hub.takes v (shown-of hub) c.args.at.now row c.requires found.0 found.1 found.2 in
+    let rises = seen-rises hub.sizes.items hub.places.items hub.words.items hub.changes hub.free hub.takes v (shown-of hub) c.args.at.now row c.requires found.0 found.1 found.2 in
+    let after = after-saw hub.sizes.items hub.places.items hub.words.items hub.changes hub.free hub.takes v (shown-of hub) c.args.at.now row seen c.requires found.0 found.1 found.2
+    (saw-may v c.args.at.now seen (streams hub.sizes.items v hub.led) c.requires rises exact) in
+    let all = subst (IsShown hub.sizes.items hub.places.items hub.words.items hub.changes hub.free hub.takes) (sym (ap view_after c.note.ensures)) after in
+    record { laid = hub.laid; places_show = all.places_show; words_show = all.words_show; counts = all.counts; led = all.led }
+
+pub returns-clause-by : goal.returns-clause-by
+returns-clause-by c = by-saw _ _ _ _ _ _ _ _ (ap view_after c.note.ensures)
 
 pub returns-clause-reads : goal.returns-clause-reads
-returns-clause-reads c = reads-saw _ _ _ _ _ c.requires (returns-clause-cells c) (returns-clause-view c) (same-joined _ _ refl)
-
-pub returns-clause-exact : goal.returns-clause-exact
-returns-clause-exact c = seen-exact _ _ _ _ _ _ _ _ c.args.self.now.kept c.requires c.in-Occupied.is
+returns-clause-reads c = reads-saw _ _ _ _ _ c.requires (returns-clause-cells c) (ap view_after c.note.ensures) (same-joined _ _ refl)
 
 pub returns-clause-fresh : goal.returns-clause-fresh
-returns-clause-fresh c = seen-fresh-here _ _ _ _ _ _ _ _ c.args.self.now.kept c.requires c.in-Occupied.is
+returns-clause-fresh c =
+    let hub = c.args.self.now in
+    let found = party-row hub (Read c.args.at.now) c.from.result c.index.result.now c.in-Occupied.row c.requires c.from.ensures c.index.ensures c.in-Occupied.is in
+    seen-fresh hub.sizes.items hub.places.items hub.words.items hub.changes hub.free hub.takes (view_after hub.past.seat.me.0.deeds) (shown-of hub) c.args.at.now c.in-Occupied.row c.requires found.0 found.1 found.2
 
 pub returns-clause-rise : goal.returns-clause-rise
-returns-clause-rise c = hub-rises _ _ _ _ _ _ _ _ c.args.self.now.kept (returns-clause-view c)
+returns-clause-rise c = hub-rises c.args.self.now (Saw c.args.at.now.path.0 c.args.at.now.dest.0 c.args.at.now.seq c.in-Occupied.row.shown c.in-Occupied.row.told c.in-Occupied.row.writes) _ (ap view_after c.note.ensures)

@@ -1,38 +1,67 @@
-use Rattle.std.proofs.Common.{arith}
-use Rattle.hub_core.proofs.Done.{took-done, refused-done}
-use Rattle.hub_core.proofs.Exact.{hub-rises}
-use Rattle.hub_core.proofs.Journal.{moves-took, granted-exact, refused-exact}
+use Rattle.std.proofs.Common.{ℕ, ◌+◌, ◌-◌, ◌*◌, ◌%◌, ◌^◌, ◌<◌, List, length, ap, sym, subst, refl, arith}
+use Rattle.std.proofs.lemmas.Nat.{one_shl}
+use Rattle.std.proofs.lemmas.Option.{slice_get_read, get_or_from_slice_get}
+use Rattle.std.specs.Prelude.{slice_set}
+use Rattle.gw_base.specs.Fit.{IsSmallest, NoneFits}
+use Rattle.hub_core.proofs.Bits.{set-digit, digit-there}
+use Rattle.hub_core.proofs.Growing.{by-took, by-refused}
+use Rattle.hub_core.proofs.Hubs.{shown-of, laid-place, hub-rises}
+use Rattle.hub_core.proofs.Ledger.{led-refused}
+use Rattle.hub_core.proofs.Shown.{IsShown, after-refused}
+use Rattle.hub_core.proofs.Taking.{after-took, held-took}
 use Rattle.hub_core.proofs.plain.PlainHubPort.take.Goals as goal
-use Rattle.hub_core.proofs.plain.PlainHubPort.take.Goals.{in-Free, in_default}
+use Rattle.hub_core.specs.Past.{view_after}
+use Rattle.hub_core.specs.View.{grow, Took, Refused}
+use Rattle.hub_core.specs.declared.place.Place.TheVariants.{Reserved}
 
-pub returns-then-need-self-clause-view : goal.returns-then-need-self-clause-view
-returns-then-need-self-clause-view c =
-    took-done _ _ _ _ _ _ _ _ _ (elim c.match-matches.branch [ in-Free w ↦ w.in-Free.is | in_default w ↦ absurd cc ]) c.push_reserved.ensures.items
+pub invariant_of-self : goal.invariant_of-self
+invariant_of-self c =
+    let hub = c.args.self.now in
+    let v = view_after hub.past.seat.me.0.deeds in
+    let none : NoneFits hub.sizes.items hub.free c.args.need = subst (λ (s : List ℕ). NoneFits s hub.free c.args.need) c.deref.ensures.value c.in_default.ensures in
+    let after = after-refused hub.sizes.items hub.places.items hub.words.items hub.changes hub.free hub.takes v (shown-of hub) hub.changes hub.free c.args.need (hub.takes - 1) (omega (arith, c.requires))
+    (led-refused hub.sizes.items v hub.led hub.changes hub.free c.args.need hub.counts.changes_are hub.counts.free_is none) in
+    let same = subst (λ (f : ℕ). IsShown hub.sizes.items hub.places.items hub.words.items hub.changes f (hub.takes - 1) (grow (Refused hub.changes hub.free c.args.need) v)) (sym hub.counts.free_is) after in
+    let all = subst (IsShown hub.sizes.items hub.places.items hub.words.items hub.changes hub.free (hub.takes - 1)) (sym (ap view_after c.note.ensures)) same in
+    record { laid = hub.laid; places_show = all.places_show; words_show = all.words_show; counts = all.counts; led = all.led }
 
-pub returns-clause-view : goal.returns-clause-view
-returns-clause-view c = refused-done _ _ _ _ _ _ _ _ c.push_reserved-2.ensures.items
+pub returns-in_default-clause-by : goal.returns-in_default-clause-by
+returns-in_default-clause-by c = by-refused _ _ _ _ _ (ap view_after c.note.ensures)
 
-pub invariant_of-self-clause-moves : goal.invariant_of-self-clause-moves
-invariant_of-self-clause-moves c =
-    moves-took _ _ _ _ _ _ _ _ c.args.self.now.moves (elim c.match-matches.branch [ in-Free w ↦ w.in-Free.is | in_default w ↦ absurd cc ]) c.if-need-self.true
-    (omega (arith, c.len-change.ensures, c.args.self.now.changes.ok.0)) c.push_reserved.ensures.items
+pub returns-in_default-clause-rise : goal.returns-in_default-clause-rise
+returns-in_default-clause-rise c = hub-rises c.args.self.now (Refused c.args.self.now.changes c.args.self.now.free c.args.need) _ (ap view_after c.note.ensures)
 
-pub returns-then-need-self-clause-exact : goal.returns-then-need-self-clause-exact
-returns-then-need-self-clause-exact c =
-    granted-exact _ _ _ _ _ _ _ c.args.self.now.moves (elim c.match-matches.branch [ in-Free w ↦ w.in-Free.is | in_default w ↦ absurd cc ]) c.if-need-self.true
-    (omega (arith, c.len-change.ensures, c.args.self.now.changes.ok.0))
+pub overflow_sub-self-2 : goal.overflow_sub-self-2
+overflow_sub-self-2 c =
+    let smallest = c.in-Some.ensures in
+    let low : c.in-Some.at < 32 = omega (arith, smallest.fits.there, ap (λ (s : List ℕ). length s) c.deref.ensures.value, c.args.self.now.laid.few) in
+    omega (arith, one_shl c.in-Some.at 32 low, digit-there c.args.self.now.free c.in-Some.at (set-digit c.args.self.now.free c.in-Some.at smallest.fits.is_free))
 
-pub returns-clause-exact : goal.returns-clause-exact
-returns-clause-exact c = refused-exact _ _ _ _ _ _ _ c.args.self.now.moves (omega (arith, c.len-change.ensures, c.args.self.now.changes.ok.0)) c.free_set-free.ensures
+pub invariant_of-self-2 : goal.invariant_of-self-2
+invariant_of-self-2 c =
+    let hub = c.args.self.now in
+    let v = view_after hub.past.seat.me.0.deeds in
+    let at = c.in-Some.at in
+    let smallest : IsSmallest hub.sizes.items hub.free c.args.need at = subst (λ (s : List ℕ). IsSmallest s hub.free c.args.need at) c.deref.ensures.value c.in-Some.ensures in
+    let low : at < 32 = omega (arith, smallest.fits.there, hub.laid.few) in
+    let size-is = slice_get_read hub.sizes.items (length hub.sizes.items) at c.index.result.now refl smallest.fits.there c.index.ensures in
+    let new = slice_set hub.places.items at Reserved in
+    let after = after-took hub.sizes.items hub.places.items hub.words.items hub.changes hub.free hub.takes v (shown-of hub) (hub.changes + 1) at c.index.result.now c.args.need (hub.takes - 1) new (omega (arith, c.requires)) refl smallest size-is
+    (omega (arith, smallest.fits.there, hub.laid.places_are)) refl in
+    let same = subst (λ (x : ℕ). IsShown hub.sizes.items new hub.words.items (hub.changes + 1) (hub.free - x) (hub.takes - 1) (grow (Took (hub.changes + 1) at c.index.result.now c.args.need) v)) (sym (one_shl at 32 low)) after in
+    let all = subst (IsShown hub.sizes.items new hub.words.items (hub.changes + 1) (hub.free - (1 * 2 ^ at) % 2 ^ 32) (hub.takes - 1)) (sym (ap view_after c.note-2.ensures)) same in
+    record { laid = laid-place _ _ _ _ _ _ hub.laid; places_show = all.places_show; words_show = all.words_show; counts = all.counts; led = all.led }
 
-pub returns-then-need-self-clause-fresh : goal.returns-then-need-self-clause-fresh
-returns-then-need-self-clause-fresh c = omega (arith, (returns-then-need-self-clause-exact c).0)
+pub returns-clause-by : goal.returns-clause-by
+returns-clause-by c = by-took _ _ _ _ _ _ (ap view_after c.note-2.ensures)
 
-pub returns-clause-fresh : goal.returns-clause-fresh
-returns-clause-fresh c = omega (arith, (returns-clause-exact c).0)
-
-pub returns-then-need-self-clause-rise : goal.returns-then-need-self-clause-rise
-returns-then-need-self-clause-rise c = hub-rises _ _ _ _ _ _ _ _ c.args.self.now.kept (returns-then-need-self-clause-view c)
+pub returns-clause-answers : goal.returns-clause-answers
+returns-clause-answers c =
+    let hub = c.args.self.now in
+    let at = c.in-Some.at in
+    let smallest : IsSmallest hub.sizes.items hub.free c.args.need at = subst (λ (s : List ℕ). IsSmallest s hub.free c.args.need at) c.deref.ensures.value c.in-Some.ensures in
+    let size-is = slice_get_read hub.sizes.items (length hub.sizes.items) at c.index.result.now refl smallest.fits.there c.index.ensures in
+    (refl, omega arith, omega (arith, smallest.fits.enough, get_or_from_slice_get hub.sizes.items at c.index.result.now 0 size-is), size-is, held-took (hub.changes + 1) at c.index.result.now c.args.need _ _ (ap view_after c.note-2.ensures))
 
 pub returns-clause-rise : goal.returns-clause-rise
-returns-clause-rise c = hub-rises _ _ _ _ _ _ _ _ c.args.self.now.kept (returns-clause-view c)
+returns-clause-rise c = hub-rises c.args.self.now (Took (c.args.self.now.changes + 1) c.in-Some.at c.index.result.now c.args.need) _ (ap view_after c.note-2.ensures)

@@ -155,7 +155,7 @@ finishes g k h clock last seen answers next told in_time quiet at first ends ove
     let rx : R g.machines = subst R m_is all.receives in
     let tx : T g.machines = subst T m_is all.sends in
     let J : View → Type 0 = λ v. Joint (BUFFER_CELLS ∷ []) told.report.pool.changes told.report.pool.free v in
-    let S : ℕ → Type 0 = λ size. Joint (size ∷ []) told.report.pool.changes told.report.pool.free (view_in h.hub) in
+    let S : List ℕ → Type 0 = λ sizes. Joint sizes told.report.pool.changes told.report.pool.free (view_in h.hub) in
     let O : View → Type 0 = λ v. AreInOrder v.changes in
     let path : h.sender.set.path.0 ≡ g.machines.rx.path.0 = ap (λ (x : TxSet). x.path.0) tx.set ∙ ap (λ (p : PathNo). p.0) g.machines.are.same_path in
     let count : length ((view_in h.hub).sessions h.sender.set.path.0) ≡ length ((view_of (end ∷ works)).sessions g.machines.rx.path.0) =
@@ -183,7 +183,7 @@ finishes g k h clock last seen answers next told in_time quiet at first ends ove
         };
         received = rx.happened;
         sent = tx.happened;
-        joint = subst J all.pool.view_is (subst S all.pool.size tells.joint);
+        joint = subst J all.pool.view_is (subst S all.pool.sizes tells.joint);
         in_order = subst O all.pool.view_is tells.in_order;
       };
       route = same-route g.machines last _ _ _ _ _ _ _ _ _ told seen answers (append-nil (came_by frames_in (turns_of works)) ∙ at.seen_is) (end-answers last out.more (moments_of works) out.only ∙ at.answers_is)

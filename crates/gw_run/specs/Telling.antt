@@ -129,5 +129,5 @@ pub record Tells (g : Gateway) (clock : Clock) (told : Told) : Type 0 where
   pub moves : told.report.moves ≡ g.moves
   pub clock_is : told.report.clock ≡ clock
   pub buffers : told.report.pool.buffers ≡ 1
-  pub joint : Joint (g.hub.size ∷ []) told.report.pool.changes told.report.pool.free (view_in g.hub)
+  pub joint : Joint g.hub.sizes.items told.report.pool.changes told.report.pool.free (view_in g.hub)
   pub in_order : AreInOrder (view_in g.hub).changes

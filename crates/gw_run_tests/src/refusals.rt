@@ -1,8 +1,8 @@
 //! Commands that are refused: by their words, their configuration, a line of a log or a limit.
 
 use crate::base::{
-    AS_IT_IS, BAD, CONFIGURATION, Change, EMPTY, RUN, SAME_ADDRESS, SHORT, changed, depot_with,
-    exit_code, results,
+    AS_IT_IS, BAD, CONFIGURATION, Change, EMPTY, NOTHING, Outcome, RESULTS, RUN, SAME_ADDRESS,
+    SHORT, changed, depot_with, expect,
 };
 use gw_depot::MemSink;
 use std::test::Fail;
@@ -31,13 +31,13 @@ fn words_without_a_shape_ask_for_nothing(rt: HostRuntime) -> Result<(), Fail> {
     for words in SHAPELESS {
         let mut depot = depot_with(rt.alloc(), CONFIGURATION, [SHORT, EMPTY])?;
         let mut say = MemSink::new(rt.alloc());
-        assert_eq!(rt;
-            exit_code(&rt, rt.alloc(), words, &mut depot, &mut say)?,
-            1,
-            "{words:?}"
-        );
-        assert_eq!(rt; say.bytes(), USAGE, "{words:?}");
-        assert_eq!(rt; results(&depot), [None, None, None], "{words:?}");
+        let wanted = Outcome {
+            code: 1,
+            said: USAGE,
+            names: RESULTS,
+            left: NOTHING,
+        };
+        expect(&rt, rt.alloc(), words, &mut depot, &mut say, wanted)?;
     }
     Ok(())
 }
@@ -114,12 +114,13 @@ fn a_refused_configuration_makes_no_output(rt: HostRuntime) -> Result<(), Fail> 
         let mut depot = depot_with(rt.alloc(), configuration.as_str(), [BAD, EMPTY])?;
         let mut say = MemSink::new(rt.alloc());
         let words = ["run", "gw.toml", report];
-        assert_eq!(rt;
-            exit_code(&rt, rt.alloc(), &words, &mut depot, &mut say)?,
-            code
-        );
-        assert_eq!(rt; say.bytes(), said);
-        assert_eq!(rt; results(&depot), [None, None, None]);
+        let wanted = Outcome {
+            code,
+            said,
+            names: RESULTS,
+            left: NOTHING,
+        };
+        expect(&rt, rt.alloc(), &words, &mut depot, &mut say, wanted)?;
     }
     Ok(())
 }
@@ -266,12 +267,13 @@ fn a_refused_log_makes_no_output(rt: HostRuntime) -> Result<(), Fail> {
         let configuration = changed(rt.alloc(), change)?;
         let mut depot = depot_with(rt.alloc(), configuration.as_str(), logs)?;
         let mut say = MemSink::new(rt.alloc());
-        assert_eq!(rt;
-            exit_code(&rt, rt.alloc(), RUN, &mut depot, &mut say)?,
-            code
-        );
-        assert_eq!(rt; say.bytes(), said);
-        assert_eq!(rt; results(&depot), [None, None, None]);
+        let wanted = Outcome {
+            code,
+            said,
+            names: RESULTS,
+            left: NOTHING,
+        };
+        expect(&rt, rt.alloc(), RUN, &mut depot, &mut say, wanted)?;
     }
     Ok(())
 }
@@ -293,12 +295,13 @@ fn a_long_line_is_bad(rt: HostRuntime) -> Result<(), Fail> {
         }
         let mut depot = depot_with(rt.alloc(), CONFIGURATION, [line.as_slice(), EMPTY])?;
         let mut say = MemSink::new(rt.alloc());
-        assert_eq!(rt;
-            exit_code(&rt, rt.alloc(), RUN, &mut depot, &mut say)?,
-            3,
-            "{len}"
-        );
-        assert_eq!(rt; say.bytes(), said, "{len}");
+        let wanted = Outcome {
+            code: 3,
+            said,
+            names: RESULTS,
+            left: NOTHING,
+        };
+        expect(&rt, rt.alloc(), RUN, &mut depot, &mut say, wanted)?;
     }
     Ok(())
 }
@@ -312,8 +315,12 @@ fn a_line_after_a_million_is_too_many(rt: HostRuntime) -> Result<(), Fail> {
     log.push(b'x')?;
     let mut depot = depot_with(rt.alloc(), CONFIGURATION, [log.as_slice(), EMPTY])?;
     let mut say = MemSink::new(rt.alloc());
-    assert_eq!(rt; exit_code(&rt, rt.alloc(), RUN, &mut depot, &mut say)?, 7);
-    assert_eq!(rt; say.bytes(), b"limit lines 1000001\n".as_slice());
-    assert_eq!(rt; results(&depot), [None, None, None]);
+    let wanted = Outcome {
+        code: 7,
+        said: b"limit lines 1000001\n",
+        names: RESULTS,
+        left: NOTHING,
+    };
+    expect(&rt, rt.alloc(), RUN, &mut depot, &mut say, wanted)?;
     Ok(())
 }

@@ -2,7 +2,8 @@
 
 use crate::base::{
     AS_IT_IS, CONTROL, Change, DONE, EMPTY, FIRST, FIRST_SENT, IN_TIME, MESSAGE, MESSAGE_REPORT,
-    MESSAGE_SENT, RUN, SHORT, SHORT_REPORT, SHORT_SENT, changed, depot_with, exit_code, results,
+    MESSAGE_SENT, Outcome, RESULTS, RUN, SHORT, SHORT_REPORT, SHORT_SENT, changed, depot_with,
+    expect,
 };
 use gw_depot::MemSink;
 use std::test::Fail;
@@ -405,12 +406,13 @@ fn each_run_has_its_results(rt: HostRuntime) -> Result<(), Fail> {
         depot.at_most(7);
         let mut say = MemSink::new(rt.alloc());
         let [controls, frames] = outputs;
-        assert_eq!(rt; exit_code(&rt, rt.alloc(), RUN, &mut depot, &mut say)?, 0);
-        assert_eq!(rt;
-            results(&depot),
-            [Some(controls), Some(frames), Some(report)]
-        );
-        assert_eq!(rt; say.bytes(), said);
+        let wanted = Outcome {
+            code: 0,
+            said,
+            names: RESULTS,
+            left: [Some(controls), Some(frames), Some(report)],
+        };
+        expect(&rt, rt.alloc(), RUN, &mut depot, &mut say, wanted)?;
     }
     Ok(())
 }

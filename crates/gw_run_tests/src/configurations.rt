@@ -4,9 +4,7 @@ use crate::base::{
     AS_IT_IS, BAD, CHECK, CONFIGURATION, Change, EMPTY, NOTHING, Outcome, RESULTS, RUN,
     SAME_ADDRESS, changed, depot_with, expect,
 };
-use gw_base::Memory;
 use gw_depot::{MemDepot, MemSink};
-use std::alloc::Global;
 use std::test::Fail;
 
 /// Commands that one configuration is handed to.
@@ -66,24 +64,13 @@ const CONFIGURATIONS: [(Change, usize, &[&[&str]], u8, &[u8]); 11] = [
     ),
 ];
 
-/// The configuration with a change, filled up to so many bytes by line feeds.
-fn filled(alloc: Global, change: Change, len: usize) -> Result<String, Memory> {
-    let mut configuration = changed(alloc, change)?;
-    for _ in configuration.len()..len {
-        configuration.push('\n')?;
-    }
-    Ok(configuration)
-}
-
-/// Whether the depot's configuration is this one.
-fn holds(depot: &MemDepot, configuration: &str) -> bool {
-    depot.contents("gw.toml") == Some(configuration.as_bytes())
-}
-
 #[test]
 fn a_configuration_is_accepted_or_its_cause_is_said(rt: HostRuntime) -> Result<(), Fail> {
     for (change, len, commands, code, said) in CONFIGURATIONS {
-        let configuration = filled(rt.alloc(), change, len)?;
+        let mut configuration = changed(rt.alloc(), change)?;
+        for _ in configuration.len()..len {
+            configuration.push('\n')?;
+        }
         for words in commands {
             let mut depot = depot_with(rt.alloc(), configuration.as_str(), [BAD, EMPTY])?;
             let mut say = MemSink::new(rt.alloc());
@@ -94,7 +81,7 @@ fn a_configuration_is_accepted_or_its_cause_is_said(rt: HostRuntime) -> Result<(
                 left: NOTHING,
             };
             expect(&rt, rt.alloc(), words, &mut depot, &mut say, wanted)?;
-            assert!(rt; holds(&depot, configuration.as_str()));
+            assert!(rt; depot.contents("gw.toml") == Some(configuration.as_bytes()));
         }
     }
     Ok(())

@@ -5,7 +5,9 @@ use crate::base::{
     SHORT, changed, depot_with, expect,
 };
 use gw_depot::MemSink;
+use std::alloc::Global;
 use std::test::Fail;
+use std::thread::Threads;
 
 /// Words that ask for no command.
 const SHAPELESS: [&[&str]; 11] = [
@@ -50,7 +52,9 @@ const FIRST_OF_CAN0: &[u8] = b"unbuilt log can0 line 1\n";
 const FIRST_OF_CAN1: &[u8] = b"unbuilt log can1 line 1\n";
 
 /// A change of the configuration, the report's name, the exit code, and what is said. The log of can0 is bad.
-const REFUSED_CONFIGURATIONS: [(Change, &str, u8, &[u8]); 14] = [
+type ConfigurationRow = (Change, &'static str, u8, &'static [u8]);
+
+const REFUSED_CONFIGURATIONS: [ConfigurationRow; 14] = [
     // A report that is a log or an output.
     (AS_IT_IS, "can0.log", 2, b"config bus[0].log: repeated\n"),
     (AS_IT_IS, "can0.out", 2, b"config bus[0].out: repeated\n"),
@@ -107,26 +111,38 @@ const REFUSED_CONFIGURATIONS: [(Change, &str, u8, &[u8]); 14] = [
     ),
 ];
 
+/// Fails unless the row's configuration is refused as it says.
+fn try_configuration<R: Threads + Sync>(
+    rt: &R,
+    alloc: Global,
+    row: ConfigurationRow,
+) -> Result<(), Fail> {
+    let (change, report, code, said) = row;
+    let configuration = changed(alloc, change)?;
+    let mut depot = depot_with(alloc, configuration.as_str(), [BAD, EMPTY])?;
+    let mut say = MemSink::new(alloc);
+    let words = ["run", "gw.toml", report];
+    let wanted = Outcome {
+        code,
+        said,
+        names: RESULTS,
+        left: NOTHING,
+    };
+    expect(rt, alloc, &words, &mut depot, &mut say, wanted)
+}
+
 #[test]
 fn a_refused_configuration_makes_no_output(rt: HostRuntime) -> Result<(), Fail> {
-    for (change, report, code, said) in REFUSED_CONFIGURATIONS {
-        let configuration = changed(rt.alloc(), change)?;
-        let mut depot = depot_with(rt.alloc(), configuration.as_str(), [BAD, EMPTY])?;
-        let mut say = MemSink::new(rt.alloc());
-        let words = ["run", "gw.toml", report];
-        let wanted = Outcome {
-            code,
-            said,
-            names: RESULTS,
-            left: NOTHING,
-        };
-        expect(&rt, rt.alloc(), &words, &mut depot, &mut say, wanted)?;
+    for row in REFUSED_CONFIGURATIONS {
+        try_configuration(&rt, rt.alloc(), row)?;
     }
     Ok(())
 }
 
 /// A change of the configuration, the logs of can0 and can1, the exit code, and what is said.
-const REFUSED_LOGS: [(Change, [&[u8]; 2], u8, &[u8]); 17] = [
+type LogRow = (Change, [&'static [u8]; 2], u8, &'static [u8]);
+
+const REFUSED_LOGS: [LogRow; 17] = [
     // First frames of more bytes than the buffer's cells carry.
     (
         AS_IT_IS,
@@ -261,19 +277,25 @@ const REFUSED_LOGS: [(Change, [&[u8]; 2], u8, &[u8]); 17] = [
     ),
 ];
 
+/// Fails unless the row's run is refused as it says.
+fn try_log<R: Threads + Sync>(rt: &R, alloc: Global, row: LogRow) -> Result<(), Fail> {
+    let (change, logs, code, said) = row;
+    let configuration = changed(alloc, change)?;
+    let mut depot = depot_with(alloc, configuration.as_str(), logs)?;
+    let mut say = MemSink::new(alloc);
+    let wanted = Outcome {
+        code,
+        said,
+        names: RESULTS,
+        left: NOTHING,
+    };
+    expect(rt, alloc, RUN, &mut depot, &mut say, wanted)
+}
+
 #[test]
 fn a_refused_log_makes_no_output(rt: HostRuntime) -> Result<(), Fail> {
-    for (change, logs, code, said) in REFUSED_LOGS {
-        let configuration = changed(rt.alloc(), change)?;
-        let mut depot = depot_with(rt.alloc(), configuration.as_str(), logs)?;
-        let mut say = MemSink::new(rt.alloc());
-        let wanted = Outcome {
-            code,
-            said,
-            names: RESULTS,
-            left: NOTHING,
-        };
-        expect(&rt, rt.alloc(), RUN, &mut depot, &mut say, wanted)?;
+    for row in REFUSED_LOGS {
+        try_log(&rt, rt.alloc(), row)?;
     }
     Ok(())
 }

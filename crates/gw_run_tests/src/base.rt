@@ -4,6 +4,7 @@ use gw_base::Memory;
 use gw_depot::{MemDepot, MemSink};
 use gw_run::{OpenGate, run};
 use std::alloc::Global;
+use std::test::Fail;
 use std::thread::Threads;
 
 /// The words of a command to run, and of one to check.
@@ -102,10 +103,15 @@ pool 1 2 00000001
 /// What is said of one message that came whole and was sent.
 pub(crate) const DONE: &[u8] = b"done 1 1 1 1 2\n";
 
+/// The text with a change.
+fn changed_text(alloc: Global, text: &str, change: Change) -> Result<String, Memory> {
+    let (old, new) = change;
+    Ok(text.replacen(alloc, old, new, 1)?)
+}
+
 /// The configuration with a change.
 pub(crate) fn changed(alloc: Global, change: Change) -> Result<String, Memory> {
-    let (old, new) = change;
-    Ok(CONFIGURATION.replacen(alloc, old, new, 1)?)
+    changed_text(alloc, CONFIGURATION, change)
 }
 
 /// A depot with a configuration and these logs of can0 and can1.
@@ -123,7 +129,7 @@ pub(crate) fn depot_with(
 }
 
 /// Does the command that the words ask for, and answers its exit code.
-pub(crate) fn exit_code<R: Threads + Sync>(
+fn exit_code<R: Threads + Sync>(
     rt: &R,
     alloc: Global,
     words: &[&str],
@@ -138,11 +144,53 @@ pub(crate) fn exit_code<R: Threads + Sync>(
     Ok(run(rt, alloc, texts.as_slice(), depot, say, &OpenGate).code())
 }
 
-/// The outputs on can0 and can1 and the report, where they are there.
-pub(crate) fn results(depot: &MemDepot) -> [Option<&[u8]>; 3] {
+/// The names of both outputs and of the report.
+pub(crate) const RESULTS: [&str; 3] = ["can0.out", "can1.out", "gw.report"];
+
+/// None of them.
+pub(crate) const NOTHING: [Option<&[u8]>; 3] = [None, None, None];
+
+/// What those files hold, where they are there.
+fn contents_of<'a>(depot: &'a MemDepot, names: [&str; 3]) -> [Option<&'a [u8]>; 3] {
+    let [first, second, third] = names;
     [
-        depot.contents("can0.out"),
-        depot.contents("can1.out"),
-        depot.contents("gw.report"),
+        depot.contents(first),
+        depot.contents(second),
+        depot.contents(third),
     ]
+}
+
+/// What a command has to give: its exit code, what is said, and what files of these names hold, where they are there.
+pub(crate) struct Outcome<'a> {
+    pub(crate) code: u8,
+    pub(crate) said: &'a [u8],
+    pub(crate) names: [&'a str; 3],
+    pub(crate) left: [Option<&'a [u8]>; 3],
+}
+
+/// Does the command that the words ask for, and fails unless it gives this.
+pub(crate) fn expect<R: Threads + Sync>(
+    rt: &R,
+    alloc: Global,
+    words: &[&str],
+    depot: &mut MemDepot,
+    say: &mut MemSink,
+    wanted: Outcome<'_>,
+) -> Result<(), Fail> {
+    let Outcome {
+        code,
+        said,
+        names,
+        left,
+    } = wanted;
+    if exit_code(rt, alloc, words, depot, say)? != code {
+        return Err(Fail::from("another exit code"));
+    }
+    if say.bytes() != said {
+        return Err(Fail::from("something else was said"));
+    }
+    if contents_of(depot, names) != left {
+        return Err(Fail::from("other results"));
+    }
+    Ok(())
 }

@@ -1,8 +1,8 @@
 //! Configurations that are checked: accepted, or refused by their first cause.
 
 use crate::base::{
-    AS_IT_IS, BAD, CHECK, CONFIGURATION, Change, EMPTY, RUN, SAME_ADDRESS, changed, depot_with,
-    exit_code, results,
+    AS_IT_IS, BAD, CHECK, CONFIGURATION, Change, EMPTY, NOTHING, Outcome, RESULTS, RUN,
+    SAME_ADDRESS, changed, depot_with, expect,
 };
 use gw_depot::{MemDepot, MemSink};
 use std::test::Fail;
@@ -74,13 +74,14 @@ fn a_configuration_is_accepted_or_its_cause_is_said(rt: HostRuntime) -> Result<(
         for words in commands {
             let mut depot = depot_with(rt.alloc(), configuration.as_str(), [BAD, EMPTY])?;
             let mut say = MemSink::new(rt.alloc());
-            assert_eq!(rt;
-                exit_code(&rt, rt.alloc(), words, &mut depot, &mut say)?,
-                code
-            );
-            assert_eq!(rt; say.bytes(), said);
-            assert_eq!(rt; depot.contents("gw.toml"), Some(configuration.as_bytes()));
-            assert_eq!(rt; results(&depot), [None, None, None]);
+            let wanted = Outcome {
+                code,
+                said,
+                names: RESULTS,
+                left: NOTHING,
+            };
+            expect(&rt, rt.alloc(), words, &mut depot, &mut say, wanted)?;
+            assert!(rt; depot.contents("gw.toml") == Some(configuration.as_bytes()));
         }
     }
     Ok(())

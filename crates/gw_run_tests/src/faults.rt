@@ -2,7 +2,7 @@
 
 use crate::base::{
     CHECK, CONFIGURATION, CONTROL, DONE, EMPTY, IN_TIME, MESSAGE, MESSAGE_REPORT, MESSAGE_SENT,
-    RUN, SHORT, depot_with, exit_code, results,
+    NOTHING, Outcome, RESULTS, RUN, SHORT, depot_with, expect,
 };
 use gw_depot::{CallKind, MemDepot, MemSink};
 use std::test::Fail;
@@ -152,13 +152,13 @@ fn the_call_that_was_set_to_fail_is_blamed(rt: HostRuntime) -> Result<(), Fail> 
         }
         depot.fail(kind, nth);
         let mut say = MemSink::new(rt.alloc());
-        assert_eq!(rt;
-            exit_code(&rt, rt.alloc(), RUN, &mut depot, &mut say)?,
+        let wanted = Outcome {
             code,
-            "{kind:?} {nth}"
-        );
-        assert_eq!(rt; say.bytes(), said, "{kind:?} {nth}");
-        assert_eq!(rt; results(&depot), left, "{kind:?} {nth}");
+            said,
+            names: RESULTS,
+            left,
+        };
+        expect(&rt, rt.alloc(), RUN, &mut depot, &mut say, wanted)?;
     }
     Ok(())
 }
@@ -184,9 +184,13 @@ fn a_file_that_is_not_there_is_a_fault(rt: HostRuntime) -> Result<(), Fail> {
             }
         }
         let mut say = MemSink::new(rt.alloc());
-        assert_eq!(rt; exit_code(&rt, rt.alloc(), RUN, &mut depot, &mut say)?, 4);
-        assert_eq!(rt; say.bytes(), said);
-        assert_eq!(rt; results(&depot), [None, None, None]);
+        let wanted = Outcome {
+            code: 4,
+            said,
+            names: RESULTS,
+            left: NOTHING,
+        };
+        expect(&rt, rt.alloc(), RUN, &mut depot, &mut say, wanted)?;
     }
     Ok(())
 }
@@ -196,23 +200,33 @@ fn a_run_that_can_not_be_said_is_a_fault(rt: HostRuntime) -> Result<(), Fail> {
     let mut depot = depot_with(rt.alloc(), CONFIGURATION, [MESSAGE, IN_TIME])?;
     let mut say = MemSink::new(rt.alloc());
     say.fail(1);
-    assert_eq!(rt; exit_code(&rt, rt.alloc(), RUN, &mut depot, &mut say)?, 5);
-    assert_eq!(rt; say.bytes(), EMPTY);
-    assert_eq!(rt;
-        results(&depot),
-        [Some(CONTROL), Some(MESSAGE_SENT), Some(MESSAGE_REPORT)]
-    );
-    Ok(())
+    let wanted = Outcome {
+        code: 5,
+        said: EMPTY,
+        names: RESULTS,
+        left: [Some(CONTROL), Some(MESSAGE_SENT), Some(MESSAGE_REPORT)],
+    };
+    expect(&rt, rt.alloc(), RUN, &mut depot, &mut say, wanted)
 }
 
 #[test]
 fn a_check_that_can_not_be_read_or_said_is_a_fault(rt: HostRuntime) -> Result<(), Fail> {
     let mut say = MemSink::new(rt.alloc());
     let mut depot = MemDepot::new(rt.alloc());
-    assert_eq!(rt; exit_code(&rt, rt.alloc(), CHECK, &mut depot, &mut say)?, 4);
-    assert_eq!(rt; say.bytes(), b"read config\n".as_slice());
+    let unread = Outcome {
+        code: 4,
+        said: b"read config\n",
+        names: RESULTS,
+        left: NOTHING,
+    };
+    expect(&rt, rt.alloc(), CHECK, &mut depot, &mut say, unread)?;
     depot.set("gw.toml", CONFIGURATION.as_bytes())?;
     say.fail(1);
-    assert_eq!(rt; exit_code(&rt, rt.alloc(), CHECK, &mut depot, &mut say)?, 5);
-    Ok(())
+    let unsaid = Outcome {
+        code: 5,
+        said: b"read config\n",
+        names: RESULTS,
+        left: NOTHING,
+    };
+    expect(&rt, rt.alloc(), CHECK, &mut depot, &mut say, unsaid)
 }

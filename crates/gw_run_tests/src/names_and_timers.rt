@@ -1,6 +1,6 @@
 //! Runs of the same form with other names, files, identifiers, ticks and timers.
 
-use crate::base::{DONE, EMPTY, RUN, exit_code};
+use crate::base::{DONE, EMPTY, Outcome, RUN, expect};
 use gw_depot::{MemDepot, MemSink};
 use std::test::Fail;
 
@@ -157,6 +157,9 @@ pool 1 2 00000001
     ),
 ];
 
+/// The names of both outputs and of the report.
+const OTHER_RESULTS: [&str; 3] = ["in.sent", "body.out", "gw.report"];
+
 #[test]
 fn another_configuration_has_its_names_and_timers(rt: HostRuntime) -> Result<(), Fail> {
     for (logs, code, said, left) in OTHER_RUNS {
@@ -166,17 +169,13 @@ fn another_configuration_has_its_names_and_timers(rt: HostRuntime) -> Result<(),
         depot.set("in.log", source)?;
         depot.set("body.log", destination)?;
         let mut say = MemSink::new(rt.alloc());
-        assert_eq!(rt;
-            exit_code(&rt, rt.alloc(), RUN, &mut depot, &mut say)?,
-            code
-        );
-        assert_eq!(rt; say.bytes(), said);
-        let found = [
-            depot.contents("in.sent"),
-            depot.contents("body.out"),
-            depot.contents("gw.report"),
-        ];
-        assert_eq!(rt; found, left);
+        let wanted = Outcome {
+            code,
+            said,
+            names: OTHER_RESULTS,
+            left,
+        };
+        expect(&rt, rt.alloc(), RUN, &mut depot, &mut say, wanted)?;
     }
     Ok(())
 }

@@ -1,11 +1,13 @@
 //! Commands that are refused: by their words, their configuration, a line of a log or a limit.
 
 use crate::base::{
-    AS_IT_IS, BAD, CONFIGURATION, Change, EMPTY, RUN, SAME_ADDRESS, SHORT, changed, depot_with,
-    exit_code, results,
+    AS_IT_IS, BAD, CONFIGURATION, Change, EMPTY, NOTHING, Outcome, RESULTS, RUN, SAME_ADDRESS,
+    SHORT, changed, depot_with, expect,
 };
 use gw_depot::MemSink;
+use std::alloc::Global;
 use std::test::Fail;
+use std::thread::Threads;
 
 /// Words that ask for no command.
 const SHAPELESS: [&[&str]; 11] = [
@@ -31,13 +33,13 @@ fn words_without_a_shape_ask_for_nothing(rt: HostRuntime) -> Result<(), Fail> {
     for words in SHAPELESS {
         let mut depot = depot_with(rt.alloc(), CONFIGURATION, [SHORT, EMPTY])?;
         let mut say = MemSink::new(rt.alloc());
-        assert_eq!(rt;
-            exit_code(&rt, rt.alloc(), words, &mut depot, &mut say)?,
-            1,
-            "{words:?}"
-        );
-        assert_eq!(rt; say.bytes(), USAGE, "{words:?}");
-        assert_eq!(rt; results(&depot), [None, None, None], "{words:?}");
+        let wanted = Outcome {
+            code: 1,
+            said: USAGE,
+            names: RESULTS,
+            left: NOTHING,
+        };
+        expect(&rt, rt.alloc(), words, &mut depot, &mut say, wanted)?;
     }
     Ok(())
 }
@@ -50,7 +52,9 @@ const FIRST_OF_CAN0: &[u8] = b"unbuilt log can0 line 1\n";
 const FIRST_OF_CAN1: &[u8] = b"unbuilt log can1 line 1\n";
 
 /// A change of the configuration, the report's name, the exit code, and what is said. The log of can0 is bad.
-const REFUSED_CONFIGURATIONS: [(Change, &str, u8, &[u8]); 14] = [
+type ConfigurationRow = (Change, &'static str, u8, &'static [u8]);
+
+const REFUSED_CONFIGURATIONS: [ConfigurationRow; 14] = [
     // A report that is a log or an output.
     (AS_IT_IS, "can0.log", 2, b"config bus[0].log: repeated\n"),
     (AS_IT_IS, "can0.out", 2, b"config bus[0].out: repeated\n"),
@@ -107,25 +111,38 @@ const REFUSED_CONFIGURATIONS: [(Change, &str, u8, &[u8]); 14] = [
     ),
 ];
 
+/// Fails unless the row's configuration is refused as it says.
+fn try_configuration<R: Threads + Sync>(
+    rt: &R,
+    alloc: Global,
+    row: ConfigurationRow,
+) -> Result<(), Fail> {
+    let (change, report, code, said) = row;
+    let configuration = changed(alloc, change)?;
+    let mut depot = depot_with(alloc, configuration.as_str(), [BAD, EMPTY])?;
+    let mut say = MemSink::new(alloc);
+    let words = ["run", "gw.toml", report];
+    let wanted = Outcome {
+        code,
+        said,
+        names: RESULTS,
+        left: NOTHING,
+    };
+    expect(rt, alloc, &words, &mut depot, &mut say, wanted)
+}
+
 #[test]
 fn a_refused_configuration_makes_no_output(rt: HostRuntime) -> Result<(), Fail> {
-    for (change, report, code, said) in REFUSED_CONFIGURATIONS {
-        let configuration = changed(rt.alloc(), change)?;
-        let mut depot = depot_with(rt.alloc(), configuration.as_str(), [BAD, EMPTY])?;
-        let mut say = MemSink::new(rt.alloc());
-        let words = ["run", "gw.toml", report];
-        assert_eq!(rt;
-            exit_code(&rt, rt.alloc(), &words, &mut depot, &mut say)?,
-            code
-        );
-        assert_eq!(rt; say.bytes(), said);
-        assert_eq!(rt; results(&depot), [None, None, None]);
+    for row in REFUSED_CONFIGURATIONS {
+        try_configuration(&rt, rt.alloc(), row)?;
     }
     Ok(())
 }
 
 /// A change of the configuration, the logs of can0 and can1, the exit code, and what is said.
-const REFUSED_LOGS: [(Change, [&[u8]; 2], u8, &[u8]); 17] = [
+type LogRow = (Change, [&'static [u8]; 2], u8, &'static [u8]);
+
+const REFUSED_LOGS: [LogRow; 17] = [
     // First frames of more bytes than the buffer's cells carry.
     (
         AS_IT_IS,
@@ -260,18 +277,25 @@ const REFUSED_LOGS: [(Change, [&[u8]; 2], u8, &[u8]); 17] = [
     ),
 ];
 
+/// Fails unless the row's run is refused as it says.
+fn try_log<R: Threads + Sync>(rt: &R, alloc: Global, row: LogRow) -> Result<(), Fail> {
+    let (change, logs, code, said) = row;
+    let configuration = changed(alloc, change)?;
+    let mut depot = depot_with(alloc, configuration.as_str(), logs)?;
+    let mut say = MemSink::new(alloc);
+    let wanted = Outcome {
+        code,
+        said,
+        names: RESULTS,
+        left: NOTHING,
+    };
+    expect(rt, alloc, RUN, &mut depot, &mut say, wanted)
+}
+
 #[test]
 fn a_refused_log_makes_no_output(rt: HostRuntime) -> Result<(), Fail> {
-    for (change, logs, code, said) in REFUSED_LOGS {
-        let configuration = changed(rt.alloc(), change)?;
-        let mut depot = depot_with(rt.alloc(), configuration.as_str(), logs)?;
-        let mut say = MemSink::new(rt.alloc());
-        assert_eq!(rt;
-            exit_code(&rt, rt.alloc(), RUN, &mut depot, &mut say)?,
-            code
-        );
-        assert_eq!(rt; say.bytes(), said);
-        assert_eq!(rt; results(&depot), [None, None, None]);
+    for row in REFUSED_LOGS {
+        try_log(&rt, rt.alloc(), row)?;
     }
     Ok(())
 }
@@ -293,12 +317,13 @@ fn a_long_line_is_bad(rt: HostRuntime) -> Result<(), Fail> {
         }
         let mut depot = depot_with(rt.alloc(), CONFIGURATION, [line.as_slice(), EMPTY])?;
         let mut say = MemSink::new(rt.alloc());
-        assert_eq!(rt;
-            exit_code(&rt, rt.alloc(), RUN, &mut depot, &mut say)?,
-            3,
-            "{len}"
-        );
-        assert_eq!(rt; say.bytes(), said, "{len}");
+        let wanted = Outcome {
+            code: 3,
+            said,
+            names: RESULTS,
+            left: NOTHING,
+        };
+        expect(&rt, rt.alloc(), RUN, &mut depot, &mut say, wanted)?;
     }
     Ok(())
 }
@@ -312,8 +337,12 @@ fn a_line_after_a_million_is_too_many(rt: HostRuntime) -> Result<(), Fail> {
     log.push(b'x')?;
     let mut depot = depot_with(rt.alloc(), CONFIGURATION, [log.as_slice(), EMPTY])?;
     let mut say = MemSink::new(rt.alloc());
-    assert_eq!(rt; exit_code(&rt, rt.alloc(), RUN, &mut depot, &mut say)?, 7);
-    assert_eq!(rt; say.bytes(), b"limit lines 1000001\n".as_slice());
-    assert_eq!(rt; results(&depot), [None, None, None]);
+    let wanted = Outcome {
+        code: 7,
+        said: b"limit lines 1000001\n",
+        names: RESULTS,
+        left: NOTHING,
+    };
+    expect(&rt, rt.alloc(), RUN, &mut depot, &mut say, wanted)?;
     Ok(())
 }

@@ -130,6 +130,113 @@ fn four_cells_go_through_a_buffer_of_two(rt: HostRuntime) -> Result<(), Fail> {
     Ok(())
 }
 
+/// What the parties of two paths were told: a session for three destinations, and one whose destination never joins.
+#[derive(Clone, Copy, Debug, PartialEq, Eq)]
+struct Shared {
+    /// The buffers of takes for three cells and for four.
+    taken: [BufNo; 2],
+    /// The word of a take for nine cells.
+    overflow: (u32, u32),
+    /// The room after one put, before and after the third destination left.
+    rooms: [Room; 2],
+    /// What the third destination saw and read.
+    seen: Seen,
+    read: u64,
+    /// The leaves: the third destination, the writer, the first and the second destination, the other path's writer.
+    left: [Left; 5],
+}
+
+/// Shares one cell among three destinations over any port, beside a session of another path.
+#[tactic(auto, using(hub_core::proofs::Growing::writes_kept, hub_core::proofs::Growing::reads_kept))]
+fn share_one<P: Port>(port: &mut P, cell: u64) -> Option<Shared>
+    requires takes { 2 < (P.means port.old).takes }
+    requires spare { 0 < (P.means port.old).spare }
+    requires writes { ((P.means port.old).writes 0 ≡ true) × ((P.means port.old).writes 1 ≡ true) }
+    requires first { (P.means port.old).reads 1 0 ≡ true }
+    requires second { (P.means port.old).reads 1 1 ≡ true }
+    requires third { (P.means port.old).reads 1 2 ≡ true }
+    requires most { 3 ≤ (P.means port.old).most }
+    requires sessions { ((P.view port.old).sessions 0 ≡ []) × ((P.view port.old).sessions 1 ≡ []) }
+    requires first_none { (P.view port.old).readings 1 0 ≡ [] }
+    requires second_none { (P.view port.old).readings 1 1 ≡ [] }
+    requires third_none { (P.view port.old).readings 1 2 ≡ [] }
+    requires cell { IsCell cell }
+{
+    let Take::Granted { change: _, held } = port.take(3) else {
+        return None;
+    };
+    let small = held.buf;
+    let mut writer = port.enter(held, PathNo(1), 0, 7, 3);
+    let Take::Granted { change: _, held } = port.take(4) else {
+        return None;
+    };
+    let equal = held.buf;
+    let other = port.enter(held, PathNo(0), 0, 7, 1);
+    let Take::Overflow { change, free } = port.take(9) else {
+        return None;
+    };
+    port.put(&mut writer, cell);
+    let bytes = writer.given;
+    port.publish(&mut writer, bytes);
+    let mut third = port.next(PathNo(1), DestNo(2), 0)?;
+    let seen = port.seen(&mut third);
+    if seen.cells < 1 {
+        return None;
+    }
+    let read = port.read(&mut third);
+    let before = port.room(&mut writer);
+    let third_left = port.leave(End::Read(third));
+    let after = port.room(&mut writer);
+    let writer_left = port.leave(End::Write(writer));
+    let first = port.next(PathNo(1), DestNo(0), 0)?;
+    let first_left = port.leave(End::Read(first));
+    let second = port.next(PathNo(1), DestNo(1), 0)?;
+    let second_left = port.leave(End::Read(second));
+    let other_left = port.leave(End::Write(other));
+    Some(Shared {
+        taken: [small, equal],
+        overflow: (change, free),
+        rooms: [before, after],
+        seen,
+        read,
+        left: [third_left, writer_left, first_left, second_left, other_left],
+    })
+}
+
+#[test]
+fn three_destinations_share_the_smallest_of_equal_buffers(rt: HostRuntime) -> Result<(), Fail> {
+    let mut hub = PlainHub::new(rt.alloc(), &[8, 4, 4])?;
+    let seen = Seen {
+        cells: 1,
+        bytes: 7,
+        writer: true,
+    };
+    let all = Room {
+        cells: 3,
+        readers: 3,
+    };
+    let fewer = Room {
+        cells: 3,
+        readers: 2,
+    };
+    let last = Left::Last {
+        change: 3,
+        buf: BufNo(1),
+    };
+    assert_eq!(rt;
+        share_one(&mut hub, FIRST),
+        Some(Shared {
+            taken: [BufNo(1), BufNo(2)],
+            overflow: (2, 1),
+            rooms: [all, fewer],
+            seen,
+            read: FIRST,
+            left: [Left::Others, Left::Others, Left::Others, last, Left::Others],
+        })
+    );
+    Ok(())
+}
+
 #[test]
 fn records_name_what_came_of_a_session(rt: HostRuntime) -> Result<(), Fail> {
     let taken = Move {

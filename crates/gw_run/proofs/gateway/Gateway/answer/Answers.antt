@@ -1,4 +1,5 @@
-use Rattle.std.proofs.Common.{◌≡◌, ◌++◌, ap, sym, subst, ◌∙◌, arith}
+use Rattle.std.proofs.Common.{◌≡◌, List, [], ◌++◌, refl, ap, sym, subst, ◌∙◌, arith, append-nil, inl, inr}
+use Rattle.tp_sender.specs.Runs.{Answer}
 use Rattle.tp_sender.specs.declared.event.TxEvent.TheVariants.{Fc}
 use Rattle.tp_unit.specs.Reading.{unit_of}
 use Rattle.tp_unit.specs.Unit.{Meaning, FlowControl, meaning_of}
@@ -20,3 +21,23 @@ returns-in_ok-tell_sender-in-Fc-clause-step c = λ seen answers at.
     let is : FlowControl c.in-Fc.fs c.in-Fc.bs c.in-Fc.st ≡ unit_of 0 c.args.frame.now = sym (ap meaning_of c.in-Fc.is) ∙ c.read_unit.ensures in
     let P : Meaning → Type 0 = λ m. InDestination c.tell_sender.new.self seen (answers ++ answer_in c.args.tick.0 m) c.args.tick.0 in
     subst P is (answered c.args.self.now c.tell_sender.new.self seen answers c.args.tick.0 c.in-Fc.fs c.in-Fc.bs c.in-Fc.st at c.in_ok-tell_sender-in-Fc.ensures)
+
+-- no other frame is an answer
+pub returns-in-Sf : goal.returns-in-Sf
+returns-in-Sf c = record {
+  machines = refl;
+  step = λ seen answers at.
+      let said = c.read_unit.ensures in
+      let none : [] ≡ answer_in c.args.tick.0 (unit_of 0 c.args.frame.now) = elim c.in-Sf.is [
+        | inl single ↦ ap (answer_in c.args.tick.0) (sym (ap meaning_of single.1) ∙ said)
+        | inr more ↦ elim more [
+          | inl first ↦ ap (answer_in c.args.tick.0) (sym (ap meaning_of first.2) ∙ said)
+          | inr rest ↦ elim rest [
+            | inl consecutive ↦ ap (answer_in c.args.tick.0) (sym (ap meaning_of consecutive.2) ∙ said)
+            | inr ignored ↦ ap (answer_in c.args.tick.0) (sym (ap meaning_of ignored.1) ∙ said)
+          ]
+        ]
+      ] in
+      let P : List Answer → Type 0 = λ l. InDestination c.args.self.now seen l c.args.tick.0 in
+      subst P (sym (append-nil answers) ∙ ap (λ (l : List Answer). answers ++ l) none) at;
+}

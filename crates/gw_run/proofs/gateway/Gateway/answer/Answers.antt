@@ -1,5 +1,5 @@
 use Rattle.std.proofs.Common.{◌≡◌, List, [], ◌++◌, refl, ap, sym, subst, ◌∙◌, arith, append-nil, inl, inr}
-use Rattle.tp_sender.specs.Runs.{Answer}
+use Rattle.tp_unit.specs.Box.{Answer}
 use Rattle.tp_sender.specs.declared.event.TxEvent.TheVariants.{Fc}
 use Rattle.tp_unit.specs.Reading.{unit_of}
 use Rattle.tp_unit.specs.Unit.{Meaning, FlowControl, meaning_of}

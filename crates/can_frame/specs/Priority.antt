@@ -1,7 +1,8 @@
 -- Which of two identifiers wins arbitration.
-use Rattle.std.specs.Prelude.{◌≡◌, ℕ, ◌+◌, ◌*◌, ◌/◌, ◌%◌, ◌^◌, ◌<◌, ◌⊎◌}
+use Rattle.std.specs.Prelude.{◌≡◌, ℕ, ◌+◌, ◌*◌, ◌/◌, ◌%◌, ◌^◌, ◌<◌, ◌⊎◌, Bool, true, false}
 use Rattle.can_frame.specs.declared.id.CanId.{CanId}
 use Rattle.can_frame.specs.declared.id.CanId.TheVariants.{Std, Ext}
+use Rattle.can_frame.specs.declared.arbitration.Priority.{Priority}
 
 -- the first 11 bits
 abbrev pub base_of : CanId → ℕ
@@ -18,9 +19,20 @@ abbrev pub rest_of : CanId → ℕ
 rest_of (Std number) = 0
 rest_of (Ext number) = number % 2 ^ 18
 
+-- whether it is an extended identifier
+abbrev pub is_extended : CanId → Bool
+is_extended (Std number) = false
+is_extended (Ext number) = true
+
 -- all bits in the order in which they are sent, as one number
 abbrev pub priority_of : CanId → ℕ
 priority_of id = base_of id * 2 ^ 19 + format_of id * 2 ^ 18 + rest_of id
+
+-- the priority of an identifier
+pub record IsPriority (id : CanId) (priority : Priority) : Type 0 where
+  pub base : priority.base ≡ base_of id
+  pub ext : priority.ext ≡ is_extended id
+  pub rest : priority.rest ≡ rest_of id
 
 -- a number is lower, or they are equal and what follows decides
 abbrev pub IsLower : (a b : ℕ) → Type 0 → Type 0

@@ -2,7 +2,7 @@ ghost use Rattle.std.specs.Prelude.{◌≡◌, ◌≤◌, ◌==◌, ℕ, [], ◌
 ghost use Rattle.tx_mailbox.specs.Boxes.{leaves_before, Pending};
 
 use arrayvec::ArrayVec;
-use can_frame::Frame;
+use can_frame::{Frame, priority};
 use std::marker::Model;
 
 /// Two boxes for each of 64 channels, one for each of 32 interface paths, and one for each of 16 destinations of a
@@ -91,7 +91,7 @@ impl Boxes {
 fn is_before(first: &(u8, Frame), second: &(u8, Frame)) -> bool
     ensures { result ≡ leaves_before first.now second.now }
 {
-    let (mine, theirs) = (first.1.priority(), second.1.priority());
+    let (mine, theirs) = (priority(&first.1), priority(&second.1));
     mine < theirs || (mine == theirs && first.0 < second.0)
 }
 

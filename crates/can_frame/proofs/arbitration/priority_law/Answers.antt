@@ -1,5 +1,5 @@
 use Rattle.can_frame.proofs.Priorities.{order_of_parts}
-use Rattle.can_frame.proofs.priority.priority_law.Goals as goal
+use Rattle.can_frame.proofs.arbitration.priority_law.Goals as goal
 
 pub returns : goal.returns
 returns c = order_of_parts

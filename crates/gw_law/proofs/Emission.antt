@@ -1,5 +1,5 @@
 -- What the buses write in each tick, in every run.
-use Rattle.std.proofs.Common.{◌≡◌, ℕ, ◌+◌, ◌≤◌, List, length, arith}
+use Rattle.std.proofs.Common.{ℕ, ◌+◌, ◌≤◌, List, length, arith}
 use Rattle.tp_unit.specs.Box.{Written, left_in}
 use Rattle.tp_sender.specs.Runs.{left_by}
 use Rattle.tp_receiver.specs.Runs.{controls_by}
@@ -7,10 +7,10 @@ use Rattle.gw_law.specs.Emission.{BusLaw, EmissionLaw}
 use Rattle.gw_law.specs.Run.{moments_of, turns_of}
 use Rattle.tp_unit.proofs.Rises.{Rise, all-by, at-most-once, never-fall}
 use Rattle.sender_law.proofs.DataFrames.{are-data}
-use Rattle.receiver_law.proofs.RxWritten.{are-controls}
-use Rattle.gw_law.proofs.WholeRun.{WholeRun, route, works_of}
-use Rattle.gw_law.proofs.RxOfRun.{controls-of-run}
-use Rattle.gw_law.proofs.TxOfRun.{frames-of-run}
+use Rattle.receiver_law.proofs.runs.RxWritten.{are-controls}
+use Rattle.gw_law.proofs.runs.WholeRun.{WholeRun, route, works_of}
+use Rattle.gw_law.proofs.runs.RxOfRun.{controls-of-run}
+use Rattle.gw_law.proofs.runs.TxOfRun.{frames-of-run}
 
 emits : (budget from end : ℕ) (written : List Written) → 1 ≤ budget → Rise from written end → EmissionLaw budget written
 emits budget from end written some rise = record {

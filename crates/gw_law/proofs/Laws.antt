@@ -4,14 +4,14 @@ use Rattle.gw_law.specs.Lawful.{Lawful}
 use Rattle.gw_law.specs.Small.{IsSmall}
 use Rattle.gw_law.specs.Run.{HasLawfulLimits, IsRun, Work, route_of}
 use Rattle.gw_law.proofs.Emission.{bus_law_of}
-use Rattle.gw_law.proofs.JointCauses.{joint_causes}
-use Rattle.gw_law.proofs.PoolRuns.{pool_of}
+use Rattle.gw_law.proofs.causes.JointCauses.{joint_causes}
+use Rattle.gw_law.proofs.pools.PoolRuns.{pool_of}
 use Rattle.gw_law.proofs.Records.{records_law_of}
-use Rattle.gw_law.proofs.RxOfRun.{flow_controls_of, receptions_of}
-use Rattle.gw_law.proofs.Timely.{timely}
-use Rattle.gw_law.proofs.TxOfRun.{causes-of-run}
-use Rattle.gw_law.proofs.Wholes.{route-delivers, route-each, route-source}
-use Rattle.gw_law.proofs.WholeRun.{WholeRun}
+use Rattle.gw_law.proofs.runs.RxOfRun.{flow_controls_of, receptions_of}
+use Rattle.gw_law.proofs.times.Timely.{timely}
+use Rattle.gw_law.proofs.runs.TxOfRun.{causes-of-run}
+use Rattle.gw_law.proofs.runs.Wholes.{route-delivers, route-each, route-source}
+use Rattle.gw_law.proofs.runs.WholeRun.{WholeRun}
 use Rattle.tp_receiver.specs.declared.set.RxSet.{RxSet}
 use Rattle.tp_sender.specs.declared.set.TxSet.{TxSet}
 use Rattle.tp_unit.specs.declared.shape.Shape.{Shape}

@@ -1,5 +1,5 @@
 -- Whose the records of a run are, that they lie within it, and that one follows another.
-use Rattle.std.proofs.Common.{◌≡◌, ℕ, ◌+◌, ◌≤◌, inl, inr, Option, Some, List, [], ◌∷◌, ◌++◌, length, refl, sym, ◌∙◌, subst, arith, append-nil}
+use Rattle.std.proofs.Common.{◌≡◌, ℕ, ◌+◌, ◌≤◌, Some, List, [], ◌∷◌, arith}
 use Rattle.tp_receiver.specs.Runs.{HasReceived}
 use Rattle.tp_receiver.specs.State.{RxTurn, rx_new}
 use Rattle.hub_core.specs.Turns.{state_after, records_by}
@@ -9,14 +9,14 @@ use Rattle.hub_core.specs.declared.record.SessionRecord.{SessionRecord}
 use Rattle.tp_receiver.specs.declared.set.RxSet.{RxSet}
 use Rattle.gw_law.specs.Records.{IsOfSource, RecordsLaw}
 use Rattle.gw_law.specs.Run.{Route, Work, turns_of}
-use Rattle.receiver_law.proofs.FlowControls.{IsKnown, begins-at, start-at}
-use Rattle.gw_law.proofs.RxOfRun.{known_of}
-use Rattle.gw_law.proofs.Fronts.{IsTimed, TurnIn, WorkIn, rises-below, run-rising, run-timed, turns-in}
+use Rattle.receiver_law.proofs.controls.FlowControls.{IsKnown, begins-at, start-at}
+use Rattle.gw_law.proofs.runs.RxOfRun.{known_of}
+use Rattle.gw_law.proofs.runs.Fronts.{IsTimed, TurnIn, WorkIn, rises-below, run-rising, run-timed, turns-in}
 use Rattle.tp_receiver.specs.Effects.{IsMadeNow}
 use Rattle.tp_receiver.proofs.OwnSteps.{own-step}
 use Rattle.gw_base.proofs.Lists.{all-join, all-weaker}
-use Rattle.gw_law.proofs.TxOfRun.{records-of-run}
-use Rattle.gw_law.proofs.WholeRun.{WholeRun, route, works_of}
+use Rattle.gw_law.proofs.runs.TxOfRun.{records-of-run}
+use Rattle.gw_law.proofs.runs.WholeRun.{WholeRun, route, works_of}
 
 -- the source's records, in turns up to a tick
 sessions-of : (set : RxSet) (last : ℕ) (turns : List RxTurn) → HasReceived set turns → AllByRecursion (TurnIn (λ (t : ℕ). t ≤ last)) turns → AllByRecursion (λ (told : SessionRecord). (told.chan ≡ set.chan) × (told.end.0 ≤ last)) (records_by turns)

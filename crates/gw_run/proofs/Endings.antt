@@ -2,7 +2,7 @@
 use Rattle.std.proofs.Common.{◌≡◌, ◌⊎◌, ℕ, zero, suc, true, ◌+◌, ◌-◌, ◌*◌, ◌<◌, ◌≤◌, Option, Some, None, List, [], ◌∷◌, ◌++◌, length, refl, sym, subst, ap, ◌∙◌, append-nil, length-append, arith}
 use Rattle.tp_unit.specs.Box.{Answer, Written}
 use Rattle.tp_receiver.specs.State.{Reception, RxDid, RxState, RunEnd, RxTurn}
-use Rattle.tp_receiver.specs.Table.{EndRow}
+use Rattle.tp_receiver.proofs.Made.{idle-ended}
 use Rattle.hub_core.specs.Turns.{came_by, calls_by}
 use Rattle.tp_receiver.specs.Runs.{frames_in}
 use Rattle.hub_core.specs.Floors.{AreFresh, IsFresh, floors_of}
@@ -20,7 +20,7 @@ use Rattle.tp_attempts.specs.Seen.{Seen}
 use Rattle.tp_receiver.specs.declared.set.RxSet.{RxSet}
 use Rattle.tp_sender.specs.Port.{ActsFor as ActsForSender}
 use Rattle.tp_sender.specs.State.{Transmission, TxDid, TxState, TxTurn, set_of, state_of}
-use Rattle.tp_sender.specs.Table.{NothingStands, FindsOne, TxRow}
+use Rattle.sender_law.proofs.causes.RunEnds.{none-told, sent_now, some-told}
 use Rattle.tp_sender.specs.declared.event.TxEvent.{TxEvent}
 use Rattle.tp_sender.specs.declared.event.TxEvent.TheVariants.{RunEnd}
 use Rattle.tp_sender.specs.declared.set.TxSet.{TxSet}
@@ -36,16 +36,12 @@ use Rattle.gw_run.proofs.Beginning.{idle-or, stands-later}
 use Rattle.gw_run.proofs.RxTurns.{turn-stands}
 use Rattle.gw_run.proofs.Ticks.{stands-joint, told-same}
 use Rattle.gw_run.proofs.TxMoments.{moment-stands}
-use Rattle.sender_law.proofs.TxCausesEnd.{end-answers}
+use Rattle.sender_law.proofs.causes.TxCausesEnd.{end-answers}
 use Rattle.gw_base.proofs.Lists.{there-at}
 use Rattle.hub_core.proofs.Growing.{grows-append}
 use Rattle.std.proofs.lemmas.Option.{slice_get_within}
 
--- how many sessions are sent, and what is left for the sender at the run's end: the one that it sends, and those that it hasn't joined
-abbrev pub sent_now : Option Transmission → ℕ
-sent_now None = 0
-sent_now (Some s) = 1
-
+-- what is left for the sender at the run's end: the one that it sends, and those that it hasn't joined
 abbrev pub remaining : Gateway → ℕ
 remaining g = 2 * (length ((view_in g.hub).sessions g.sender.set.path.0) - g.sender.next) + sent_now (state_of g.sender).live
 
@@ -60,13 +56,6 @@ ends-more g h last turns moments view ends told =
       only = ((told.stepped.event_is, told.stepped.tick_is), ends.only);
       stands = subst V (sym (grows-append (calls_by ends.more) turn.did.calls view)) stands;
     }
-
--- the sender makes no record at the run's end only where no session stands
-none-told : (set : TxSet) (next : ℕ) (live : Option Transmission) (did : TxDid) (entered : ℕ → ℕ) → TxRow set next live RunEnd did → did.records ≡ [] → ((number : ℕ) (more : List Event) → did.calls ≡ Missed set.path.0 set.dest.0 number ∷ more → entered set.path.0 ≤ number) →
-    (did.new.live ≡ None) × (entered set.path.0 ≤ did.new.next)
-none-told set next (Some s) did entered row none missed = let some = row.0.records in cc
-none-told set next None did entered (NothingStands row) none missed = (row.live, omega (arith, missed next [] row.calls_are, row.next_is))
-none-told set next None did entered (FindsOne buf len more joins ends) none missed = let some = ends.records in cc
 
 missed-fresh : (hub : PlainHub) (path dest number : ℕ) (calls more : List Event) → dest ≡ 0 → AreFresh (floors_of (view_in hub)) (view_in hub) calls → calls ≡ Missed path dest number ∷ more → length ((view_in hub).sessions path) ≤ number
 missed-fresh hub path dest number calls more first fresh is =
@@ -83,8 +72,7 @@ is-over g h last first told few =
     let turn = told.turn in
     let st = told.stepped in
     let next = ap (λ (s : TxState). s.next) st.state in
-    let row : TxRow (set_of g.sender) (state_of g.sender).next (state_of g.sender).live RunEnd turn.did = (let P : TxEvent → Type 0 = λ e. TxRow (set_of g.sender) (state_of g.sender).next (state_of g.sender).live e turn.did in subst P st.event_is st.row) in
-    let out = none-told (set_of g.sender) (state_of g.sender).next (state_of g.sender).live turn.did (λ path. length ((view_in g.hub).sessions path)) row (no-more g.dests h.dests turn.did.records told.dests few)
+    let out = none-told (set_of g.sender) (state_of g.sender) turn.event turn.did (λ path. length ((view_in g.hub).sessions path)) st.event_is st.row (no-more g.dests h.dests turn.did.records told.dests few)
     (λ number more is. missed-fresh g.hub (set_of g.sender).path.0 (set_of g.sender).dest.0 number turn.did.calls more first st.fresh is) in
     let joined : length ((view_in h.hub).sessions h.sender.set.path.0) ≡ length ((view_in g.hub).sessions g.sender.set.path.0) =
     ap (λ (s : ℕ → List Session). length (s h.sender.set.path.0)) st.sessions ∙ ap (λ (x : TxSet). length ((view_in g.hub).sessions x.path.0)) st.set in
@@ -98,17 +86,11 @@ readings-most sizes count free v path dest (suc seq) joint is =
     let session = joint.streams.joined path dest seq item.0 item.1 in
     omega (arith, slice_get_within (v.sessions path) seq session.0 session.1)
 
-some-told : (set : TxSet) (next : ℕ) (live : Option Transmission) (did : TxDid) → TxRow set next live RunEnd did → (did.records ≡ [] → ⊥) → (did.new.live ≡ None) × (next ≤ did.new.next) × (2 * next + 1 ≤ 2 * did.new.next + sent_now live)
-some-told set next (Some s) did row some = (row.0.live, omega (arith, row.1), omega (arith, row.1))
-some-told set next None did (NothingStands row) some = absurd (some row.records)
-some-told set next None did (FindsOne buf len more joins ends) some = (ends.live, omega (arith, joins.next_is), omega (arith, joins.next_is))
-
 pub less-remains : (g h : Gateway) (last : ℕ) (lies : Option Meaning) (frames : List Written) → TellsSender g h RunEnd last lies frames → length g.dests < length h.dests → remaining h < remaining g
 less-remains g h last lies frames told more =
     let turn = told.turn in
     let st = told.stepped in
-    let row : TxRow (set_of g.sender) (state_of g.sender).next (state_of g.sender).live RunEnd turn.did = (let P : TxEvent → Type 0 = λ e. TxRow (set_of g.sender) (state_of g.sender).next (state_of g.sender).live e turn.did in subst P st.event_is st.row) in
-    let out = some-told (set_of g.sender) (state_of g.sender).next (state_of g.sender).live turn.did row (λ none. omega (arith, ap length told.dests, ap (λ (e : List DestRecord). length (g.dests ++ e)) none, ap length (append-nil g.dests), more)) in
+    let out = some-told (set_of g.sender) (state_of g.sender) turn.event turn.did st.event_is st.row (λ none. omega (arith, ap length told.dests, ap (λ (e : List DestRecord). length (g.dests ++ e)) none, ap length (append-nil g.dests), more)) in
     let next : h.sender.next ≡ turn.did.new.next = ap (λ (s : TxState). s.next) st.state in
     let live : sent_now (state_of h.sender).live ≡ 0 = ap (λ (s : TxState). sent_now s.live) st.state ∙ ap sent_now out.0 in
     let same : length ((view_in h.hub).sessions h.sender.set.path.0) ≡ length ((view_in g.hub).sessions g.sender.set.path.0) =
@@ -116,10 +98,6 @@ less-remains g h last lies frames told more =
     let joint = is-joint h.hub in
     let most : h.sender.next ≤ length ((view_in h.hub).sessions h.sender.set.path.0) = readings-most _ joint.0 joint.1 (view_in h.hub) h.sender.set.path.0 h.sender.set.dest.0 h.sender.next joint.2 st.knows.next in
     omega (arith, next, live, same, most, out.1, out.2)
-
-end-idle : (set : RxSet) (old : RxState) (busy : Option Reception) (m : RxDid) → old.busy ≡ busy → EndRow set old busy m → m.new.busy ≡ None
-end-idle set old None m is row = ap (λ (s : RxState). s.busy) row.new ∙ is
-end-idle set old (Some busy) m is row = ap (λ (s : RxState). s.busy) row.new
 
 same-route : (m : Machines) (last count free : ℕ) (seen : List Seen) (answers : List Answer) (controls frames : List Written) (sessions : List SessionRecord) (dests : List DestRecord) (moves : List Move) (told : Told) (seen_told : List Seen) (answers_told : List Answer) →
     seen ≡ seen_told → answers ≡ answers_told → told.controls ≡ controls → told.frames ≡ frames → told.report.sessions ≡ sessions → told.report.dests ≡ dests → told.report.moves ≡ moves → told.report.pool.changes ≡ count → told.report.pool.free ≡ free →
@@ -178,7 +156,7 @@ finishes g k h clock last seen answers next told in_time quiet at first ends ove
           receives = (refl, first.stepped.tick_is, refl);
           between = stands-joint k last _ _ _ stands;
           sends = out.only;
-          idle = record { receiver = end-idle _ _ _ first.did refl first.stepped.row; sender = sym (ap (λ (s : TxState). s.live) tx.state) ∙ over.live };
+          idle = record { receiver = idle-ended _ _ first.did first.stepped.row; sender = sym (ap (λ (s : TxState). s.live) tx.state) ∙ over.live };
           joined = omega (arith, over.joined, count, number);
         };
         received = rx.happened;

@@ -8,7 +8,7 @@ use Rattle.std.proofs.lemmas.List.Elements.{All-from_recursion, All-head, All-ta
 use Rattle.can_frame.specs.Frame.{CanFrame}
 use Rattle.can_frame.specs.declared.id.CanId.{CanId}
 use Rattle.gw_law.proofs.Laws.{laws}
-use Rattle.receiver_law.proofs.ShortStarts.{short-start}
+use Rattle.receiver_law.proofs.causes.ShortStarts.{short-start}
 use Rattle.gw_law.specs.Lawful.{Lawful}
 use Rattle.receiver_law.specs.ReceptionCauses.{IsShortStart}
 use Rattle.gw_law.specs.Small.{IsSmall}

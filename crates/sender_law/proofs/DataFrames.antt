@@ -1,5 +1,5 @@
 -- Which frames leave from a sender's box: data frames that fit the channel's shape, and no others.
-use Rattle.std.proofs.Common.{◌≡◌, ℕ, true, Option, None, Some, List, [], ◌∷◌, refl}
+use Rattle.std.proofs.Common.{ℕ, Option, None, Some, List, [], ◌∷◌, refl}
 use Rattle.std.specs.List.{AllByRecursion}
 use Rattle.hub_core.specs.Turns.{state_after}
 use Rattle.tp_unit.specs.Box.{box_then}

@@ -1,12 +1,11 @@
 -- What leaves on a sender's channel in each tick, by its parts.
-use Rattle.std.proofs.Common.{Bool, ◌≡◌, ℕ, ◌+◌, ◌≤◌, Option, None, Some, List, [], ◌∷◌, ◌++◌, refl, ap, sym, ◌∙◌, subst, arith, append-nil}
+use Rattle.std.proofs.Common.{Bool, ◌≡◌, ℕ, ◌+◌, Option, None, Some, List, [], ◌∷◌, ◌++◌, refl, ap, ◌∙◌, arith, append-nil}
 use Rattle.hub_core.specs.Turns.{Part, tick_after, turns_of}
 use Rattle.std.specs.List.{AllByRecursion}
 use Rattle.tp_sender.specs.Runs.{box_after, left_by, written_at}
 use Rattle.tp_sender.specs.State.{TxTurn}
 use Rattle.tp_sender.specs.declared.event.TxEvent.{TxEvent}
 use Rattle.tp_sender.specs.declared.event.TxEvent.TheVariants.{Turn, Fc, Left, RunEnd}
-use Rattle.tp_sender.specs.declared.set.TxSet.{TxSet}
 use Rattle.tp_unit.proofs.Rises.{Rise, all-by, at-most-once, never-fall, rise-later, rise-written}
 use Rattle.tp_unit.specs.Box.{Leaves, Nothing, Stays, Went, Written, written_of}
 use Rattle.tp_unit.specs.Unit.{Meaning}

@@ -1,5 +1,5 @@
 -- A sender's part of a tick in its turns, and that nothing lies in its box where it sends nothing.
-use Rattle.std.proofs.Common.{Bool, ◌≡◌, ℕ, Option, None, Some, List, [], ◌∷◌, ◌++◌, refl, ap, sym, ◌∙◌, subst, append_assoc}
+use Rattle.std.proofs.Common.{Bool, ◌≡◌, ℕ, Option, None, Some, List, [], ◌∷◌, ◌++◌, refl, ap, ◌∙◌, subst, append_assoc}
 use Rattle.hub_core.specs.Turns.{Part, state_after}
 use Rattle.tp_sender.specs.Runs.{HasSent, box_after, box_once}
 use Rattle.tp_sender.specs.State.{HasFrame, IsInBox, StillHasFrame, TxTurn, Transmission, tx_new}

@@ -1,5 +1,5 @@
 -- What leaves on a destination's channel in each tick, and whose its records are.
-use Rattle.std.specs.Prelude.{◌≡◌, ℕ, ◌+◌, ◌≤◌, Some, List, length, slice_get}
+use Rattle.std.specs.Prelude.{◌≡◌, ℕ, ◌+◌, ◌≤◌, Some, length, slice_get}
 use Rattle.std.specs.List.{AllByRecursion}
 use Rattle.hub_core.specs.declared.record.DestRecord.{DestRecord}
 use Rattle.tp_unit.specs.Box.{NeverFall, Written, left_in}

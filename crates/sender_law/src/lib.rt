@@ -2,10 +2,10 @@
 //! say together.
 #![tactic(auto)]
 
-mod causes;
 mod frames;
 mod transfer;
+mod transmission;
 
-pub use causes::transmission_law;
 pub use frames::emission_law;
 pub use transfer::transfer_law;
+pub use transmission::transmission_law;

@@ -1,5 +1,5 @@
-use Rattle.gw_law.proofs.Deliveries.{delivery_law_of}
-use Rattle.gw_law.proofs.OtherFrames.{others-deliver}
+use Rattle.gw_law.proofs.deliveries.Deliveries.{delivery_law_of}
+use Rattle.gw_law.proofs.deliveries.OtherFrames.{others-deliver}
 use Rattle.gw_law.specs.Delivery.{delivery_of}
 use Rattle.gw_law.proofs.delivery.delivery_law.Goals as goal
 

@@ -1,4 +1,4 @@
-use Rattle.gw_law.proofs.Pools.{named_of, pool_ends_of, pool_law_of}
+use Rattle.gw_law.proofs.pools.Pools.{named_of, pool_ends_of, pool_law_of}
 use Rattle.gw_law.proofs.pool.pool_law.Goals as goal
 
 pub returns-clause-law : goal.returns-clause-law

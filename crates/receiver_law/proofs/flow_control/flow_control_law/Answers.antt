@@ -1,4 +1,4 @@
-use Rattle.receiver_law.proofs.RxLaws.{flow_control_law_of}
+use Rattle.receiver_law.proofs.runs.RxLaws.{flow_control_law_of}
 use Rattle.receiver_law.proofs.flow_control.flow_control_law.Goals as goal
 
 pub returns : goal.returns

@@ -1,4 +1,4 @@
-use Rattle.receiver_law.proofs.RxLaws.{reception_law_of}
+use Rattle.receiver_law.proofs.runs.RxLaws.{reception_law_of}
 use Rattle.receiver_law.proofs.reception.reception_law.Goals as goal
 
 pub returns : goal.returns

@@ -1,5 +1,5 @@
-use Rattle.receiver_law.proofs.SourceLaws.{source_law_of, stored_law_of}
-use Rattle.receiver_law.proofs.RxLaws.{source_law_of_run}
+use Rattle.receiver_law.proofs.records.SourceLaws.{source_law_of, stored_law_of}
+use Rattle.receiver_law.proofs.runs.RxLaws.{source_law_of_run}
 use Rattle.receiver_law.proofs.source.source_law.Goals as goal
 
 pub returns-clause-law : goal.returns-clause-law

@@ -1,4 +1,4 @@
-use Rattle.receiver_law.proofs.Sessions.{stored_in}
+use Rattle.receiver_law.proofs.sessions.Sessions.{stored_in}
 use Rattle.receiver_law.proofs.stored.stored_law.Goals as goal
 
 pub returns : goal.returns

@@ -1,4 +1,4 @@
-use Rattle.sender_law.proofs.DestRecords.{dest_records}
+use Rattle.sender_law.proofs.records.DestRecords.{dest_records}
 use Rattle.sender_law.proofs.Emission.{emission}
 use Rattle.sender_law.proofs.frames.emission_law.Goals as goal
 

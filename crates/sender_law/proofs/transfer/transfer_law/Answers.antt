@@ -1,6 +1,6 @@
 use Rattle.sender_law.specs.Runs.{turns_in}
-use Rattle.sender_law.proofs.OtherFrames.{others-pass}
-use Rattle.sender_law.proofs.TxLaw.{law}
+use Rattle.sender_law.proofs.transfers.OtherFrames.{others-pass}
+use Rattle.sender_law.proofs.transfers.TxLaw.{law}
 use Rattle.sender_law.specs.Transfer.{transfer_of}
 use Rattle.sender_law.proofs.transfer.transfer_law.Goals as goal
 

@@ -1,0 +1,4 @@
+-- What destinations deliver of a source's messages.
+pub mod Deliveries
+pub mod EachSession
+pub mod OtherFrames

@@ -1,0 +1,14 @@
+-- The transmissions.
+pub mod OtherFrames
+pub mod TxAnswers
+pub mod TxFrames
+pub mod TxLaw
+pub mod TxLeaves
+pub mod TxLeft
+pub mod TxMoves
+pub mod TxPaces
+pub mod TxReadings
+pub mod TxStages
+pub mod TxSteps
+pub mod TxWorld
+pub mod TxWritten

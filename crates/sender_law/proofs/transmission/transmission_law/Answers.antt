@@ -1,0 +1,10 @@
+use Rattle.sender_law.proofs.transfers.OtherFrames.{others-caused}
+use Rattle.sender_law.proofs.causes.TransmissionCauses.{causes}
+use Rattle.sender_law.specs.Runs.{leg_of}
+use Rattle.sender_law.proofs.transmission.transmission_law.Goals as goal
+
+pub returns-clause-own : goal.returns-clause-own
+returns-clause-own c = λ run budget is. causes run budget is.run_is is.never is.n_bs
+
+pub returns-clause-channel : goal.returns-clause-channel
+returns-clause-channel c = λ run budget out is are. others-caused (leg_of budget run) out (causes run budget is.run_is is.never is.n_bs) are

@@ -17,7 +17,7 @@ from gateway_tools.sweep import BUILT, main
 from gateway_tools.variants import changed, place_of, text_of_tables, value_of
 
 # What a gateway says and writes of a message of nine bytes that nobody answers, where the run goes on long enough; its
-# buses have two frames and one. It refuses the configurations that the gateway does, as far as these tests ask for them.
+# buses have two frames and one. It refuses what the gateway refuses, as far as these tests ask for it.
 STAND_IN = """#!/usr/bin/python3
 import sys
 import tomllib
@@ -204,18 +204,38 @@ def test_refused(deed: Callable[[], object], said: str) -> None:
     assert said in str(refusal.value)
 
 
+# An example, a key, and for each value how sessions and destinations end, the longest ticks, and the frames that leave: the
+# sweeps of tools/README.md and docs/SIZING.md.
+OF_THE_GATEWAY = [
+    (
+        "segmented",
+        "period",
+        {
+            "500": ({"whole": 1}, {"sent": 1}, 6, {"can0": 1, "can1": 3}),
+            "1000": ({"whole": 1}, {"sent": 1}, 3, {"can0": 1, "can1": 3}),
+            "2000": ({"whole": 1}, {"bs-timeout": 1}, 1000, {"can0": 1, "can1": 1}),
+        },
+    ),
+    (
+        "no-flow-control",
+        "channel[1].n_bs",
+        {
+            "100": ({"whole": 2}, {"bs-timeout": 1, "sent": 1}, 100, {"can0": 1, "can1": 2}),
+            "1499": ({"whole": 2}, {"bs-timeout": 1, "sent": 1}, 1499, {"can0": 1, "can1": 2}),
+            "5000": ({"whole": 1, "overflow": 1}, {"run-end fc": 1}, 4504, {"can0": 1, "can1": 1}),
+        },
+    ),
+]
+FIELDS = ("sessions", "destinations", "longest_ticks", "frames")
+
+
 @pytest.mark.skipif(not (os.environ.get("GATEWAY") or BUILT.exists()), reason="no gateway is built")
-def test_gateway(capsys: pytest.CaptureFixture[str]) -> None:
-    """The gateway itself on the example no-flow-control: a first frame that is given up, and then a single frame."""
-    config = str(EXAMPLES / "no-flow-control" / "gw.toml")
-    assert main([config, "channel[1].n_bs", "100", "1499", "5000", "--json"]) == 0
-    rows = json.loads(capsys.readouterr().out)["variants"]
-    assert [(row["destinations"], row["longest_ticks"]) for row in rows] == [
-        ({"bs-timeout": 1, "sent": 1}, 100),
-        ({"bs-timeout": 1, "sent": 1}, 1499),
-        ({"run-end fc": 1}, 4504),
-    ]
-    assert [row["sessions"] for row in rows] == [{"whole": 2}, {"whole": 2}, {"whole": 1, "overflow": 1}]
+@pytest.mark.parametrize(("example", "key", "wanted"), OF_THE_GATEWAY)
+def test_gateway(example: str, key: str, wanted: dict[str, Any], capsys: pytest.CaptureFixture[str]) -> None:
+    """The gateway itself over examples."""
+    assert main([str(EXAMPLES / example / "gw.toml"), key, *wanted, "--json"]) == 0
+    found = json.loads(capsys.readouterr().out)["variants"]
+    assert [tuple(values[field] for field in FIELDS) for values in found] == list(wanted.values())
 
 
 def test_command(config: Path) -> None:

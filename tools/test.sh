@@ -3,7 +3,8 @@
 #
 # usage: tools/test.sh
 #
-# It needs nothing but packages of Debian, which it names where one isn't there. No gateway is built or run.
+# It needs nothing but packages of Debian, which it names where one isn't there. No gateway is built; one test runs the
+# gateway that GATEWAY=PROGRAM names or that is built already, and is skipped where there is none.
 set -eu
 
 tools=$(CDPATH= cd -- "$(dirname -- "$0")" && pwd)

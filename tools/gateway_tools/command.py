@@ -1,4 +1,4 @@
-"""What the three commands have in common: their words, and how they refuse."""
+"""What the commands have in common: their words, and how they refuse."""
 
 from __future__ import annotations
 

@@ -11,6 +11,7 @@ from typing import Any
 from .command import words
 from .records import Destination, Report, Session
 from .report import read_report
+from .tables import table
 
 EXAMPLE = """  tools/summary gw.report
   tools/summary --json gw.report"""
@@ -85,28 +86,6 @@ def summary(report: Report) -> dict[str, Any]:
         "interfaces": interfaces(report),
         "pools": pools(report),
     }
-
-
-def cell(value: object, name: str) -> str:
-    """A value as a table shows it; seconds with six decimals, a half tick with one."""
-    if name.endswith("_seconds"):
-        return f"{value:.6f}"
-    if isinstance(value, float) and value.is_integer():
-        return str(int(value))
-    return str(value)
-
-
-def table(rows: list[dict[str, Any]]) -> list[str]:
-    """Rows with the same keys as lines of text, numbers to the right, under their keys."""
-    head = [key.replace("_", " ") for key in rows[0]]
-    body = [[cell(value, key) for key, value in row.items()] for row in rows]
-    widths = [max(map(len, column)) for column in zip(head, *body)]
-    left = [isinstance(value, str) for value in rows[0].values()]
-    return [
-        "  ".join(text.ljust(width) if is_left else text.rjust(width) for text, width, is_left in zip(row, widths, left))
-        .rstrip()
-        for row in [head, *body]
-    ]
 
 
 def text(values: dict[str, Any]) -> str:

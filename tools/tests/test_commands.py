@@ -9,7 +9,7 @@ import pytest
 from conftest import EXAMPLES, TOOLS
 from gateway_tools.command import start
 
-COMMANDS = ["summary", "compare", "timeline"]
+COMMANDS = ["summary", "compare", "timeline", "sweep"]
 CONFIG = str(EXAMPLES / "segmented" / "gw.toml")
 REPORT = str(EXAMPLES / "segmented" / "expected" / "gw.report")
 OTHER = str(EXAMPLES / "other-names" / "bridge.toml")
@@ -26,6 +26,11 @@ REFUSED = [
     ("timeline", [OTHER, REPORT], "the report is of another configuration: give the one that `gateway run` was given"),
     ("timeline", [CONFIG], "the following arguments are required: REPORT; see timeline --help"),
     ("timeline", [CONFIG, CONFIG], "give the file that `gateway run` was told to write"),
+    ("sweep", [CONFIG, "linger"], "the following arguments are required: VALUE; see sweep --help"),
+    ("sweep", ["none.toml", "linger", "1"], "none.toml can't be read (No such file or directory): see that the file is"),
+    ("sweep", [REPORT, "linger", "1"], "see `gateway check`"),
+    ("sweep", [CONFIG, "linger=1", "1"], "`linger=1` is no key: write it as `linger` or as `channel[0].n_cr`"),
+    ("sweep", [CONFIG, "linger", "long"], "`long` is no value: write it as in the configuration, a text as '\"keep\"'"),
 ]
 
 

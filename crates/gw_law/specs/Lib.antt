@@ -1,10 +1,11 @@
 pub mod Delivery
-pub mod JointCauses
 pub mod Emission
+pub mod JointCauses
 pub mod Lawful
+pub mod Laws
 pub mod Pool
 pub mod PoolOfRoute
 pub mod Records
 pub mod Run
-pub mod Timely
 pub mod Small
+pub mod Timely

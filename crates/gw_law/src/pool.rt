@@ -1,7 +1,4 @@
-ghost use Rattle.std.specs.Prelude.{List, map, ℕ};
-ghost use Rattle.gw_law.specs.Pool.{AreAllOver, AreAllUsed, AreNamed, IsPoolRun, PoolEnds, PoolLaw, Source, channel_of};
-ghost use Rattle.hub_core.specs.View.{View};
-ghost use Rattle.hub_core.specs.declared.record.Move.{Move};
+ghost use Rattle.gw_law.specs.Laws.{PoolsEnd, PoolsReplay, TakesAreNamed};
 
 /// The law of the pool, of every whole run of receivers and the hub that they take their buffers from; the function does
 /// nothing.
@@ -11,7 +8,7 @@ ghost use Rattle.hub_core.specs.declared.record.Move.{Move};
 /// next move of each session's buffer is its free, and where each take is also a session's, the last free set has every
 /// buffer.
 pub fn pool_law()
-    ensures law { (sources : List Source) (sizes : List ℕ) (count free : ℕ) (v : View) (moves : List Move) → IsPoolRun sources sizes count free v moves → PoolLaw sizes count free (map channel_of sources) moves }
-    ensures named { (sources : List Source) (sizes : List ℕ) (count free : ℕ) (v : View) (moves : List Move) → IsPoolRun sources sizes count free v moves → AreAllUsed v → AreNamed (map channel_of sources) moves }
-    ensures ends { (sources : List Source) (sizes : List ℕ) (count free : ℕ) (v : View) (moves : List Move) → IsPoolRun sources sizes count free v moves → AreAllOver v → PoolEnds sizes free (map channel_of sources) moves }
+    ensures law { PoolsReplay }
+    ensures named { TakesAreNamed }
+    ensures ends { PoolsEnd }
 {}

@@ -10,7 +10,7 @@ use Rattle.hub_core.specs.declared.record.DestRecord.{DestRecord}
 use Rattle.hub_core.specs.declared.record.DestResult.TheVariants.{Sent}
 use Rattle.tp_attempts.specs.Attempts.{attempts_in}
 use Rattle.tp_attempts.specs.Cuts.{Cut}
-use Rattle.tp_attempts.specs.Seen.{Seen, seen_frame, len_of}
+use Rattle.tp_attempts.specs.Seen.{Seen, seen_frame, len_of, is_data}
 use Rattle.tp_attempts.specs.Walk.{Piece, walk_of, reassembled}
 use Rattle.tp_sender.specs.declared.set.TxSet.{TxSet}
 use Rattle.tp_unit.specs.Shape.{address_size}
@@ -128,3 +128,7 @@ transfer_of set moments = record {
   live = (state_after tx_new moments).live;
   now = now_of moments;
 }
+
+-- the law of all frames that left on a channel, with frames between the sender's that carry no data
+abbrev pub TransfersAmong : TxSet → List TxTurn → List Seen → Type 0
+TransfersAmong set turns frames = filter (λ (s : Seen). is_data s.meaning) frames ≡ (transfer_of set turns).frames → TransferLaw (record (transfer_of set turns) { frames = frames })

@@ -1,7 +1,7 @@
-ghost use Rattle.std.specs.Prelude.{◌≡◌, List, filter};
+ghost use Rattle.std.specs.Prelude.{List};
 ghost use Rattle.sender_law.specs.Runs.{IsTxRun, TxRun, turns_in};
-ghost use Rattle.sender_law.specs.Transfer.{TransferLaw, transfer_of};
-ghost use Rattle.tp_attempts.specs.Seen.{Seen, is_data};
+ghost use Rattle.sender_law.specs.Transfer.{TransferLaw, TransfersAmong, transfer_of};
+ghost use Rattle.tp_attempts.specs.Seen.{Seen};
 ghost use Rattle.tp_sender.specs.Runs.{HasSent};
 ghost use Rattle.tp_sender.specs.State.{TxTurn};
 ghost use Rattle.tp_sender.specs.declared.set.TxSet.{TxSet};
@@ -17,5 +17,5 @@ ghost use Rattle.tp_unit.specs.Shape.{IsShape};
 pub fn transfer_law()
     ensures run { (run : TxRun) → IsTxRun run → TransferLaw (transfer_of run.set (turns_in run)) }
     ensures own { (set : TxSet) (turns : List TxTurn) → IsShape set.shape → HasSent set turns → TransferLaw (transfer_of set turns) }
-    ensures channel { (set : TxSet) (turns : List TxTurn) (frames : List Seen) → IsShape set.shape → HasSent set turns → filter (λ (s : Seen). is_data s.meaning) frames ≡ (transfer_of set turns).frames → TransferLaw (record (transfer_of set turns) { frames = frames }) }
+    ensures channel { (set : TxSet) (turns : List TxTurn) (frames : List Seen) → IsShape set.shape → HasSent set turns → TransfersAmong set turns frames }
 {}

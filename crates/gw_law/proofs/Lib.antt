@@ -1,8 +1,9 @@
 pub mod causes
 pub mod deliveries
-pub mod Emission
+mod Dests
 pub mod Laws
 pub mod pools
-mod Records
+mod Routes
 pub mod runs
+mod Sources
 pub mod times

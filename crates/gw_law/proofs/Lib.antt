@@ -1,3 +1,4 @@
+pub mod Addressed
 pub mod causes
 pub mod deliveries
 mod Dests
@@ -5,5 +6,5 @@ pub mod Laws
 pub mod pools
 mod Routes
 pub mod runs
-mod Sources
+pub mod Sources
 pub mod times

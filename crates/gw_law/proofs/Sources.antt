@@ -34,7 +34,7 @@ use Rattle.gw_law.proofs.runs.Fronts.{TurnIn}
 use Rattle.gw_law.proofs.runs.Moments.{rx-within}
 
 -- the records, in turns up to a tick
-sessions-of : (set : RxSet) (last : ℕ) (turns : List RxTurn) → HasReceived set turns → AllByRecursion (TurnIn (λ (t : ℕ). t ≤ last)) turns → AllByRecursion (λ (told : SessionRecord). (told.chan ≡ set.chan) × (told.end.0 ≤ last)) (records_by turns)
+pub sessions-of : (set : RxSet) (last : ℕ) (turns : List RxTurn) → HasReceived set turns → AllByRecursion (TurnIn (λ (t : ℕ). t ≤ last)) turns → AllByRecursion (λ (told : SessionRecord). (told.chan ≡ set.chan) × (told.end.0 ≤ last)) (records_by turns)
 sessions-of set last [] happened all = tt
 sessions-of set last (turn ∷ earlier) happened all =
     all-join (λ (told : SessionRecord). (told.chan ≡ set.chan) × (told.end.0 ≤ last)) (records_by earlier) turn.did.records (sessions-of set last earlier happened.2 all.1)

@@ -14,7 +14,7 @@ use Rattle.hub_core.specs.View.{Event, Missed, Session, View, grows}
 use Rattle.hub_core.specs.declared.record.DestRecord.{DestRecord}
 use Rattle.hub_core.specs.declared.record.Move.{Move}
 use Rattle.hub_core.specs.declared.record.SessionRecord.{SessionRecord}
-use Rattle.gw_law.specs.Run.{IsIdle, Route, Work, moments_of, turns_of, view_of}
+use Rattle.gw_run.specs.Works.{IsIdle, RunTold, Work, moments_of, turns_of, view_of}
 use Rattle.tick_clock.specs.declared.clock.Clock.{Clock}
 use Rattle.tp_attempts.specs.Seen.{Seen}
 use Rattle.tp_receiver.specs.declared.set.RxSet.{RxSet}
@@ -25,8 +25,8 @@ use Rattle.tp_sender.specs.declared.event.TxEvent.{TxEvent}
 use Rattle.tp_sender.specs.declared.event.TxEvent.TheVariants.{RunEnd}
 use Rattle.tp_sender.specs.declared.set.TxSet.{TxSet}
 use Rattle.tp_unit.specs.Unit.{Meaning}
-use Rattle.gw_run.specs.Played.{Told}
-use Rattle.gw_run.specs.Standing.{AtBarrier, Finishes, IsQuiet, RxStands, Stands, TxStands, lying, route_with, view_in}
+use Rattle.gw_run.specs.Played.{Told, told_with}
+use Rattle.gw_run.specs.Standing.{AtBarrier, Finishes, IsQuiet, RxStands, Stands, TxStands, lying, view_in}
 use Rattle.gw_run.specs.Telling.{EndsTelling, IsOver, Tells, TellsReceiver, TellsSender, means_in}
 use Rattle.gw_run.specs.declared.gateway.Gateway.{Gateway}
 use Rattle.gw_run.specs.declared.machines.Machines.{Machines}
@@ -99,17 +99,20 @@ less-remains g h last lies frames told more =
     let most : h.sender.next ≤ length ((view_in h.hub).sessions h.sender.set.path.0) = readings-most _ joint.0 joint.1 (view_in h.hub) h.sender.set.path.0 h.sender.set.dest.0 h.sender.next joint.2 st.knows.next in
     omega (arith, next, live, same, most, out.1, out.2)
 
-same-route : (m : Machines) (last count free : ℕ) (seen : List Seen) (answers : List Answer) (controls frames : List Written) (sessions : List SessionRecord) (dests : List DestRecord) (moves : List Move) (told : Told) (seen_told : List Seen) (answers_told : List Answer) →
+same-told : (count free : ℕ) (seen : List Seen) (answers : List Answer) (controls frames : List Written) (sessions : List SessionRecord) (dests : List DestRecord) (moves : List Move) (told : Told) (seen_told : List Seen) (answers_told : List Answer) →
     seen ≡ seen_told → answers ≡ answers_told → told.controls ≡ controls → told.frames ≡ frames → told.report.sessions ≡ sessions → told.report.dests ≡ dests → told.report.moves ≡ moves → told.report.pool.changes ≡ count → told.report.pool.free ≡ free →
-    (let r : Route = record {
-      source = record { rx = m.rx; shape = m.shape; budget = BUDGET; last = last; seen = seen; controls = controls; sessions = sessions };
-      leg = record { tx = m.tx; budget = BUDGET; last = last; answers = answers; frames = frames; dests = dests };
-      sizes = BUFFER_CELLS ∷ [];
+    (let r : RunTold = record {
+      seen = seen;
+      controls = controls;
+      sessions = sessions;
+      answers = answers;
+      frames = frames;
+      dests = dests;
       moves = moves;
       count = count;
       free = free;
-    } in r) ≡ route_with m last seen_told answers_told told
-same-route m last count free seen answers controls frames sessions dests moves told seen_told answers_told a b c d e f g h i = rw (a, b, ← c, ← d, ← e, ← f, ← g, ← h, ← i) refl
+    } in r) ≡ told_with seen_told answers_told told
+same-told count free seen answers controls frames sessions dests moves told seen_told answers_told a b c d e f g h i = rw (a, b, ← c, ← d, ← e, ← f, ← g, ← h, ← i) refl
 
 -- the receiver was told of the run's end
 pub end-stands : (g k : Gateway) (last : ℕ) (seen : List Seen) (answers : List Answer) (next : ℕ) → next ≤ last + 1 → (at : AtBarrier g seen answers next) → (first : TellsReceiver g k RunEnd last (lying g.control) g.controls) →
@@ -164,7 +167,7 @@ finishes g k h clock last seen answers next told in_time quiet at first ends ove
         joint = subst J all.pool.view_is (subst S all.pool.sizes tells.joint);
         in_order = subst O all.pool.view_is tells.in_order;
       };
-      route = same-route g.machines last _ _ _ _ _ _ _ _ _ told seen answers (append-nil (came_by frames_in (turns_of works)) ∙ at.seen_is) (end-answers last out.more (moments_of works) out.only ∙ at.answers_is)
+      tells = same-told _ _ _ _ _ _ _ _ _ told seen answers (append-nil (came_by frames_in (turns_of works)) ∙ at.seen_is) (end-answers last out.more (moments_of works) out.only ∙ at.answers_is)
           (tells.controls ∙ rx.controls_are) (tells.frames ∙ tx.frames_are) (tells.sessions ∙ rx.sessions_are) (tells.dests ∙ tx.dests_are) (tells.moves ∙ all.pool.moves_are) refl refl;
       clock_is = tells.clock_is;
       buffers = tells.buffers;

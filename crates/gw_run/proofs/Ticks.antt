@@ -9,9 +9,9 @@ use Rattle.can_frame.specs.Frame.{CanFrame}
 use Rattle.hub_core.specs.Floors.{floors_of}
 use Rattle.hub_core.specs.View.{View, grows}
 use Rattle.hub_core.proofs.Hubs.{is-joint}
-use Rattle.gw_law.proofs.causes.RxLooks.{fresh-counts}
+use Rattle.gw_run.proofs.works.RxLooks.{fresh-counts}
 use Rattle.receiver_law.specs.Parts.{AreLooks, ControlLeaves, LooksCount}
-use Rattle.gw_law.specs.Run.{IsJoint, moments_of, turns_of, view_of}
+use Rattle.gw_run.specs.Works.{IsJoint, moments_of, turns_of, view_of}
 use Rattle.tp_receiver.specs.Runs.{control_after}
 use Rattle.tp_attempts.specs.Seen.{Seen, seen_frame}
 use Rattle.tp_unit.specs.Reading.{unit_of}

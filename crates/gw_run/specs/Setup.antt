@@ -17,7 +17,7 @@ use Rattle.tp_unit.specs.declared.shape.Shape.{Shape}
 use Rattle.gw_run.specs.declared.machines.Machines.{Machines}
 use Rattle.gw_run.specs.declared.setup.Side.{Side}
 use Rattle.gw_run.specs.declared.setup.Side.TheVariants.{Source, Destination}
-use Rattle.gw_run.specs.Frames.{is_same_id}
+use Rattle.gw_law.specs.Channels.{is_same_id}
 
 -- a bus of a run: its interface's name in its log, its files, and the channel on it
 pub record Bus : Type 0 where

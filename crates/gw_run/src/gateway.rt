@@ -9,7 +9,7 @@ ghost use Rattle.tp_attempts.specs.Seen.{Seen, seen_frame};
 ghost use Rattle.tp_sender.specs.declared.event.TxEvent.TheVariants.{Left, RunEnd};
 ghost use Rattle.tp_unit.specs.Reading.{unit_of};
 ghost use Rattle.gw_run.specs.Answers.{IsPlainControl};
-ghost use Rattle.gw_run.specs.Frames.{answer_in};
+ghost use Rattle.gw_law.specs.Channels.{answer_in};
 ghost use Rattle.gw_run.specs.Standing.{AtBarrier, Finishes, FitsIn, InDestination, InSource, IsQuiet, Lies, Stands, lying};
 ghost use Rattle.gw_run.specs.Telling.{CanTell, CanTellSender, EndsTelling, IsOver, LeavesControl, LeavesFrame, Tells, TellsReceiver, TellsSender};
 

@@ -3,7 +3,7 @@ ghost use Rattle.std.specs.Prelude.{◌≡◌, ◌≢◌, List, ℕ, true, Some,
 ghost use Rattle.std.specs.List.{list_all};
 ghost use Rattle.gw_config.specs.Config.{Configuration};
 ghost use Rattle.gw_config.specs.Texts.{is_name_byte};
-ghost use Rattle.gw_run.specs.Frames.{is_same_id};
+ghost use Rattle.gw_law.specs.Channels.{is_same_id};
 ghost use Rattle.gw_run.specs.Setup.{IsBaseBus, IsBaseChannel, IsBasePath, IsBuiltConfig, HasBaseNumbers, HasBaseTop, IsShortId, is_unbuilt_frame, setup_of, shape_of};
 ghost use Rattle.gw_run.specs.Setup.{Bus as BusOfRun, Setup as SetupOfRun};
 

@@ -8,7 +8,8 @@ use Rattle.hub_core.specs.Moves.{move_of}
 use Rattle.tp_receiver.specs.Runs.{HasReceived, frames_in}
 use Rattle.hub_core.specs.Turns.{calls_by, came_by, state_after, records_by}
 use Rattle.std.specs.List.{AllByRecursion}
-use Rattle.hub_core.specs.Joint.{Joint, number_of}
+use Rattle.hub_core.specs.Journal.{number_of}
+use Rattle.hub_core.specs.Joint.{Joint}
 use Rattle.hub_core.specs.View.{View, empty_view, grows}
 use Rattle.hub_core.specs.declared.record.Move.{Move}
 use Rattle.tp_receiver.specs.declared.set.RxSet.{RxSet}

@@ -6,7 +6,8 @@ use Rattle.tp_receiver.proofs.Made.{idle-ended}
 use Rattle.hub_core.specs.Turns.{came_by, calls_by}
 use Rattle.tp_receiver.specs.Runs.{frames_in}
 use Rattle.hub_core.specs.Floors.{AreFresh, IsFresh, floors_of}
-use Rattle.hub_core.specs.Joint.{AreInOrder, Joint}
+use Rattle.hub_core.specs.Journal.{AreInOrder}
+use Rattle.hub_core.specs.Joint.{Joint}
 use Rattle.gw_base.specs.declared.numbers.PathNo.{PathNo}
 use Rattle.hub_core.proofs.Hubs.{is-joint, none-missed}
 use Rattle.hub_core.specs.declared.plain.PlainHub.{PlainHub}

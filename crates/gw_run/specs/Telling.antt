@@ -11,7 +11,8 @@ use Rattle.std.specs.List.{AllByRecursion}
 use Rattle.sender_law.specs.Parts.{IsStepIn}
 use Rattle.hub_core.specs.Calls.{Means}
 use Rattle.hub_core.specs.Floors.{AreFresh, floors_of}
-use Rattle.hub_core.specs.Joint.{AreInOrder, Joint}
+use Rattle.hub_core.specs.Journal.{AreInOrder}
+use Rattle.hub_core.specs.Joint.{Joint}
 use Rattle.hub_core.specs.Plain.{hub_means}
 use Rattle.hub_core.specs.View.{View, grows}
 use Rattle.hub_core.specs.declared.plain.PlainHub.{PlainHub}

@@ -6,8 +6,9 @@ use Rattle.std.proofs.lemmas.Option.{slice_get_within}
 use Rattle.std.specs.Prelude.{if◌then◌else◌, slice_index, IsBitSet}
 use Rattle.gw_base.specs.Cell.{IsCell}
 use Rattle.gw_base.specs.Fit.{Fits, IsSmallest}
-use Rattle.hub_core.specs.Core.{HubState, opening, Step, Takes, Does, Frees, after, May, MayFree, Leads, CoreLaw}
-use Rattle.hub_core.specs.Joint.{ChangesBuf, HasLeft}
+use Rattle.hub_core.specs.Core.{Step, Takes, Does, Frees, after, May, MayFree, Leads, CoreLaw}
+use Rattle.hub_core.specs.Journal.{ChangesBuf}
+use Rattle.hub_core.specs.Joint.{HasLeft}
 use Rattle.hub_core.specs.View.{Session, Taken, Asked, Put, Joining, Closed, Parted, session_at, grow}
 use Rattle.hub_core_tests.specs.Examples.{done, two_groups, first_path, second_path, end_of_first, standing, ended, TwoPathsOverTwoGroups, Stays, one_group, two_sessions, filling, full, MistakesAreRefused}
 

@@ -1,6 +1,6 @@
 -- Lists of steps of the plain machine: two paths over two groups of buffers, and steps that mistakes would make.
 use Rattle.std.specs.Prelude.{◌≡◌, ℕ, true, List, [], ◌∷◌, None}
-use Rattle.hub_core.specs.Core.{HubState, opening, Step, Takes, Refuses, Does, Frees, after, May, Leads, AreJoint}
+use Rattle.hub_core.specs.Core.{Step, Takes, Refuses, Does, Frees, after, May, Leads, AreJoint}
 use Rattle.hub_core.specs.View.{Taken, Freed, Entered, Asked, Put, Published, Joining, Saw, Read, Closed, Parted, reading_at}
 
 -- what steps leave, where each may happen

@@ -101,7 +101,7 @@ pub record Refuses (set : RxSet) (next len tick : ℕ) (bytes : List ℕ) (told 
   pub free : ℕ
   pub need : ℕ
   pub need_is : need ≡ cells_of (length bytes)
-  pub calls_are : calls ≡ Refused number free need ∷ []
+  pub calls_are : calls ≡ Refused group number free need ∷ []
   pub told_is : told ≡ refused set next len tick number free need
 
 -- what a step in a tick comes to, over a port that did and saw these calls, by what the machine does and its state then

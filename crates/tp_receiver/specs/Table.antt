@@ -129,7 +129,7 @@ pub record Overflows (set : RxSet) (next seq len : ℕ) (bytes : List ℕ) (act 
   pub free : ℕ
   pub need : ℕ
   pub need_is : need ≡ cells_of (length bytes)
-  pub calls : m.calls ≡ Refused number free need ∷ []
+  pub calls : m.calls ≡ Refused group number free need ∷ []
   pub act_is : m.act ≡ act
   pub records : m.records ≡ refused set next len m.tick number free need ∷ []
   pub new : m.new ≡ idle (next + 1) seq

@@ -52,14 +52,14 @@ longer-changed path p seq f sessions keeps = longer-at path p (change_at seq f (
 
 longer-grow : (path : ℕ) (event : Event) (v : View) → Longer (sizes_at path v) (sizes_at path (grow event v))
 unfolding grow
-longer-grow path (Took number buf size need) v = longer-same (sizes_at path v)
-longer-grow path (Refused number free need) v = longer-same (sizes_at path v)
+longer-grow path (Took group number buf size need) v = longer-same (sizes_at path v)
+longer-grow path (Refused group number free need) v = longer-same (sizes_at path v)
 longer-grow path (Entered p seq buf number size len readers) v = longer-at path p (v.sessions p ++ session_new buf number size len readers ∷ []) v.sessions (size ∷ [], map-append (λ (s : Session). s.size) (v.sessions p) (session_new buf number size len readers ∷ []))
 longer-grow path (Asked p seq cells readers) v = longer-changed path p seq (λ s. record s { room = cells; readers = readers }) v.sessions (λ s. refl)
 longer-grow path (Put p seq cell) v = longer-changed path p seq _ v.sessions (λ s. refl)
 longer-grow path (Published p seq bytes) v = longer-changed path p seq (λ s. record s { shown = length s.cells; told = s.told + bytes }) v.sessions (λ s. refl)
 longer-grow path (Joining p dest seq buf len) v = longer-same (sizes_at path v)
-longer-grow path (Missed p dest seq) v = longer-same (sizes_at path v)
+longer-grow path (Missed group p dest seq) v = longer-same (sizes_at path v)
 longer-grow path (Saw p dest seq cells bytes writer) v = longer-same (sizes_at path v)
 longer-grow path (Read p dest seq cell) v = longer-same (sizes_at path v)
 longer-grow path (Closed p seq freed) v = longer-changed path p seq (λ s. record s { stands = false }) v.sessions (λ s. refl)

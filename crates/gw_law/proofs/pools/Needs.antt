@@ -10,7 +10,8 @@ use Rattle.std.proofs.lemmas.List.{length-map, map-append}
 use Rattle.std.proofs.lemmas.List.Elements.{All-get_or}
 use Rattle.std.proofs.lemmas.Option.{get_or_from_slice_get, slice_get_within}
 use Rattle.gw_base.specs.Fit.{NoneFits}
-use Rattle.hub_core.specs.Joint.{IsLawful, IsOverflow, Joint, number_of, replay}
+use Rattle.hub_core.specs.Journal.{IsLawful, IsOverflow, number_of, replay}
+use Rattle.hub_core.specs.Joint.{Joint}
 use Rattle.hub_core.specs.View.{View, Change, Taken, Event, Refusal}
 use Rattle.hub_core.specs.View.{Took, Refused, Entered, Asked, Put, Published, Joining, Missed, Saw, Read, Closed, Parted}
 use Rattle.hub_core.specs.declared.record.OpenedAt.{OpenedAt}
@@ -78,16 +79,16 @@ pub answered : (v : View) (calls : List Event) (attempts : List (Cut Seen)) (rec
 answered v [] [] [] outs are calls = tt
 answered v [] [] (told ∷ records) outs are calls = absurd cc
 answered v [] (attempt ∷ attempts) records outs are calls = absurd cc
-answered v (Took number buf size need ∷ calls) attempts records outs are all =
+answered v (Took group number buf size need ∷ calls) attempts records outs are all =
     answered-more v (Granted number buf) need (flat_map outcome_by calls) (flat_map need_by calls) attempts records outs are all.0 (λ cuts told o n. answered v calls cuts told o n all.1)
-answered v (Refused number free need ∷ calls) attempts records outs are all =
+answered v (Refused group number free need ∷ calls) attempts records outs are all =
     answered-more v (Denied number free need) need (flat_map outcome_by calls) (flat_map need_by calls) attempts records outs are (refl, all.0.0, all.0.1) (λ cuts told o n. answered v calls cuts told o n all.1)
 answered v (Entered path seq buf number size len readers ∷ calls) attempts records outs are all = answered v calls attempts records outs are all.1
 answered v (Asked path seq cells readers ∷ calls) attempts records outs are all = answered v calls attempts records outs are all.1
 answered v (Put path seq cell ∷ calls) attempts records outs are all = answered v calls attempts records outs are all.1
 answered v (Published path seq bytes ∷ calls) attempts records outs are all = answered v calls attempts records outs are all.1
 answered v (Joining path dest seq buf len ∷ calls) attempts records outs are all = answered v calls attempts records outs are all.1
-answered v (Missed path dest seq ∷ calls) attempts records outs are all = answered v calls attempts records outs are all.1
+answered v (Missed group path dest seq ∷ calls) attempts records outs are all = answered v calls attempts records outs are all.1
 answered v (Saw path dest seq cells bytes writer ∷ calls) attempts records outs are all = answered v calls attempts records outs are all.1
 answered v (Read path dest seq cell ∷ calls) attempts records outs are all = answered v calls attempts records outs are all.1
 answered v (Closed path seq freed ∷ calls) attempts records outs are all = answered v calls attempts records outs are all.1

@@ -8,7 +8,8 @@ use Rattle.std.specs.List.{AllByRecursion, AllZip, flat_map}
 use Rattle.std.proofs.lemmas.List.{length-map}
 use Rattle.std.proofs.lemmas.Option.{slice_get-map}
 use Rattle.gw_base.specs.declared.numbers.BufNo.{BufNo}
-use Rattle.hub_core.specs.Joint.{AreOwned, IsNextChange, Joint, number_of, numbered, replay}
+use Rattle.hub_core.specs.Journal.{IsNextChange, number_of, numbered, replay}
+use Rattle.hub_core.specs.Joint.{AreOwned, Joint}
 use Rattle.hub_core.specs.View.{View, Taken, Freed, Session, session_at}
 use Rattle.hub_core.specs.declared.record.Move.{Move}
 use Rattle.hub_core.specs.declared.record.OpenedAt.{OpenedAt}

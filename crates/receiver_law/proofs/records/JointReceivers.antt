@@ -100,7 +100,7 @@ unfolding grow
 grow-closed path seq freed v = at_one-same path _ v.sessions
 
 -- a session is opened
-grow-took : (path number buf size need : ℕ) (v : View) → (grow (Took number buf size need) v).sessions path ≡ v.sessions path
+grow-took : (path number buf size need : ℕ) (v : View) → (grow (Took group number buf size need) v).sessions path ≡ v.sessions path
 unfolding grow
 grow-took path number buf size need v = refl
 
@@ -128,7 +128,7 @@ record KnownAt (set : RxSet) (v : View) (records : List SessionRecord) (stage : 
   known : KnownBy set v records stage.state
   looked : IsLookedOf stage.state.busy stage.look (v.sessions set.path.0)
 
-grow-refused : (path number free need : ℕ) (v : View) → (grow (Refused number free need) v).sessions path ≡ v.sessions path
+grow-refused : (path number free need : ℕ) (v : View) → (grow (Refused group number free need) v).sessions path ≡ v.sessions path
 unfolding grow
 grow-refused path number free need v = refl
 

@@ -20,13 +20,13 @@ use Rattle.tp_receiver.proofs.Through.{IsThrough, step-through}
 use Rattle.hub_core.proofs.Sides.{Fill, fill-adds, fill-changes, fill-join, fill-none, fill-pushes, fill-same}
 use Rattle.receiver_law.proofs.sessions.Entries.{entry_by, writing, entries_told, entry_going, outcome_by, need_by, need_at, need_in, needs_by, IsBelow, Enters, enters-none, enters-join}
 
-fill-took : (path n number buf size need : ℕ) → Fill (writing path) n (Took number buf size need ∷ [])
+fill-took : (path n number buf size need : ℕ) → Fill (writing path) n (Took group number buf size need ∷ [])
 unfolding grow
-fill-took path n number buf size need = fill-same (writing path) n (Took number buf size need) refl (λ k. refl) (λ v. refl)
+fill-took path n number buf size need = fill-same (writing path) n (Took group number buf size need) refl (λ k. refl) (λ v. refl)
 
-fill-refused : (path n number free need : ℕ) → Fill (writing path) n (Refused number free need ∷ [])
+fill-refused : (path n number free need : ℕ) → Fill (writing path) n (Refused group number free need ∷ [])
 unfolding grow
-fill-refused path n number free need = fill-same (writing path) n (Refused number free need) refl (λ k. refl) (λ v. refl)
+fill-refused path n number free need = fill-same (writing path) n (Refused group number free need) refl (λ k. refl) (λ v. refl)
 
 fill-entered : (path n seq buf number size len readers : ℕ) → Fill (writing path) n (Entered path seq buf number size len readers ∷ [])
 unfolding grow

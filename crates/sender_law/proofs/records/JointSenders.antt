@@ -63,7 +63,7 @@ grow-joining : (path dest seq buf len : ℕ) (v : View) → (grow (Joining path 
 unfolding grow
 grow-joining path dest seq buf len v = at_two-same path dest _ v.readings
 
-grow-missed : (path dest seq : ℕ) (v : View) → (grow (Missed path dest seq) v).readings path dest ≡ v.readings path dest
+grow-missed : (path dest seq : ℕ) (v : View) → (grow (Missed group path dest seq) v).readings path dest ≡ v.readings path dest
 unfolding grow
 grow-missed path dest seq v = refl
 

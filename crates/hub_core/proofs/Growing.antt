@@ -342,3 +342,18 @@ reads-joining path dest seq buf len v w t at grown is =
       known = ap (λ (x : View). slice_get (x.readings path.0 dest.0) seq) grown ∙ ap (λ (l : List Reading). slice_get l seq) (at_two-same path.0 dest.0 (v.readings path.0 dest.0 ++ new ∷ []) v.readings) ∙ slice_get-pushed (v.readings path.0 dest.0) new seq at;
       says = record { buf = refl; len = refl; at = refl; taken = refl; within = omega arith; seen = refl; at_most = omega arith; stands = refl };
     })
+
+-- and tokens with equal fields are equal
+pub opened-is : (a b : Opened) → SameOpened a b → a ≡ b
+opened-is a b is = λ i. record {
+  path = is.path i;
+  seq = is.seq i;
+  buf = is.buf i;
+  cells = is.cells i;
+  len = is.len i;
+  put = is.put i;
+  given = is.given i;
+  told = is.told i;
+  room = is.room i;
+  readers = is.readers i;
+}

@@ -17,3 +17,8 @@ pub record Stays {Home : Type 0} (By : View → View → Type 0) (Uses : Means �
   pub means : Uses old.means new.means
   pub rise : Rise old.floors new.floors
   pub home : new.home ≡ old.home
+
+-- after calls no floor is lower, and the port is still the same one's
+pub record IsSamePort {Home : Type 0} (old new : PortState Home) : Type 0 where
+  pub rise : Rise old.floors new.floors
+  pub home : new.home ≡ old.home

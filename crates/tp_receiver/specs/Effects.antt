@@ -68,7 +68,7 @@ pub record IsRefusal (set : RxSet) (event : RxEvent) (tick : ℕ) (old : RxStage
   pub of : HasStart set event old size meaning
   pub number : ℕ
   pub free : ℕ
-  pub calls : done.calls ≡ Refused number free (cells_of (length (bytes_of meaning))) ∷ []
+  pub calls : done.calls ≡ Refused set.group.0 number free (cells_of (length (bytes_of meaning))) ∷ []
   pub act : done.act ≡ refusal_act meaning
   pub records : done.records ≡ refused set old.state.next (len_of meaning) tick number free (cells_of (length (bytes_of meaning))) ∷ []
   pub new : done.new ≡ at_stage (idle (old.state.next + 1) old.state.seq) None true

@@ -9,6 +9,7 @@ use Rattle.std.specs.List.{AllByRecursion, AllZip}
 use Rattle.gw_base.specs.Fit.{IsSmallest, NoneFits}
 use Rattle.gw_base.specs.declared.numbers.BufNo.{BufNo}
 use Rattle.hub_core.specs.Journal.{number_of, numbered}
+use Rattle.hub_core.specs.Groups.{IsWordOf}
 use Rattle.hub_core.specs.Joint.{Joint, IsOver}
 use Rattle.hub_core.specs.View.{View, Event, Session, Taken, empty_view, grows, session_at}
 use Rattle.hub_core.specs.View.{Took, Refused, Entered, Asked, Put, Published, Joining, Missed, Saw, Read, Closed, Parted}
@@ -171,7 +172,8 @@ pub record IsWholeRun (v : View) (source : Source) : Type 0 where
 
 -- whole runs of the receivers of all paths that have sessions, each of a path of its own, and the changes of their hub in order
 pub record IsPoolRun (sources : List Source) (sizes : List ℕ) (count free : ℕ) (v : View) (moves : List Move) : Type 0 where
-  pub joint : Joint sizes count free v
+  pub joint : Joint (sizes ∷ []) v
+  pub word : IsWordOf (sizes ∷ []) 0 v count free
   pub moves_are : moves ≡ map move_of v.changes
   pub in_order : CountsFrom 1 (map number_of v.changes)
   pub runs : AllByRecursion (IsWholeRun v) sources

@@ -9,6 +9,7 @@ use Rattle.tp_receiver.specs.Runs.{HasReceived, frames_in}
 use Rattle.hub_core.specs.Turns.{calls_by, came_by, state_after, records_by}
 use Rattle.std.specs.List.{AllByRecursion}
 use Rattle.hub_core.specs.Journal.{number_of}
+use Rattle.hub_core.specs.Groups.{IsWordOf}
 use Rattle.hub_core.specs.Joint.{Joint}
 use Rattle.hub_core.specs.View.{View, empty_view, grows}
 use Rattle.hub_core.specs.declared.record.Move.{Move}
@@ -53,9 +54,9 @@ abbrev pub tick_after : List Work → ℕ
 tick_after [] = 0
 tick_after (work ∷ earlier) = work.tick + 1
 
--- the hub's word and view are joint
+-- the hub's view is joint, over one group of buffers
 abbrev pub IsJoint : List ℕ → View → Type 0
-IsJoint sizes v = (count : ℕ) × (free : ℕ) × Joint sizes count free v
+IsJoint sizes v = Joint (sizes ∷ []) v
 
 -- nothing is received and nothing is sent
 pub record IsIdle (works : List Work) : Type 0 where
@@ -96,7 +97,8 @@ pub record IsRun (rx : RxSet) (tx : TxSet) (sizes : List ℕ) (last count free :
   pub ends : IsEnd sizes rx.path.0 last ticks end
   pub received : HasReceived rx (turns_of (end ∷ ticks))
   pub sent : HasSent tx (moments_of (end ∷ ticks))
-  pub joint : Joint sizes count free (view_of (end ∷ ticks))
+  pub joint : IsJoint sizes (view_of (end ∷ ticks))
+  pub word : IsWordOf (sizes ∷ []) 0 (view_of (end ∷ ticks)) count free
   pub in_order : CountsFrom 1 (map number_of (view_of (end ∷ ticks)).changes)
 
 -- what is told of a run: its source channel and its destination's channel, the cells of the pool's buffers, the pool's moves,

@@ -8,7 +8,7 @@ mod Looks
 mod Merging
 mod Owning
 mod Places
-mod Quiet
+pub mod Quiet
 mod Rows
 mod Scans
 mod Shown

@@ -84,12 +84,12 @@ meets rx tx sizes works p k session opened told far is opened_is told_is seq =
     let left : IsLeft rx ((grows (calls_by (turns_of works)) empty_view).sessions rx.path.0) session opened = all-at _ (records_by (turns_of works)) p session known.told is opened opened_is in
     let parted : IsParted tx (has_ended (moments_of works)) _ told = all-at (IsParted tx (has_ended (moments_of works)) _) (records_by (moments_of works)) k told reads.told told_is in
     let path : tx.path.0 ≡ rx.path.0 = ap (λ p. p.0) far.path in
-    let stream = far.joint.2.streams.joined tx.path.0 tx.dest.0 told.seq parted.reading (ap (λ l. slice_get l told.seq) far.readings ∙ parted.there) in
+    let stream = far.joint.streams.joined tx.path.0 tx.dest.0 told.seq parted.reading (ap (λ l. slice_get l told.seq) far.readings ∙ parted.there) in
     let here : slice_get ((view_of works).sessions rx.path.0) opened.seq ≡ Some left.session = ap (λ l. slice_get l opened.seq) far.sessions ∙ left.there in
     let both : Some stream.0 ≡ Some left.session = sym stream.1 ∙ ap (λ n. slice_get ((view_of works).sessions tx.path.0) n) seq ∙ ap (λ p. slice_get ((view_of works).sessions p) opened.seq) path ∙ here in
     let same : stream.0 ≡ left.session = cc in
     let P : Session → Type 0 = λ s. IsStream s parted.reading in
-    streams-so tx session told.sent told.result (has_ended (moments_of works)) rx left.session parted.reading (far.joint.2.streams.written rx.path.0 opened.seq left.session here) (subst P same stream.2) left.put parted.shows
+    streams-so tx session told.sent told.result (has_ended (moments_of works)) rx left.session parted.reading (far.joint.streams.written rx.path.0 opened.seq left.session here) (subst P same stream.2) left.put parted.shows
 
 -- a frame carries no more than remains
 part-most : (shape : Shape) (len sent : ℕ) → IsShape shape → sent ≤ len → sent + part_after shape len sent ≤ len
@@ -228,7 +228,7 @@ has-dest o k session opened is opened_is =
     omega (arith, slice_get_within ((grows (calls_by (turns_of works)) empty_view).sessions o.rx.path.0) opened.seq left.session left.there, o.run.ends.joined, ap length far.sessions, reads.number) in
     let r = slice_get-get_or readings opened.seq (reading_new 0 0) inside in
     let reading = ap (λ p. slice_get ((view_of works).readings p o.tx.dest.0) opened.seq) (sym path) ∙ ap (λ l. slice_get l opened.seq) far.readings ∙ r in
-    omega (arith, far.joint.2.owned.joined o.rx.path.0 o.tx.dest.0 opened.seq left.session _ (ap (λ l. slice_get l opened.seq) far.sessions ∙ left.there) reading, left.put.dests)
+    omega (arith, far.joint.owned.joined o.rx.path.0 o.tx.dest.0 opened.seq left.session _ (ap (λ l. slice_get l opened.seq) far.sessions ∙ left.there) reading, left.put.dests)
 
 -- no destination of a session without readers sent it whole
 own-end : (tx : TxSet) (session : SessionRecord) (sent : ℕ) (how : DestResult) (ended : Bool) → Meets tx session sent how ended → (session.bytes ≡ session.len → ⊥) → IsOther how → IsOwnEnd how

@@ -87,7 +87,7 @@ source-gone rx tx sizes works k told far is ended =
     let parted : IsParted tx (has_ended (moments_of works)) _ told = all-at (IsParted tx (has_ended (moments_of works)) _) (records_by (moments_of works)) k told reads.told is in
     let P : DestResult → Type 0 = λ how. ShowsBy tx (has_ended (moments_of works)) told.sent parted.reading how in
     let gone : parted.reading.writer ≡ false = (subst P ended parted.shows).0 in
-    let stream = far.joint.2.streams.joined tx.path.0 tx.dest.0 told.seq parted.reading (ap (λ l. slice_get l told.seq) far.readings ∙ parted.there) in
+    let stream = far.joint.streams.joined tx.path.0 tx.dest.0 told.seq parted.reading (ap (λ l. slice_get l told.seq) far.readings ∙ parted.there) in
     let session : slice_get ((grows (calls_by (turns_of works)) empty_view).sessions rx.path.0) told.seq ≡ Some stream.0 =
     sym (ap (λ l. slice_get l told.seq) far.sessions) ∙ ap (λ (p : ℕ). slice_get ((view_of works).sessions p) told.seq) (sym (ap (λ p. p.0) far.path)) ∙ stream.1 in
     (known-sessions rx (turns_of works) far.received).left told.seq stream.0 session (stream.2.gone gone).0
@@ -208,7 +208,7 @@ left-here rx tx sizes earlier work k session opened far below none past is how o
     let left : IsLeft rx ((grows (calls_by (turns_of (work ∷ earlier))) empty_view).sessions rx.path.0) session opened = all-at _ (records_by (turns_of (work ∷ earlier))) k session known.told is opened opened_is in
     let path : tx.path.0 ≡ rx.path.0 = ap (λ p. p.0) far.before.path in
     let there : slice_get ((view_between earlier work).sessions rx.path.0) opened.seq ≡ Some left.session = ap (λ l. slice_get l opened.seq) far.sessions ∙ left.there in
-    let gone = far.joint.2.owned.no_readers rx.path.0 opened.seq left.session there (left.none how) tx.dest.0 (omega (arith, below, left.put.dests)) in
+    let gone = far.joint.owned.no_readers rx.path.0 opened.seq left.session there (left.none how) tx.dest.0 (omega (arith, below, left.put.dests)) in
     let reads = known-readings tx (moments_of earlier) far.before.sent in
     let reading : slice_get ((grows (calls_by (moments_of earlier)) empty_view).readings tx.path.0 tx.dest.0) opened.seq ≡ Some gone.0 =
     sym (ap (λ l. slice_get l opened.seq) far.readings) ∙ ap (λ p. slice_get ((view_between earlier work).readings p tx.dest.0) opened.seq) path ∙ gone.1 in

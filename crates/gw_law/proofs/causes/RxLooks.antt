@@ -20,6 +20,7 @@ use Rattle.receiver_law.proofs.sessions.Sessions.{AllFilled, all-filled, stored_
 use Rattle.gw_law.proofs.runs.Wholes.{OwnSessions, sessions-own}
 use Rattle.gw_base.proofs.Lists.{all-front}
 use Rattle.hub_core.proofs.Growing.{grows-append}
+use Rattle.hub_core.proofs.OneGroup.{alone}
 use Rattle.hub_core.proofs.Turns.{calls-append, happened-front}
 use Rattle.hub_core.proofs.Beside.{sessions-grown}
 use Rattle.receiver_law.proofs.sessions.Entries.{IsBelow}
@@ -153,5 +154,5 @@ all-look o one =
     let v : View = view_of (works_of o) in
     let P : List Session → Type 0 = λ sessions. AllByRecursion (λ (size : ℕ). size ≡ 4) (map (λ (s : Session). s.size) sessions) in
     let four : AreFour o.rx.path.0 (grows (calls_by (turns_of (works_of o))) empty_view) = subst P (sessions-own o.rx o.tx (works_of o) o.run.received o.run.sent) (four-all (v.sessions o.rx.path.0) (λ place s is.
-    let taken = o.run.joint.owned.taken o.rx.path.0 place s is in only-size o.sizes s.buf s.size one taken.size)) in
+    let taken = (alone o.sizes (view_of (works_of o)) o.run.joint).owned.taken o.rx.path.0 place s is in only-size o.sizes s.buf s.size one taken.size)) in
     looks-ticks o.rx o.tx o.sizes o.ticks o.run.ticks_are (happened-front _ o.end.turns (turns_of o.ticks) o.run.received) (happened-front _ o.end.moments (moments_of o.ticks) o.run.sent) (four-front o.rx o.end.turns (turns_of o.ticks) four)

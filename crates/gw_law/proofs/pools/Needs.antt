@@ -11,7 +11,7 @@ use Rattle.std.proofs.lemmas.List.Elements.{All-get_or}
 use Rattle.std.proofs.lemmas.Option.{get_or_from_slice_get, slice_get_within}
 use Rattle.gw_base.specs.Fit.{NoneFits}
 use Rattle.hub_core.specs.Journal.{IsLawful, IsOverflow, number_of, replay}
-use Rattle.hub_core.specs.Joint.{Joint}
+use Rattle.hub_core.proofs.OneGroup.{IsJointAlone}
 use Rattle.hub_core.specs.View.{View, Change, Taken, Event, Refusal}
 use Rattle.hub_core.specs.View.{Took, Refused, Entered, Asked, Put, Published, Joining, Missed, Saw, Read, Closed, Parted}
 use Rattle.hub_core.specs.declared.record.OpenedAt.{OpenedAt}
@@ -95,7 +95,7 @@ answered v (Closed path seq freed ∷ calls) attempts records outs are all = ans
 answered v (Parted path dest seq freed ∷ calls) attempts records outs are all = answered v calls attempts records outs are all.1
 
 -- what a record tells of its session's buffer, and of its overflow
-found-change : (sizes : List ℕ) (count free : ℕ) (v : View) (place : ℕ) (change : Change) → Joint sizes count free v → CountsFrom 1 (map number_of v.changes) → slice_get v.changes place ≡ Some change → IsLawful sizes (replay sizes v.changes place) change
+found-change : (sizes : List ℕ) (count free : ℕ) (v : View) (place : ℕ) (change : Change) → IsJointAlone sizes count free v → CountsFrom 1 (map number_of v.changes) → slice_get v.changes place ≡ Some change → IsLawful sizes (replay sizes v.changes place) change
 found-change sizes count free v place change joint counts there =
     let one = joint.journal.each place (omega (arith, joint.journal.count_is, slice_get_within v.changes place change there)) in
     let same : Some one.0 ≡ Some change = sym one.1 ∙ numbered-at 1 v.changes place (place + 1) change counts (omega arith) there in
@@ -103,7 +103,7 @@ found-change sizes count free v place change joint counts there =
     let P : Change → Type 0 = λ c. IsLawful sizes (replay sizes v.changes place) c in
     subst P equal one.2
 
-served : (sizes : List ℕ) (count free : ℕ) (v : View) (need : ℕ) (opened : OpenedAt) → Joint sizes count free v → CountsFrom 1 (map number_of v.changes) → AskedFor v need (Granted opened.change opened.buf.0) → IsServed sizes (map move_of v.changes) need opened
+served : (sizes : List ℕ) (count free : ℕ) (v : View) (need : ℕ) (opened : OpenedAt) → IsJointAlone sizes count free v → CountsFrom 1 (map number_of v.changes) → AskedFor v need (Granted opened.change opened.buf.0) → IsServed sizes (map move_of v.changes) need opened
 served sizes count free v need opened joint counts asked =
     let number : opened.change ≡ 1 + asked.0 = number-at 1 v.changes asked.0 (Taken opened.change opened.buf.0 need) counts asked.1 in
     record {
@@ -113,7 +113,7 @@ served sizes count free v need opened joint counts asked =
       smallest = rw (free-is sizes v.changes asked.0) (found-change sizes count free v asked.0 (Taken opened.change opened.buf.0 need) joint counts asked.1);
     }
 
-refused : (sizes : List ℕ) (count now : ℕ) (v : View) (need change free asked : ℕ) → Joint sizes count now v → AskedFor v need (Denied change free asked) → IsRefused sizes (map move_of v.changes) need change free asked
+refused : (sizes : List ℕ) (count now : ℕ) (v : View) (need change free asked : ℕ) → IsJointAlone sizes count now v → AskedFor v need (Denied change free asked) → IsRefused sizes (map move_of v.changes) need change free asked
 refused sizes count now v need change free asked joint said =
     let P : Refusal → Type 0 = IsOverflow sizes v.changes in
     let row : Refusal = record { number = change; free = free; need = asked } in
@@ -134,7 +134,7 @@ denied v need change free asked result (Some opened) is opens said = let no : tr
 granted : (v : View) (need : ℕ) (result : SessionResult) (was : Option OpenedAt) (opened : OpenedAt) → was ≡ Some opened → AskedFor v need (outcome_told result was) → AskedFor v need (Granted opened.change opened.buf.0)
 granted v need result was opened is said = let P : Option OpenedAt → Type 0 = λ o. AskedFor v need (outcome_told result o) in subst P is said
 
-pub asks : (chan address count now : ℕ) (sizes : List ℕ) (v : View) (attempt : Cut Seen) (told : SessionRecord) → Joint sizes count now v → CountsFrom 1 (map number_of v.changes) → Tells chan address attempt told → Answered v attempt told →
+pub asks : (chan address count now : ℕ) (sizes : List ℕ) (v : View) (attempt : Cut Seen) (told : SessionRecord) → IsJointAlone sizes count now v → CountsFrom 1 (map number_of v.changes) → Tells chan address attempt told → Answered v attempt told →
     Asks sizes (map move_of v.changes) attempt told
 asks chan address count now sizes v attempt told joint counts tells said = record {
   served = λ opened is. served sizes count now v (need_of attempt) opened joint counts (granted v (need_of attempt) told.result told.opened opened is said);

@@ -12,7 +12,8 @@ use Rattle.std.proofs.lemmas.Bool.{cases_eq, false_from_ne_true}
 use Rattle.std.proofs.lemmas.Bool.Decides.{eqb_tells}
 use Rattle.std.proofs.lemmas.Option.{slice_get-get_or, slice_get_within}
 use Rattle.hub_core.specs.Journal.{number_of, numbered}
-use Rattle.hub_core.specs.Joint.{HasLeft, IsOver, Joint}
+use Rattle.hub_core.specs.Joint.{HasLeft, IsOver}
+use Rattle.hub_core.proofs.OneGroup.{IsJointAlone, alone-with}
 use Rattle.hub_core.specs.View.{View, Change, Taken, Event, Session, Reading, Refusal, grow, grows, reading_at, reading_new, session_at}
 use Rattle.hub_core.specs.View.{Took, Refused, Closed, Parted}
 use Rattle.hub_core.specs.declared.record.Move.{Move}
@@ -113,7 +114,7 @@ own-path path dest dests n m v writes reads so other seq s at = elim (cases_eq o
 ]
 
 -- the session of each place is over, where none stands and each was joined by the one destination
-own-over : (sizes : List ℕ) (count free path dest n m : ℕ) (v : View) → Joint sizes count free v → Stands path dest 1 n None m None v → length (v.sessions path) ≤ m → (seq : ℕ) (s : Session) → session_at v path seq ≡ Some s → IsOver v path seq s
+own-over : (sizes : List ℕ) (count free path dest n m : ℕ) (v : View) → IsJointAlone sizes count free v → Stands path dest 1 n None m None v → length (v.sessions path) ≤ m → (seq : ℕ) (s : Session) → session_at v path seq ≡ Some s → IsOver v path seq s
 own-over sizes count free path dest n m v joint so joined seq s at =
     let left = so.written.left seq s at in
     let known : List Reading = v.readings path dest in
@@ -126,7 +127,7 @@ own-over sizes count free path dest n m v joint so joined seq s at =
       dests = λ other less. let is : dest ≡ other = omega (arith, less, below, left.0) in subst P is (r, there, false_from_ne_true r.stands (λ on. let no : None ≡ Some seq = (so.read.left seq r there).1 on in absurd cc));
     }
 
-all-over : (sizes : List ℕ) (count free path dest n m : ℕ) (v : View) → Joint sizes count free v → Stands path dest 1 n None m None v → length (v.sessions path) ≤ m → AreAllOver v
+all-over : (sizes : List ℕ) (count free path dest n m : ℕ) (v : View) → IsJointAlone sizes count free v → Stands path dest 1 n None m None v → length (v.sessions path) ≤ m → AreAllOver v
 all-over sizes count free path dest n m v joint so joined other seq s at =
     let same : other ≡ path = own-path path dest 1 n m v None None so other seq s at in
     let P : ℕ → Type 0 = λ p. IsOver v p seq s in
@@ -175,6 +176,7 @@ is-pool-run o =
     let so = after-run o in
     record {
       joint = o.run.joint;
+      word = o.run.word;
       moves_are = refl;
       in_order = o.run.in_order;
       runs = (record { received = o.run.received; idle = o.run.ends.idle.receiver; calls = calls-in works; sessions = sessions-own o.rx o.tx works o.run.received o.run.sent }, tt);
@@ -190,7 +192,7 @@ pool_of o =
     let moves : List Move = map move_of v.changes in
     let so = after-run o in
     let pool = is-pool-run o in
-    let over : AreAllOver v = all-over o.sizes o.count o.free o.rx.path.0 o.tx.dest.0 (state_after rx_new (turns_of works)).seq (state_after tx_new (moments_of works)).next v o.run.joint so o.run.ends.joined in
+    let over : AreAllOver v = all-over o.sizes o.count o.free o.rx.path.0 o.tx.dest.0 (state_after rx_new (turns_of works)).seq (state_after tx_new (moments_of works)).next v (alone-with o.sizes v o.run.joint o.count o.free o.run.word.number_is o.run.word.free_is) so o.run.ends.joined in
     let named = named_of sources o.sizes o.count o.free v moves pool (all-used o.rx.path.0 o.tx.dest.0 1 (state_after rx_new (turns_of works)).seq (state_after tx_new (moments_of works)).next v None None so) in
     let ends = pool_ends_of sources o.sizes o.count o.free v moves pool over in
     record { law = pool_law_of sources o.sizes o.count o.free v moves pool; ends = ends; named = named; whole = ends.whole named }

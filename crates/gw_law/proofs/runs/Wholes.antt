@@ -13,6 +13,7 @@ use Rattle.gw_law.specs.Delivery.{AreOfEach, AreWholeRuns, DeliveryLaw}
 use Rattle.gw_law.specs.Run.{AreTicks, IsJoint, IsRun, Work, moments_of, turns_of, view_between, view_of}
 use Rattle.receiver_law.specs.Source.{SourceLaw}
 use Rattle.gw_law.specs.Timely.{delivery_of_route}
+use Rattle.hub_core.proofs.Quiet.{empty-joint}
 use Rattle.hub_core.proofs.Beside.{readings-grown, sessions-grown}
 use Rattle.gw_law.proofs.deliveries.Deliveries.{delivery_law_of}
 use Rattle.gw_law.proofs.deliveries.EachSession.{each_session_of}
@@ -87,24 +88,7 @@ pub record AsFarWithin (rx : RxSet) (tx : TxSet) (sizes : List ℕ) (earlier : L
 
 -- an empty view is joint
 joint-empty : (sizes : List ℕ) → IsJoint sizes empty_view
-joint-empty sizes = (
-  0,
-  2 ^ length sizes - 1,
-  record {
-    journal = record { count_is = refl; free_is = refl; each = λ number below. absurd (omega (arith, below)); overflows = λ k default below. absurd (omega (arith, below)) };
-    streams = record { written = λ path seq s is. cc; joined = λ path dest seq r is. cc };
-    owned = record {
-      taken = λ path seq s is. cc;
-      own = λ path seq other_path other_seq s other is other_is same. cc;
-      unused = λ number buf need later is none changes. cc;
-      next = λ number buf need next is changes. cc;
-      kept = λ path seq later s is changes after. cc;
-      freed = λ path seq s is over. cc;
-      joined = λ path dest seq s r is r_is. cc;
-      no_readers = λ path seq s is none. cc;
-    };
-  },
-)
+joint-empty sizes = empty-joint (sizes ∷ [])
 
 joint-far : (sizes : List ℕ) (works : List Work) → AreTicks sizes works → IsJoint sizes (view_of works)
 joint-far sizes [] ticks = joint-empty sizes
@@ -160,7 +144,7 @@ as-far-within o later earlier work is =
 
 -- the whole run, and the midst of its end
 pub as-far-whole : (o : WholeRun) → AsFar o.rx o.tx o.sizes (works_of o)
-as-far-whole o = far o.rx o.tx o.sizes (works_of o) o.run.shape o.run.path o.run.received o.run.sent (o.count, o.free, o.run.joint)
+as-far-whole o = far o.rx o.tx o.sizes (works_of o) o.run.shape o.run.path o.run.received o.run.sent o.run.joint
 
 pub as-far-end : (o : WholeRun) → AsFarWithin o.rx o.tx o.sizes o.ticks o.end
 as-far-end o = within o.rx o.tx o.sizes o.ticks o.end (as-far o [] o.ticks refl) o.run.received o.run.ends.between

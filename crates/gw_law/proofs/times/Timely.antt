@@ -64,7 +64,7 @@ joined-entered rx tx sizes works far =
     let known : List Reading = (grows (calls_by moments) empty_view).readings tx.path.0 tx.dest.0 in
     let joined : length known ≡ (state_after tx_new moments).next = sym (length-map known (λ (r : Reading). r.len)) ∙ ap length read.fixed ∙ so.lens in
     let most : (state_after tx_new moments).next ≤ length (v.sessions tx.path.0) =
-    at-most tx v known (state_after tx_new moments).next far.readings joined (λ seq r is. let s = far.joint.2.streams.joined tx.path.0 tx.dest.0 seq r is in (s.0, s.1)) in
+    at-most tx v known (state_after tx_new moments).next far.readings joined (λ seq r is. let s = far.joint.streams.joined tx.path.0 tx.dest.0 seq r is in (s.0, s.1)) in
     let put = (openings rx turns far.received).fill empty_view refl in
     let entered : length (v.sessions rx.path.0) ≡ length (begins_by turns) =
     ap length far.sessions ∙ sym (length-map ((grows (calls_by turns) empty_view).sessions rx.path.0) (writing rx.path.0).fixed) ∙ ap length put.fixed ∙ sym (begins-long turns) in
@@ -113,7 +113,7 @@ read-put rx tx sizes works seq None far is =
 read-put rx tx sizes works seq (Some r) far is =
     let read = readings tx (moments_of works) far.sent empty_view refl in
     let put = (openings rx (turns_of works) far.received).fill empty_view refl in
-    let known = far.joint.2.streams.joined tx.path.0 tx.dest.0 seq r (ap (λ l. slice_get l seq) far.readings ∙ is) in
+    let known = far.joint.streams.joined tx.path.0 tx.dest.0 seq r (ap (λ l. slice_get l seq) far.readings ∙ is) in
     let s : Session = known.0 in
     let session : slice_get ((grows (calls_by (turns_of works)) empty_view).sessions rx.path.0) seq ≡ Some s =
     sym (ap (λ l. slice_get l seq) far.sessions) ∙ ap (λ (p : ℕ). slice_get ((view_of works).sessions p) seq) (sym (ap (λ p. p.0) far.path)) ∙ known.1 in

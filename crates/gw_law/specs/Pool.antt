@@ -1,5 +1,5 @@
 -- What the moves of the pool of buffers are, and what the records of the source channels say of them (this project's own).
-use Rattle.std.specs.Prelude.{◌≡◌, ℕ, ◌+◌, ◌-◌, ◌^◌, ◌<◌, ◌≤◌, ◌==◌, ◌↔◌, if◌then◌else◌, zero, suc, true, false, Option, Some, None, List, length, map, find, slice_get, IsBitSet}
+use Rattle.std.specs.Prelude.{◌≡◌, ℕ, ◌+◌, ◌-◌, ◌^◌, ◌<◌, ◌≤◌, ◌==◌, ◌↔◌, if◌then◌else◌, zero, suc, true, false, Option, Some, None, List, length, map, find, slice_get, IsBitSet, [], ◌∷◌}
 use Rattle.hub_core.specs.Moves.{move_of}
 use Rattle.tp_receiver.specs.Table.{cells_of}
 use Rattle.tp_receiver.specs.State.{RxTurn, rx_new}
@@ -141,7 +141,7 @@ pub record PoolEnds (sizes : List ℕ) (free : ℕ) (channels : List Channel) (m
 -- a take and an overflow of a call stand in a view
 abbrev pub IsIn : View → Event → Type 0
 IsIn v (Took group number buf size need) = (place : ℕ) × (slice_get v.changes place ≡ Some (Taken number buf need))
-IsIn v (Refused group number free need) = (place : ℕ) × (slice_get v.refused place ≡ Some (record { number = number; free = free; need = need }))
+IsIn v (Refused group number free need) = (place : ℕ) × (slice_get v.refused place ≡ Some (record { group = group; number = number; free = free; need = need }))
 IsIn v (Entered path seq buf number size len readers) = Unit {0}
 IsIn v (Asked path seq cells readers) = Unit {0}
 IsIn v (Put path seq cell) = Unit {0}

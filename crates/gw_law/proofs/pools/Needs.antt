@@ -55,7 +55,7 @@ needs-are functional (turn ∷ earlier) = ap (λ l. l ++ need_in functional turn
 -- what a start asked for, and what became of it, stand in the view
 abbrev AskedFor : View → ℕ → Outcome → Type 0
 AskedFor v need (Granted change buf) = (place : ℕ) × (slice_get v.changes place ≡ Some (Taken change buf need))
-AskedFor v need (Denied change free asked) = (asked ≡ need) × (place : ℕ) × (slice_get v.refused place ≡ Some (record { number = change; free = free; need = asked }))
+AskedFor v need (Denied change free asked) = (asked ≡ need) × (group place : ℕ) × (slice_get v.refused place ≡ Some (record { group = group; number = change; free = free; need = asked }))
 
 abbrev pub Answered : View → Cut Seen → SessionRecord → Type 0
 Answered v attempt told = AskedFor v (need_of attempt) (outcome_of told)
@@ -82,7 +82,7 @@ answered v [] (attempt ∷ attempts) records outs are calls = absurd cc
 answered v (Took group number buf size need ∷ calls) attempts records outs are all =
     answered-more v (Granted number buf) need (flat_map outcome_by calls) (flat_map need_by calls) attempts records outs are all.0 (λ cuts told o n. answered v calls cuts told o n all.1)
 answered v (Refused group number free need ∷ calls) attempts records outs are all =
-    answered-more v (Denied number free need) need (flat_map outcome_by calls) (flat_map need_by calls) attempts records outs are (refl, all.0.0, all.0.1) (λ cuts told o n. answered v calls cuts told o n all.1)
+    answered-more v (Denied number free need) need (flat_map outcome_by calls) (flat_map need_by calls) attempts records outs are (refl, group, all.0.0, all.0.1) (λ cuts told o n. answered v calls cuts told o n all.1)
 answered v (Entered path seq buf number size len readers ∷ calls) attempts records outs are all = answered v calls attempts records outs are all.1
 answered v (Asked path seq cells readers ∷ calls) attempts records outs are all = answered v calls attempts records outs are all.1
 answered v (Put path seq cell ∷ calls) attempts records outs are all = answered v calls attempts records outs are all.1
@@ -116,8 +116,8 @@ served sizes count free v need opened joint counts asked =
 refused : (sizes : List ℕ) (count now : ℕ) (v : View) (need change free asked : ℕ) → IsJointAlone sizes count now v → AskedFor v need (Denied change free asked) → IsRefused sizes (map move_of v.changes) need change free asked
 refused sizes count now v need change free asked joint said =
     let P : Refusal → Type 0 = IsOverflow sizes v.changes in
-    let row : Refusal = record { number = change; free = free; need = asked } in
-    let is = subst P (get_or_from_slice_get v.refused said.1 row row said.2) (All-get_or P v.refused said.1 row (slice_get_within v.refused said.1 row said.2) joint.journal.overflows) in
+    let row : Refusal = record { group = said.1; number = change; free = free; need = asked } in
+    let is = subst P (get_or_from_slice_get v.refused said.2 row row said.3) (All-get_or P v.refused said.2 row (slice_get_within v.refused said.2 row said.3) joint.journal.overflows) in
     let Q : ℕ → Type 0 = λ n. NoneFits sizes free n in
     record {
       need_is = said.0;

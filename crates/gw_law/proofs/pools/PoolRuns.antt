@@ -65,13 +65,13 @@ record Grown (old new : View) : Type 0 where
 -- a take or an overflow stays in a view
 in-stays : (old new : View) (call : Event) → Grown old new → IsIn old call → IsIn new call
 in-stays old new (Took group number buf size need) grown is = (is.0, ap (λ l. slice_get l is.0) grown.changes_are ∙ slice_get-more old.changes grown.changes is.0 (Taken number buf need) is.1)
-in-stays old new (Refused group number free need) grown is = (is.0, ap (λ l. slice_get l is.0) grown.refused_are ∙ slice_get-more old.refused grown.refused is.0 (record { number = number; free = free; need = need }) is.1)
+in-stays old new (Refused group number free need) grown is = (is.0, ap (λ l. slice_get l is.0) grown.refused_are ∙ slice_get-more old.refused grown.refused is.0 (record { group = group; number = number; free = free; need = need }) is.1)
 in-stays old new call grown is = is
 
 grown-by : (call : Event) (v : View) → Grown v (grow call v)
 unfolding grow
 grown-by (Took group number buf size need) v = record { changes = Taken number buf need ∷ []; changes_are = refl; refused = []; refused_are = sym (append-nil v.refused) }
-grown-by (Refused group number free need) v = record { changes = []; changes_are = sym (append-nil v.changes); refused = record { number = number; free = free; need = need } ∷ []; refused_are = refl }
+grown-by (Refused group number free need) v = record { changes = []; changes_are = sym (append-nil v.changes); refused = record { group = group; number = number; free = free; need = need } ∷ []; refused_are = refl }
 grown-by (Closed path seq freed) v = record { changes = freed; changes_are = refl; refused = []; refused_are = sym (append-nil v.refused) }
 grown-by (Parted path dest seq freed) v = record { changes = freed; changes_are = refl; refused = []; refused_are = sym (append-nil v.refused) }
 grown-by call v = record { changes = []; changes_are = sym (append-nil v.changes); refused = []; refused_are = sym (append-nil v.refused) }
@@ -87,7 +87,7 @@ stay-by (next ∷ calls) v call is = stay-by calls (grow next v) call (in-stays 
 in-here : (call : Event) (v : View) → IsIn (grow call v) call
 unfolding grow
 in-here (Took group number buf size need) v = (length v.changes, slice_get-pushed v.changes (Taken number buf need) (length v.changes) refl)
-in-here (Refused group number free need) v = (length v.refused, slice_get-pushed v.refused (record { number = number; free = free; need = need }) (length v.refused) refl)
+in-here (Refused group number free need) v = (length v.refused, slice_get-pushed v.refused (record { group = group; number = number; free = free; need = need }) (length v.refused) refl)
 in-here call v = tt
 
 are-in : (calls : List Event) (v : View) → AllByRecursion (IsIn (grows calls v)) calls

@@ -115,7 +115,7 @@ turn-stands g h t tick turns moments view event s by told =
       sends = subst T (sym told.rest) (sender-stays g.machines.tx t tick moments view (grows did.calls view) g.sender (lying g.frame) g.frames g.dests readings by s.sends);
       pool = record {
         view_is = grown;
-        sizes = st.sizes ∙ pool.sizes;
+        groups = st.groups ∙ pool.groups;
         takes = omega (arith, more, st.takes, pool.takes);
         moves_are = told.moves ∙ ap (λ l. l ++ moves_in did.calls) pool.moves_are ∙ sym (moves-grows did.calls view);
       };

@@ -1,5 +1,5 @@
 -- The laws of each path's source channel and one of its destinations, by both machines' runs.
-use Rattle.std.proofs.Common.{◌≡◌, ℕ, ◌≤◌, false, Some, List, length, refl, ap, sym, ◌∙◌, subst, arith}
+use Rattle.std.proofs.Common.{◌≡◌, ℕ, ◌≤◌, false, Some, List, [], ◌∷◌, length, refl, ap, sym, ◌∙◌, subst, arith}
 use Rattle.std.specs.Prelude.{slice_get}
 use Rattle.gw_base.proofs.Lists.{all-at, zip-at}
 use Rattle.hub_core.specs.Turns.{state_after}
@@ -105,7 +105,7 @@ crossing a d windows v place other r s rx tx is never rx_there tx_there rx_is tx
     let same : v.sessions tx.set.path.0 ≡ v.sessions rx.set.path.0 = ap (λ (p : PathNo). v.sessions p.0) paths in
     let pair : Pair = record {
       d = d;
-      sizes = a.plan.sizes;
+      groups = a.plan.sizes ∷ [];
       most = a.plan.window;
       some = is.plan.window;
       windows = windows;
@@ -136,7 +136,7 @@ crossing a d windows v place other r s rx tx is never rx_there tx_there rx_is tx
           path = paths;
           received = rx_is.run_is.happened;
           sent = tx_is.run_is.happened;
-          met = met a.plan.sizes a.count a.free v is.joint;
+          met = met (a.plan.sizes ∷ []) v is.joint;
           sessions = all-at (λ (run : RxRun). IsWrittenBy v run (received_in run)) d.receivers place rx is.joined.sessions rx_there;
           readings = all-at (λ (run : TxRun). IsReadBy v run (sent_in run)) d.senders other tx is.joined.readings tx_there;
         };

@@ -60,12 +60,10 @@ pub record IsJoined (d : Deeds) (received : RxRun → List RxTurn) (sent : TxRun
   pub only : AllByRecursion (IsMadeBy d received sent) v.changes
 
 -- a window has a tick at least and no more than so many; after it the hub's view is joint, and is what the machines did up to then
-pub record IsWindow (sizes : List ℕ) (most : ℕ) (d : Deeds) (w : Window) : Type 0 where
+pub record IsWindow (groups : List (List ℕ)) (most : ℕ) (d : Deeds) (w : Window) : Type 0 where
   pub some : w.from < w.to
   pub short : w.to ≤ w.from + most
-  pub count : ℕ
-  pub free : ℕ
-  pub joint : Joint sizes count free w.view
+  pub joint : Joint groups w.view
   pub joined : IsJoined d (λ run. turns_of (before w.to run.parts)) (λ run. turns_of (before w.to run.parts)) w.view
 
 -- the tick from which on no window is over yet, for windows newest first
@@ -74,9 +72,9 @@ over_at [] = 0
 over_at (w ∷ earlier) = w.to
 
 -- each window comes after the one before it
-abbrev pub AreWindows : List ℕ → (most : ℕ) → Deeds → List Window → Type 0
-AreWindows sizes most d [] = Unit {0}
-AreWindows sizes most d (w ∷ earlier) = IsWindow sizes most d w × (over_at earlier ≤ w.from) × AreWindows sizes most d earlier
+abbrev pub AreWindows : List (List ℕ) → (most : ℕ) → Deeds → List Window → Type 0
+AreWindows groups most d [] = Unit {0}
+AreWindows groups most d (w ∷ earlier) = IsWindow groups most d w × (over_at earlier ≤ w.from) × AreWindows groups most d earlier
 
 -- a tick lies in one of the windows
 abbrev pub LiesIn : List Window → (tick : ℕ) → Type 0

@@ -1,7 +1,9 @@
 -- What a run is: runs of all machines, on buses that send in order, over one hub whose view is joint after each window.
-use Rattle.std.specs.Prelude.{◌≡◌, ℕ, ◌≤◌, true, List, length, map}
+use Rattle.std.specs.Prelude.{◌≡◌, ℕ, ◌≤◌, true, List, [], ◌∷◌, length, map}
 use Rattle.std.specs.List.{AllByRecursion, AllZip}
-use Rattle.hub_core.specs.Joint.{Joint, number_of}
+use Rattle.hub_core.specs.Groups.{IsWordOf}
+use Rattle.hub_core.specs.Joint.{Joint}
+use Rattle.hub_core.specs.Journal.{number_of}
 use Rattle.hub_core.specs.Moves.{move_of}
 use Rattle.hub_core.specs.Turns.{state_after, turns_of}
 use Rattle.hub_core.specs.View.{View}
@@ -40,10 +42,11 @@ pub record IsRun (a : Account) (d : Deeds) (windows : List Window) (v : View) : 
   pub senders : AllZip (IsSenderRun a) a.plan.senders d.senders
   pub buses : (bus : ℕ) → BusLaw a bus
   pub no_others : NoOthers a
-  pub windows_are : AreWindows a.plan.sizes a.plan.window d windows
+  pub windows_are : AreWindows (a.plan.sizes ∷ []) a.plan.window d windows
   pub received_within : AllByRecursion (λ (run : RxRun). LiesWithin windows run.parts) d.receivers
   pub sent_within : AllByRecursion (λ (run : TxRun). LiesWithin windows run.parts) d.senders
-  pub joint : Joint a.plan.sizes a.count a.free v
+  pub joint : Joint (a.plan.sizes ∷ []) v
+  pub word : IsWordOf (a.plan.sizes ∷ []) 0 v a.count a.free
   pub moves : a.moves ≡ map move_of v.changes
   pub in_order : CountsFrom 1 (map number_of v.changes)
   pub joined : IsJoined d received_in sent_in v

@@ -49,6 +49,10 @@ abbrev pub FitsIn : Shape → Option Meaning → Type 0
 FitsIn shape None = Unit {0}
 FitsIn shape (Some meaning) = fits_shape shape meaning ≡ true
 
+-- the cells of the hub's buffers, which are one group
+abbrev pub groups_in : PlainHub → List (List ℕ)
+groups_in hub = hub.sizes.items ∷ []
+
 -- what the hub did and saw
 abbrev pub view_in : PlainHub → View
 view_in hub = view_after hub.past.seat.me.0.deeds
@@ -85,7 +89,7 @@ pub record TxStands (tx : TxSet) (tick : ℕ) (moments : List TxTurn) (view : Vi
 -- the pool after so many frames of the source channel: one take is used for each at most, and its moves are told
 pub record PoolStands (came : ℕ) (view : View) (hub : PlainHub) (moves : List Move) : Type 0 where
   pub view_is : view_in hub ≡ view
-  pub sizes : hub.sizes.items ≡ BUFFER_CELLS ∷ []
+  pub groups : groups_in hub ≡ (BUFFER_CELLS ∷ []) ∷ []
   pub takes : 1000000 ≤ came + hub.takes
   pub moves_are : moves ≡ map move_of view.changes
 

@@ -8,7 +8,9 @@ use Rattle.hub_core.specs.Moves.{move_of}
 use Rattle.tp_receiver.specs.Runs.{HasReceived, frames_in}
 use Rattle.hub_core.specs.Turns.{calls_by, came_by, state_after, records_by}
 use Rattle.std.specs.List.{AllByRecursion}
-use Rattle.hub_core.specs.Joint.{Joint, number_of}
+use Rattle.hub_core.specs.Groups.{IsWordOf}
+use Rattle.hub_core.specs.Joint.{Joint}
+use Rattle.hub_core.specs.Journal.{number_of}
 use Rattle.hub_core.specs.View.{View, empty_view, grows}
 use Rattle.hub_core.specs.declared.record.DestRecord.{DestRecord}
 use Rattle.hub_core.specs.declared.record.Move.{Move}
@@ -54,9 +56,9 @@ abbrev pub tick_after : List Work → ℕ
 tick_after [] = 0
 tick_after (work ∷ earlier) = work.tick + 1
 
--- the hub's word and view are joint
+-- the hub's view is joint, over one group of buffers
 abbrev pub IsJoint : List ℕ → View → Type 0
-IsJoint sizes v = (count : ℕ) × (free : ℕ) × Joint sizes count free v
+IsJoint sizes v = Joint (sizes ∷ []) v
 
 -- nothing is received and nothing is sent
 pub record IsIdle (works : List Work) : Type 0 where
@@ -97,7 +99,8 @@ pub record IsSerialRun (rx : RxSet) (tx : TxSet) (sizes : List ℕ) (last count 
   pub ends : IsEnd sizes rx.path.0 last ticks end
   pub received : HasReceived rx (turns_of (end ∷ ticks))
   pub sent : HasSent tx (moments_of (end ∷ ticks))
-  pub joint : Joint sizes count free (view_of (end ∷ ticks))
+  pub joint : IsJoint sizes (view_of (end ∷ ticks))
+  pub word : IsWordOf (sizes ∷ []) 0 (view_of (end ∷ ticks)) count free
   pub in_order : CountsFrom 1 (map number_of (view_of (end ∷ ticks)).changes)
 
 -- what is told of such a run: what came and what left on both channels, the records, the pool's moves, their number and the last free set

@@ -18,7 +18,7 @@ use crate::machines::{BUFFER_CELLS, Machines};
 use crate::notes::{note, note_all};
 use crate::played::{Played, Sent};
 use can_frame::Frame;
-use gw_base::{ListOf, Memory, Tick};
+use gw_base::{GroupNo, ListOf, Memory, Tick};
 use hub_core::PlainHub;
 use session_report::{DestLines, MoveLines, PoolLine, Report, SessionLines};
 use std::alloc::Global;
@@ -85,7 +85,7 @@ impl Gateway {
         if self.control.is_some() || self.frame.is_some() {
             return true;
         }
-        self.hub.word() % ONE_CHANGE != ALL_FREE
+        self.hub.word(GroupNo(0)) % ONE_CHANGE != ALL_FREE
     }
 
     /// A frame of the source channel came.
@@ -240,7 +240,7 @@ impl Gateway {
     fn told(self, clock: &Clock) -> Played
         ensures { Tells self clock.now result }
     {
-        let word = self.hub.word();
+        let word = self.hub.word(GroupNo(0));
         Played {
             controls: self.controls,
             frames: self.frames,

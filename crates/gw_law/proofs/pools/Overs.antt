@@ -7,7 +7,8 @@ use Rattle.std.proofs.lemmas.Bool.Decides.{eqb_tells}
 use Rattle.std.proofs.lemmas.Option.{slice_get-get_or, slice_get_within}
 use Rattle.gw_base.proofs.Lists.{all-at, mapped-at, zip-at, zip-back}
 use Rattle.hub_core.proofs.Standing.{IsUsed, Stands, takes_of}
-use Rattle.hub_core.specs.Joint.{HasLeft, IsOver, number_of, numbered}
+use Rattle.hub_core.specs.Joint.{HasLeft, IsOver}
+use Rattle.hub_core.specs.Journal.{number_of, numbered}
 use Rattle.hub_core.specs.Turns.{calls_by, state_after}
 use Rattle.hub_core.specs.View.{Change, Reading, Session, Taken, View, empty_view, reading_at, reading_new, session_at}
 use Rattle.receiver_law.proofs.runs.RxLaws.{ends-idle}

@@ -30,14 +30,14 @@ record Grown (old new : View) : Type 0 where
   refused_are : new.refused ≡ old.refused ++ refused
 
 in-stays : (old new : View) (call : Event) → Grown old new → IsIn old call → IsIn new call
-in-stays old new (Took number buf size need) grown is = (is.0, ap (λ l. slice_get l is.0) grown.changes_are ∙ slice_get-more old.changes grown.changes is.0 (Taken number buf need) is.1)
-in-stays old new (Refused number free need) grown is = (is.0, ap (λ l. slice_get l is.0) grown.refused_are ∙ slice_get-more old.refused grown.refused is.0 (record { number = number; free = free; need = need }) is.1)
+in-stays old new (Took group number buf size need) grown is = (is.0, ap (λ l. slice_get l is.0) grown.changes_are ∙ slice_get-more old.changes grown.changes is.0 (Taken number buf need) is.1)
+in-stays old new (Refused group number free need) grown is = (is.0, ap (λ l. slice_get l is.0) grown.refused_are ∙ slice_get-more old.refused grown.refused is.0 (record { group = group; number = number; free = free; need = need }) is.1)
 in-stays old new call grown is = is
 
 grown-by : (call : Event) (v : View) → Grown v (grow call v)
 unfolding grow
-grown-by (Took number buf size need) v = record { changes = Taken number buf need ∷ []; changes_are = refl; refused = []; refused_are = sym (append-nil v.refused) }
-grown-by (Refused number free need) v = record { changes = []; changes_are = sym (append-nil v.changes); refused = record { number = number; free = free; need = need } ∷ []; refused_are = refl }
+grown-by (Took group number buf size need) v = record { changes = Taken number buf need ∷ []; changes_are = refl; refused = []; refused_are = sym (append-nil v.refused) }
+grown-by (Refused group number free need) v = record { changes = []; changes_are = sym (append-nil v.changes); refused = record { group = group; number = number; free = free; need = need } ∷ []; refused_are = refl }
 grown-by (Closed path seq freed) v = record { changes = freed; changes_are = refl; refused = []; refused_are = sym (append-nil v.refused) }
 grown-by (Parted path dest seq freed) v = record { changes = freed; changes_are = refl; refused = []; refused_are = sym (append-nil v.refused) }
 grown-by call v = record { changes = []; changes_are = sym (append-nil v.changes); refused = []; refused_are = sym (append-nil v.refused) }
@@ -48,8 +48,8 @@ stay-by (next ∷ calls) v call is = stay-by calls (grow next v) call (in-stays 
 
 in-here : (call : Event) (v : View) → IsIn (grow call v) call
 unfolding grow
-in-here (Took number buf size need) v = (length v.changes, slice_get-pushed v.changes (Taken number buf need) (length v.changes) refl)
-in-here (Refused number free need) v = (length v.refused, slice_get-pushed v.refused (record { number = number; free = free; need = need }) (length v.refused) refl)
+in-here (Took group number buf size need) v = (length v.changes, slice_get-pushed v.changes (Taken number buf need) (length v.changes) refl)
+in-here (Refused group number free need) v = (length v.refused, slice_get-pushed v.refused (record { group = group; number = number; free = free; need = need }) (length v.refused) refl)
 in-here call v = tt
 
 are-in : (calls : List Event) (v : View) → AllByRecursion (IsIn (grows calls v)) calls
@@ -58,8 +58,8 @@ are-in (call ∷ calls) v = (stay-by calls (grow call v) call (in-here call v), 
 
 -- so they stand in a view in which all that they make stands
 in-made : (v : View) (calls : List Event) (call : Event) → IsMadeIn v calls → IsIn (own_view calls) call → IsIn v call
-in-made v calls (Took number buf size need) made is = all-at (StandsIn v.changes) (own_view calls).changes is.0 (Taken number buf need) made.changes is.1
-in-made v calls (Refused number free need) made is = all-at (StandsIn v.refused) (own_view calls).refused is.0 (record { number = number; free = free; need = need }) made.refused is.1
+in-made v calls (Took group number buf size need) made is = all-at (StandsIn v.changes) (own_view calls).changes is.0 (Taken number buf need) made.changes is.1
+in-made v calls (Refused group number free need) made is = all-at (StandsIn v.refused) (own_view calls).refused is.0 (record { group = group; number = number; free = free; need = need }) made.refused is.1
 in-made v calls call made is = is
 
 -- the source channels of the run
@@ -97,6 +97,7 @@ apart-of a d windows v chan other one two is at there same =
 pool-run : (a : Account) (d : Deeds) (windows : List Window) (v : View) → IsRun a d windows v → IsPoolRun (sources_of d) a.plan.sizes a.count a.free v a.moves
 pool-run a d windows v is = record {
   joint = is.joint;
+  word = is.word;
   moves_are = is.moves;
   in_order = is.in_order;
   runs = runs-of a d windows v is;

@@ -21,11 +21,11 @@ use Rattle.gw_law.proofs.runs.Parts.{rx-rising, tx-rising}
 -- a receiver and a sender of one path among the machines of a run, and the windows of the run
 pub record Pair : Type 0 where
   pub d : Deeds
-  pub sizes : List ℕ
+  pub groups : List (List ℕ)
   pub most : ℕ
   pub some : 1 ≤ most
   pub windows : List Window
-  pub are : AreWindows sizes most d windows
+  pub are : AreWindows groups most d windows
   pub rx : RxRun
   pub tx : TxRun
   pub rx_at : ℕ
@@ -62,13 +62,13 @@ sent-below p bound =
     (subst H (ap (λ l. p.tx.end ++ turns_of l) (sym so.is) ∙ ap (λ l. p.tx.end ++ l) (turns-append so.later (before bound p.tx.parts)) ∙ sym (append_assoc p.tx.end (turns_of so.later) (turns_of (before bound p.tx.parts)))) p.tx_run.happened)
 
 -- what a window's barrier holds of both
-far-at : (p : Pair) (w : Window) → IsWindow p.sizes p.most p.d w → AsFar p.rx.set p.tx.set (turns_of (before w.to p.rx.parts)) (turns_of (before w.to p.tx.parts)) w.view
+far-at : (p : Pair) (w : Window) → IsWindow p.groups p.most p.d w → AsFar p.rx.set p.tx.set (turns_of (before w.to p.rx.parts)) (turns_of (before w.to p.tx.parts)) w.view
 far-at p w is = record {
   shape = p.tx_run.shape;
   path = p.path;
   received = received-below p w.to;
   sent = sent-below p w.to;
-  met = met p.sizes is.count is.free w.view is.joint;
+  met = met p.groups w.view is.joint;
   sessions = all-at (λ (run : RxRun). IsWrittenBy w.view run (turns_of (before w.to run.parts))) p.d.receivers p.rx_at p.rx is.joined.sessions p.rx_there;
   readings = all-at (λ (run : TxRun). IsReadBy w.view run (turns_of (before w.to run.parts))) p.d.senders p.tx_at p.tx is.joined.readings p.tx_there;
 }
@@ -86,13 +86,13 @@ far-none p =
     subst R (sym (ap turns_of (before-none p.rx.parts))) (subst S (sym (ap turns_of (before-none p.tx.parts))) (record { shape = p.tx_run.shape; path = p.path; received = tt; sent = tt; met = met-empty; sessions = refl; readings = refl }))
 
 -- windows come after one another
-over-all : (p : Pair) (windows : List Window) (place : ℕ) (w : Window) → AreWindows p.sizes p.most p.d windows → slice_get windows place ≡ Some w → w.to ≤ over_at windows
+over-all : (p : Pair) (windows : List Window) (place : ℕ) (w : Window) → AreWindows p.groups p.most p.d windows → slice_get windows place ≡ Some w → w.to ≤ over_at windows
 over-all p [] place w are there = absurd cc
 over-all p (first ∷ earlier) zero w are there = let same : first ≡ w = cc in omega (arith, ap (λ (x : Window). x.to) same)
 over-all p (first ∷ earlier) (suc place) w are there = omega (arith, over-all p earlier place w are.2 there, are.1, are.0.some)
 
 -- a tick that lies in windows lies below their end, and below the newest one in an older one
-lies-below : (p : Pair) (windows : List Window) (at : ℕ) → AreWindows p.sizes p.most p.d windows → LiesIn windows at → at < over_at windows
+lies-below : (p : Pair) (windows : List Window) (at : ℕ) → AreWindows p.groups p.most p.d windows → LiesIn windows at → at < over_at windows
 lies-below p windows at are lies = omega (arith, lies.3, over-all p windows lies.1.0 lies.0 are lies.1.1)
 
 lies-earlier : (w : Window) (earlier : List Window) (at : ℕ) → at < w.from → LiesIn (w ∷ earlier) at → LiesIn earlier at
@@ -112,12 +112,12 @@ up-to-all windows tick [] lies = tt
 up-to-all windows tick (part ∷ parts) lies = (λ le. lies.0, up-to-all windows tick parts lies.1)
 
 -- so after the windows' end no part lies up to the tick
-none-since : {T : Type 0} (p : Pair) (windows : List Window) (tick at : ℕ) (parts : List (Part T)) → AreWindows p.sizes p.most p.d windows → over_at windows ≤ at → at < tick + 1 → LiesUpTo windows tick parts → InTicks (λ (t : ℕ). t ≡ at → ⊥) parts
+none-since : {T : Type 0} (p : Pair) (windows : List Window) (tick at : ℕ) (parts : List (Part T)) → AreWindows p.groups p.most p.d windows → over_at windows ≤ at → at < tick + 1 → LiesUpTo windows tick parts → InTicks (λ (t : ℕ). t ≡ at → ⊥) parts
 none-since p windows tick at [] are from to lies = tt
 none-since p windows tick at (part ∷ parts) are from to lies =
     (λ same. absurd (omega (arith, same, from, lies-below p windows part.tick are (lies.0 (omega (arith, same, to))))), none-since p windows tick at parts are from to lies.1)
 
-rests : (p : Pair) (windows : List Window) (tick : ℕ) (view : View) → AreWindows p.sizes p.most p.d windows → over_at windows ≤ tick → LiesUpTo windows tick p.rx.parts → LiesUpTo windows tick p.tx.parts →
+rests : (p : Pair) (windows : List Window) (tick : ℕ) (view : View) → AreWindows p.groups p.most p.d windows → over_at windows ≤ tick → LiesUpTo windows tick p.rx.parts → LiesUpTo windows tick p.tx.parts →
     AsFar p.rx.set p.tx.set (turns_of (before (over_at windows) p.rx.parts)) (turns_of (before (over_at windows) p.tx.parts)) view → Barrier p tick
 rests p windows tick view are over rx_lies tx_lies far =
     let rx_same : before (tick + 1) p.rx.parts ≡ before (over_at windows) p.rx.parts = same-before (over_at windows) (tick + 1) p.rx.parts (omega (arith, over)) (λ at from to. none-since p windows tick at p.rx.parts are from to rx_lies) in
@@ -130,7 +130,7 @@ pred-suc : (to : ℕ) → 0 < to → (past : ℕ) × (to ≡ past + 1)
 pred-suc zero some = absurd (omega (arith, some))
 pred-suc (suc past) some = (past, omega arith)
 
-barrier-in : (p : Pair) (windows : List Window) (tick : ℕ) → AreWindows p.sizes p.most p.d windows → LiesUpTo windows tick p.rx.parts → LiesUpTo windows tick p.tx.parts → Barrier p tick
+barrier-in : (p : Pair) (windows : List Window) (tick : ℕ) → AreWindows p.groups p.most p.d windows → LiesUpTo windows tick p.rx.parts → LiesUpTo windows tick p.tx.parts → Barrier p tick
 barrier-in p [] tick are rx_lies tx_lies = rests p [] tick empty_view tt (omega arith) rx_lies tx_lies (far-none p)
 barrier-in p (w ∷ earlier) tick are rx_lies tx_lies = elim (cases_lt tick w.to) [
   | inr over ↦ rests p (w ∷ earlier) tick w.view are over rx_lies tx_lies (far-at p w are.0)

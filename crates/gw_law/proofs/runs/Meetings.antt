@@ -18,8 +18,8 @@ pub record AreMet (v : View) : Type 0 where
   pub joined : (path dest seq : ℕ) (s : Session) (r : Reading) → session_at v path seq ≡ Some s → reading_at v path dest seq ≡ Some r → dest < s.dests
   pub no_readers : (path seq : ℕ) (s : Session) → session_at v path seq ≡ Some s → s.readers ≡ 0 → (dest : ℕ) → dest < s.dests → HasLeftWriter v path dest seq
 
-pub met : (sizes : List ℕ) (count free : ℕ) (v : View) → Joint sizes count free v → AreMet v
-met sizes count free v joint = record { streams = joint.streams; joined = joint.owned.joined; no_readers = joint.owned.no_readers }
+pub met : (groups : List (List ℕ)) (v : View) → Joint groups v → AreMet v
+met groups v joint = record { streams = joint.streams; joined = joint.owned.joined; no_readers = joint.owned.no_readers }
 
 -- nothing is done yet
 pub met-empty : AreMet empty_view

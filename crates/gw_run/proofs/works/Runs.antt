@@ -250,6 +250,7 @@ is-run p =
       received_within = (rx-lies p.plays.ticks, tt);
       sent_within = (tx-lies p.plays.ticks, tt);
       joint = o.run.joint;
+      word = o.run.word;
       moves = sym (ap (λ (r : RunTold). r.moves) p.plays.tells);
       in_order = o.run.in_order;
       joined = joined-in o received_in sent_in (works_of o) (turns-are o) (run-turns o) o.run.received o.run.sent;

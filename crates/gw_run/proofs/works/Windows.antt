@@ -88,7 +88,7 @@ joined-in o received sent works rx_is tx_is happened has_sent =
           ]) (either-of works);
     }
 
-window-is : (o : SerialRun) (later earlier : List Work) (work : Work) → later ++ work ∷ earlier ≡ o.ticks → IsWindow o.sizes 1 (deeds_of o) (window_of work earlier)
+window-is : (o : SerialRun) (later earlier : List Work) (work : Work) → later ++ work ∷ earlier ≡ o.ticks → IsWindow (o.sizes ∷ []) 1 (deeds_of o) (window_of work earlier)
 window-is o later earlier work is =
     let T : List Work → Type 0 = λ l. AreTicks o.sizes l in
     let ticks : AreTicks o.sizes (later ++ work ∷ earlier) = subst T (sym is) o.run.ticks_are in
@@ -101,9 +101,7 @@ window-is o later earlier work is =
     record {
       some = omega arith;
       short = omega arith;
-      count = here.0.after.0;
-      free = here.0.after.1;
-      joint = here.0.after.2;
+      joint = here.0.after;
       joined = joined-in o (λ run. turns_of_parts (before (work.tick + 1) run.parts)) (λ run. turns_of_parts (before (work.tick + 1) run.parts)) (work ∷ earlier)
           (ap (λ l. turns_of_parts (before (work.tick + 1) (parts_of l))) (sym is) ∙ ap turns_of_parts (rx-before (work.tick + 1) later earlier work (omega arith) after.0) ∙ turns-same (work ∷ earlier))
           (ap (λ l. turns_of_parts (before (work.tick + 1) (tx_parts l))) (sym is) ∙ ap turns_of_parts (tx-before (work.tick + 1) later earlier work (omega arith) after.0) ∙ parts-turns (work ∷ earlier))
@@ -114,14 +112,14 @@ over-same : (works : List Work) → over_at (windows_of works) ≡ tick_after wo
 over-same [] = refl
 over-same (work ∷ earlier) = refl
 
-windows-front : (o : SerialRun) (later front : List Work) → later ++ front ≡ o.ticks → AreWindows o.sizes 1 (deeds_of o) (windows_of front)
+windows-front : (o : SerialRun) (later front : List Work) → later ++ front ≡ o.ticks → AreWindows (o.sizes ∷ []) 1 (deeds_of o) (windows_of front)
 windows-front o later [] is = tt
 windows-front o later (work ∷ earlier) is =
     let T : List Work → Type 0 = λ l. AreTicks o.sizes l in
     let ticks : AreTicks o.sizes (work ∷ earlier) = ticks-front o.sizes later (work ∷ earlier) (subst T (sym is) o.run.ticks_are) in
     (window-is o later earlier work is, omega (arith, over-same earlier, ticks.0.later), windows-front o (later ++ work ∷ []) earlier (append_assoc later (work ∷ []) earlier ∙ is))
 
-pub windows-are : (o : SerialRun) → AreWindows o.sizes 1 (deeds_of o) (windows_of o.ticks)
+pub windows-are : (o : SerialRun) → AreWindows (o.sizes ∷ []) 1 (deeds_of o) (windows_of o.ticks)
 windows-are o = windows-front o [] o.ticks refl
 
 -- each part lies in its window

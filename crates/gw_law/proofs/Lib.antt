@@ -1,6 +1,7 @@
 pub mod Addressed
 pub mod causes
 pub mod deliveries
+pub mod literals
 mod Dests
 pub mod Laws
 pub mod pools

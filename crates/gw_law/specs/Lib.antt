@@ -3,6 +3,7 @@ pub mod Channels
 pub mod Deeds
 pub mod Delivery
 pub mod Emission
+pub mod Examples
 pub mod JointCauses
 pub mod Lawful
 pub mod Laws

@@ -1,0 +1,6 @@
+-- The example of a lawful run, and its neighbours.
+mod Items
+pub mod LawfulRun
+pub mod Neighbours
+mod PoolOfRun
+mod SourcesOfRun

@@ -109,7 +109,7 @@ third-may = (
           session = _;
           known = refl;
           its = refl;
-          over = record { writer = refl; dests = λ dest below. let only : dest ≡ 0 = omega (arith, below) in subst (λ (d : ℕ). HasLeft (done (Does (Joining 0 0 0 0 7) ∷ Does (Closed 0 0 []) ∷ Does (Parted 0 0 0 []) ∷ []) standing).view 0 d 0) (sym only) (_, refl, refl) };
+          over = record { writer = refl; dests = λ dest below. let only : dest ≡ 0 = omega (arith, below) in subst (λ (d : ℕ). HasLeft (done (Does (Joining 0 0 0 0 7) ∷ Does (Closed 0 0 []) ∷ Does (Parted 0 0 0 []) ∷ []) standing) 0 d 0) (sym only) (_, refl, refl) };
           last = λ later changed. one-change later changed;
         },
         tt,

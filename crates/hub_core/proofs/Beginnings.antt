@@ -1,8 +1,8 @@
 -- A plain hub as it is made: all buffers are free, and nothing was done.
-use Rattle.std.proofs.Common.{◌≡◌, ℕ, ◌+◌, ◌-◌, ◌^◌, ◌<◌, ◌≤◌, zero, suc, Bool, true, false, List, [], ◌∷◌, length, take, replicate, Some, All, refl, ap, sym, ◌∙◌, subst, arith}
+use Rattle.std.proofs.Common.{◌≡◌, ℕ, ◌+◌, ◌-◌, ◌^◌, ◌<◌, ◌≤◌, zero, suc, List, [], ◌∷◌, length, take, replicate, Some, All, refl, ap, sym, ◌∙◌, subst, arith}
 use Rattle.std.proofs.lemmas.List.{take_all, take_more}
 use Rattle.std.proofs.lemmas.List.Sums.{sum_by-cons, sum_by_push}
-use Rattle.std.specs.Prelude.{◌==◌, if◌then◌else◌, slice_get, get_or, sum, sum_by}
+use Rattle.std.specs.Prelude.{slice_get, get_or, sum, sum_by}
 use Rattle.hub_core.proofs.Led.{led-opening}
 use Rattle.hub_core.proofs.Shown.{IsShown}
 use Rattle.hub_core.proofs.Starts.{few-words}

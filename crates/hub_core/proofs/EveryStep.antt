@@ -1,9 +1,8 @@
 -- Each step of the machine that may happen keeps all that its law says.
-use Rattle.std.proofs.Common.{◌≡◌, ℕ, ◌+◌, ◌-◌, inl, inr, Bool, false, List, [], ◌∷◌, ◌++◌, length, Option, Some, All, refl, ap, sym, ◌∙◌, subst, arith, append-nil}
-use Rattle.std.proofs.lemmas.Bool.Decides.{eqb_tells}
+use Rattle.std.proofs.Common.{◌≡◌, ℕ, ◌+◌, ◌-◌, inl, inr, false, List, [], ◌∷◌, ◌++◌, length, Option, Some, All, refl, ap, sym, ◌∙◌, subst, arith, append-nil}
 use Rattle.std.proofs.lemmas.List.Elements.{All-nil, All-push, All-weaker}
 use Rattle.std.proofs.lemmas.Option.{slice_get_within}
-use Rattle.std.specs.Prelude.{slice_get, if◌then◌else◌}
+use Rattle.std.specs.Prelude.{slice_get}
 use Rattle.gw_base.specs.Fit.{IsSmallest}
 use Rattle.hub_core.proofs.Grouped.{Journals, IsNext, journals-pushed, overflow-stays}
 use Rattle.hub_core.proofs.Numbered.{own-numbers, taken-clear}

@@ -20,7 +20,7 @@ use Rattle.hub_core.specs.Calls.{path_of, seq_of, buf_of, freed_by, left_of}
 use Rattle.hub_core.specs.Core.{IsLed, MayDo, Does, Frees, after}
 use Rattle.hub_core.specs.Joint.{IsFreed}
 use Rattle.hub_core.specs.Groups.{group_of, place_of, journal_of}
-use Rattle.hub_core.specs.Journal.{AreInOrder, ChangesBuf, numbered}
+use Rattle.hub_core.specs.Journal.{ChangesBuf, numbered}
 use Rattle.hub_core.specs.Joint.{HasLeft, IsOver}
 use Rattle.hub_core.specs.Plain.{session_in, reserved, taken, sight_of, sight_in, standing, position_of, counts_one, readers_to, IsRowOf, IsEndOf, left_by}
 use Rattle.hub_core.specs.Tokens.{Writes, Reads, TakesPart}

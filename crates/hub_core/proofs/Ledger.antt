@@ -1,7 +1,7 @@
 -- What a plain hub knows of its state because steps that may happen led to it, and how it goes on.
-use Rattle.std.proofs.Common.{◌≡◌, ℕ, ◌+◌, ◌<◌, inl, inr, Bool, true, false, List, [], ◌∷◌, ◌++◌, length, Some, None, refl, ap, sym, ◌∙◌, subst, arith}
+use Rattle.std.proofs.Common.{◌≡◌, ℕ, ◌+◌, ◌<◌, inl, inr, Bool, List, [], ◌∷◌, ◌++◌, length, Some, None, refl, ap, sym, ◌∙◌, subst, arith}
 use Rattle.std.proofs.lemmas.Bool.{cases_lt}
-use Rattle.std.specs.Prelude.{◌==◌, slice_get, if◌then◌else◌, IsBitSet}
+use Rattle.std.specs.Prelude.{slice_get, IsBitSet}
 use Rattle.gw_base.specs.Fit.{IsSmallest, NoneFits}
 use Rattle.hub_core.proofs.EveryStep.{Lawful, lawful-of}
 use Rattle.hub_core.proofs.Grouped.{first-group, later-group}

@@ -2,10 +2,10 @@
 use Rattle.std.proofs.Common.{◌≡◌, ◌≢◌, ℕ, zero, suc, ◌+◌, ◌-◌, ◌<◌, ◌≤◌, ◌⊎◌, inl, inr, Bool, List, [], ◌∷◌, ◌++◌, length, map, Option, Some, None, All, refl, ap, sym, ◌∙◌, subst, arith, eq-eqb, length-append}
 use Rattle.std.proofs.lemmas.Bool.{cases_lt, ne_eqb}
 use Rattle.std.proofs.lemmas.Bool.Decides.{eqb_tells}
-use Rattle.std.proofs.lemmas.List.Elements.{All-nil, All-cons, All-head, All-tail, All-weaker}
-use Rattle.std.specs.Prelude.{◌==◌, if◌then◌else◌, IsBitSet}
+use Rattle.std.proofs.lemmas.List.Elements.{All-nil, All-cons, All-weaker}
+use Rattle.std.specs.Prelude.{if◌then◌else◌, IsBitSet}
 use Rattle.hub_core.specs.Journal.{CountsFrom, AreInOrder, number_of, numbered, moved, replay, IsLawful, IsOverflow, changed_buf, ChangesBuf}
-use Rattle.hub_core.specs.View.{View, Change, Taken, Freed, Refusal}
+use Rattle.hub_core.specs.View.{Change, Taken, Freed, Refusal}
 use Rattle.hub_core.proofs.Bits.{take-clears, take-leaves, free-leaves}
 
 -- a change is found by its number, and has it

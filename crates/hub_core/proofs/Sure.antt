@@ -1,9 +1,8 @@
 -- What can't fail to hold holds, for all that a joint view says: equations and bounds of numbers, and items that are found.
-use Rattle.std.proofs.Common.{◌≡◌, ℕ, ◌+◌, ◌<◌, ◌≤◌, ◌⊎◌, inl, inr, zero, suc, Bool, true, false, true≢false, List, [], ◌∷◌, length, drop, get_or, map, Option, Some, None, All, refl, ap, sym, ◌∙◌, subst, arith}
+use Rattle.std.proofs.Common.{◌≡◌, ℕ, ◌+◌, ◌<◌, ◌≤◌, ◌⊎◌, inl, inr, zero, suc, Bool, true, false, true≢false, List, [], ◌∷◌, drop, get_or, map, Option, Some, None, All, refl, ap, sym, ◌∙◌, subst, arith}
 use Rattle.std.proofs.lemmas.Bool.{cases_lt}
 use Rattle.std.proofs.lemmas.Bool.Decides.{eqb_tells}
 use Rattle.std.proofs.lemmas.List.Elements.{All-nil, All-cons, All-head, All-tail}
-use Rattle.std.specs.Prelude.{slice_get}
 use Rattle.gw_base.specs.Fit.{IsSmallest}
 use Rattle.hub_core.specs.Groups.{group_of, place_of, sizes_of, changes_in}
 use Rattle.hub_core.specs.Journal.{CountsFrom, number_of, numbered, replay, IsLawful, changed_buf}

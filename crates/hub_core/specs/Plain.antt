@@ -1,5 +1,5 @@
 -- The plain hub: how its words, places and numbers show what was done with it.
-use Rattle.std.specs.Prelude.{◌≡◌, ℕ, ◌+◌, ◌*◌, ◌<◌, ◌≤◌, ◌%◌, ◌==◌, ◌&&◌, nat_lt, if◌then◌else◌, zero, suc, Bool, true, false, List, [], ◌∷◌, length, take, sum, sum_by, Option, Some, None, All, slice_get, slice_set, slice_index, option_map}
+use Rattle.std.specs.Prelude.{◌≡◌, ℕ, ◌+◌, ◌*◌, ◌<◌, ◌≤◌, ◌%◌, ◌&&◌, nat_lt, if◌then◌else◌, zero, suc, Bool, true, false, List, [], ◌∷◌, length, take, sum, sum_by, Option, Some, None, All, slice_get, slice_set, slice_index, option_map}
 use Rattle.gw_base.specs.Cell.{IsCell}
 use Rattle.hub_core.specs.Calls.{Means}
 use Rattle.hub_core.specs.Joint.{IsFreed}

@@ -9,7 +9,7 @@ use Rattle.gw_base.specs.Fit.{Fits, IsSmallest}
 use Rattle.hub_core.specs.Core.{Step, Takes, Does, Frees, after, May, MayFree, Leads, CoreLaw}
 use Rattle.hub_core.specs.Journal.{ChangesBuf}
 use Rattle.hub_core.specs.Joint.{HasLeft}
-use Rattle.hub_core.specs.View.{Session, Taken, Asked, Put, Joining, Closed, Parted, session_at, grow}
+use Rattle.hub_core.specs.View.{View, empty_view, Session, Taken, Asked, Put, Joining, Closed, Parted, session_at, grow}
 use Rattle.hub_core_tests.specs.Examples.{done, two_groups, first_path, second_path, end_of_first, standing, ended, TwoPathsOverTwoGroups, Stays, one_group, two_sessions, filling, full, MistakesAreRefused}
 
 -- each step of a list may happen, one after another
@@ -109,7 +109,7 @@ third-may = (
           session = _;
           known = refl;
           its = refl;
-          over = record { writer = refl; dests = λ dest below. let only : dest ≡ 0 = omega (arith, below) in subst (λ (d : ℕ). HasLeft (done (Does (Joining 0 0 0 0 7) ∷ Does (Closed 0 0 []) ∷ Does (Parted 0 0 0 []) ∷ []) standing).view 0 d 0) (sym only) (_, refl, refl) };
+          over = record { writer = refl; dests = λ dest below. let only : dest ≡ 0 = omega (arith, below) in subst (λ (d : ℕ). HasLeft (done (Does (Joining 0 0 0 0 7) ∷ Does (Closed 0 0 []) ∷ Does (Parted 0 0 0 []) ∷ []) standing) 0 d 0) (sym only) (_, refl, refl) };
           last = λ later changed. one-change later changed;
         },
         tt,
@@ -136,7 +136,6 @@ two-paths law =
       third = third;
       changes = refl;
       refused = refl;
-      other = refl;
       never = refl;
       joint = law two_groups (first_path ++ (second_path ++ end_of_first)) ended
           (leads-on two_groups empty_view (done first_path empty_view) ended first_path (second_path ++ end_of_first) first (leads-on two_groups (done first_path empty_view) standing ended second_path end_of_first second third));

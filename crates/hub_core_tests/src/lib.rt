@@ -4,6 +4,8 @@
 
 mod examples;
 #[cfg(test)]
+mod rings;
+#[cfg(test)]
 mod tests;
 
 pub use examples::{mistakes_are_refused, two_paths_over_two_groups};

@@ -1,4 +1,4 @@
-ghost use Rattle.std.specs.Prelude.{◌≡◌, ◌<◌, ◌≤◌, [], true};
+ghost use Rattle.std.specs.Prelude.{◌≡◌, ◌<◌, ◌≤◌, [], true, length};
 ghost use Rattle.gw_base.specs.Cell.{IsCell};
 
 use gw_base::{BufNo, ChanNo, DestNo, GroupNo, PathNo, Tick};

@@ -1,4 +1,4 @@
-ghost use Rattle.std.specs.Prelude.{◌≡◌, ◌≤◌, ℕ, true, [], IfOk, length};
+ghost use Rattle.std.specs.Prelude.{◌≡◌, ◌<◌, ◌≤◌, ℕ, true, [], IfOk, length};
 ghost use Rattle.tp_receiver.specs.Port.{CanTake, IsServed};
 ghost use Rattle.tp_receiver.specs.State.{event_of};
 ghost use Rattle.hub_core.specs.Calls.{Means};

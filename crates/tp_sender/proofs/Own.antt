@@ -91,8 +91,8 @@ each set tick event look next (Offers s) may = record {
   idle = λ none. cc;
   next = omega arith;
 }
-each set tick event look next (Leaves s sent number phase) may = record { calls = tt; act = tt; records = tt; last = inl refl; idle = λ none. cc; next = omega arith }
-each set tick event look next (Waits s phase) may = record { calls = tt; act = tt; records = tt; last = inl refl; idle = λ none. cc; next = omega arith }
+each set tick event look next (Leaves s sent number block phase) may = record { calls = tt; act = tt; records = tt; last = inl refl; idle = λ none. cc; next = omega arith }
+each set tick event look next (Waits s phase block gap) may = record { calls = tt; act = tt; records = tt; last = inl refl; idle = λ none. cc; next = omega arith }
 each set tick event look next (Ends s sent act result left) may = record {
   calls = ((refl, refl), tt);
   act = act-ends set event look s sent act result may;
@@ -139,11 +139,11 @@ boxed-by set tick look (Joins buf len) may = absurd may.0
 boxed-by set tick look (Looks s seen) may = cc
 boxed-by set tick look (Reads s cells) may = let no : Left ≡ Turn = may.0 in cc
 boxed-by set tick look (Offers s) may = let no : Left ≡ Turn = may.turn in cc
-boxed-by set tick look (Leaves s sent number phase) may = record { s = s; is = refl; box = may.box }
-boxed-by set tick look (Waits s phase) (IsReached at was is) = cc
-boxed-by set tick look (Waits s phase) (GapIsOver until at was over is) = cc
-boxed-by set tick look (Waits s phase) (IsContinued bs st at was is) = cc
-boxed-by set tick look (Waits s phase) (IsPaused bs st at was is) = cc
+boxed-by set tick look (Leaves s sent number block phase) may = record { s = s; is = refl; box = may.box }
+boxed-by set tick look (Waits s phase block gap) (IsReached at was is kept) = cc
+boxed-by set tick look (Waits s phase block gap) (GapIsOver until at was over is kept) = cc
+boxed-by set tick look (Waits s phase block gap) (IsContinued bs st at was is size gap_is) = cc
+boxed-by set tick look (Waits s phase block gap) (IsPaused bs st at was is kept) = cc
 boxed-by set tick look (Ends s sent act result left) (IsWhole told box whole all keeps is) = record { s = s; is = refl; box = box }
 boxed-by set tick look (Ends s sent act result left) (IsCut told other all keeps shows) = absurd (told refl)
 

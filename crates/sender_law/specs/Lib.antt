@@ -1,5 +1,6 @@
 pub mod Channel
 pub mod Emission
+pub mod Pacing
 pub mod Parts
 pub mod Runs
 pub mod Transfer

@@ -33,6 +33,6 @@ laws rx tx shape source_budget budget sizes last count free ticks end limits sma
       controls = flow_controls_of o limits.n_ar;
       receptions = received.0;
       never_boxed = received.1;
-      transmissions = causes-of-run o limits.n_bs;
-      joint = joint_causes o limits.n_bs;
+      transmissions = causes-of-run o (record { n_as = limits.n_as; n_bs = limits.n_bs });
+      joint = joint_causes o (record { n_as = limits.n_as; n_bs = limits.n_bs });
     }

@@ -10,6 +10,7 @@ use Rattle.gw_law.specs.Records.{RecordsLaw}
 use Rattle.gw_law.specs.Run.{Route}
 use Rattle.receiver_law.specs.Source.{SourceLaw}
 use Rattle.gw_law.specs.Timely.{TimelyLaw, delivery_of_route}
+use Rattle.sender_law.specs.Channel.{never_full}
 use Rattle.sender_law.specs.TransmissionCauses.{TransmissionCauses}
 
 -- what is told of a run keeps all laws
@@ -31,8 +32,8 @@ pub record Lawful (r : Route) : Type 0 where
   pub bus : BusLaw r
   -- which flow controls leave, where their bus isn't full
   pub controls : FlowControlLaw (is_full r.source) r.source
-  -- each record comes of its cause, and no earlier one is passed over
+  -- each record comes of its cause, and no earlier one is passed over; no data frame waits for its bus
   pub receptions : AreCaused (is_full r.source) r.source
   pub never_boxed : AreNeverBoxed r.source
-  pub transmissions : TransmissionCauses r.leg
+  pub transmissions : TransmissionCauses never_full r.leg
   pub joint : JointCauses r

@@ -139,6 +139,7 @@ pub record HasLawfulLimits (rx : RxSet) (tx : TxSet) (shape : Shape) (source_bud
   pub shape_is : IsShape shape
   pub n_ar : 1 ≤ rx.n_ar
   pub n_cr : 1 ≤ rx.n_cr
+  pub n_as : 1 ≤ tx.n_as
   pub n_bs : 1 ≤ tx.n_bs
   pub source_budget_is : 1 ≤ source_budget
   pub budget_is : 1 ≤ budget

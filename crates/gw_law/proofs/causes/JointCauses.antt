@@ -43,6 +43,7 @@ use Rattle.sender_law.proofs.records.JointSenders.{has_ended, known-readings}
 use Rattle.receiver_law.proofs.records.JointSessions.{IsLeft, IsPut}
 use Rattle.gw_law.proofs.causes.JointTicks.{end-tells, moments-told}
 use Rattle.gw_law.proofs.causes.JointWaits.{none-waits}
+use Rattle.sender_law.specs.Runs.{HasLimits}
 use Rattle.gw_law.proofs.times.Timely.{timely}
 use Rattle.gw_law.proofs.runs.TxOfRun.{causes-of-run}
 use Rattle.gw_base.proofs.Lists.{all-at, slice_get-more, zip-back}
@@ -286,7 +287,7 @@ route-unread o =
     unread-by o k session session.opened is how refl (at.2.opens ∙ ap (λ h. not (is_overflow h)) how))
 
 -- all of them
-pub joint_causes : (o : WholeRun) → 1 ≤ o.tx.n_bs → JointCauses (route o)
+pub joint_causes : (o : WholeRun) → HasLimits o.tx → JointCauses (route o)
 joint_causes o some =
     let source = route-source o in
     record {

@@ -1,5 +1,5 @@
 -- The sender of a run over one path, by itself: its run is one of those that the laws of a sender speak of.
-use Rattle.std.proofs.Common.{◌≡◌, ◌⊎◌, inl, inr, ℕ, ◌+◌, ◌≤◌, Bool, false, Option, None, Some, List, [], ◌∷◌, ◌++◌, refl, ap, sym, ◌∙◌, subst, arith}
+use Rattle.std.proofs.Common.{◌≡◌, ◌⊎◌, inl, inr, ℕ, ◌+◌, Option, None, Some, List, [], ◌∷◌, ◌++◌, refl, ap, sym, ◌∙◌, subst, arith}
 use Rattle.hub_core.proofs.Turns.{happened-front}
 use Rattle.hub_core.specs.Turns.{Part, came_by, records_by, state_after, tick_after as tick_past, turns_of as turns_in_parts}
 use Rattle.tp_sender.specs.Runs.{HasSent, box_after, controls_in, left_by}
@@ -15,15 +15,11 @@ use Rattle.sender_law.proofs.records.DestRecords.{dest_records}
 use Rattle.sender_law.proofs.Emission.{run-rises}
 use Rattle.sender_law.proofs.causes.TransmissionCauses.{causes}
 use Rattle.sender_law.proofs.TxParts.{idle-box}
-use Rattle.sender_law.specs.Channel.{DestChannel}
+use Rattle.sender_law.specs.Channel.{DestChannel, never_full}
 use Rattle.sender_law.specs.Emission.{DestRecords}
 use Rattle.sender_law.specs.TransmissionCauses.{TransmissionCauses}
 use Rattle.sender_law.specs.Parts.{FrameLeaves, IsStepIn, IsTxPart, SendsIn}
-use Rattle.sender_law.specs.Runs.{AreTxParts, IsTxIdle, IsTxRun, TxRun, leg_of, turns_in}
-
--- a bus that is full in no tick
-abbrev pub never : ℕ → Bool
-never tick = false
+use Rattle.sender_law.specs.Runs.{AreTxParts, HasLimits, IsTxIdle, IsTxRun, TxRun, leg_of, turns_in}
 
 -- the sender's part of each tick
 abbrev pub tx_part : Work → Part TxTurn
@@ -42,12 +38,12 @@ parts-tick [] = refl
 parts-tick (work ∷ earlier) = refl
 
 -- what lies in its box leaves
-leaves : (tick : ℕ) (lies : Option Meaning) (left : List TxTurn) → FrameLeaves tick lies left → Leaves (IsStepIn tick Left) never tick lies left
+leaves : (tick : ℕ) (lies : Option Meaning) (left : List TxTurn) → FrameLeaves tick lies left → Leaves (IsStepIn tick Left) never_full tick lies left
 leaves tick None left is = Nothing refl is
 leaves tick (Some meaning) [] is = absurd is
 leaves tick (Some meaning) (turn ∷ more) is = Went meaning turn refl (ap (λ l. turn ∷ l) is.1) is.0
 
-part-is : (earlier : List TxTurn) (work : Work) → SendsIn work.tick earlier work.moments → IsTxPart never earlier (tx_part work)
+part-is : (earlier : List TxTurn) (work : Work) → SendsIn work.tick earlier work.moments → IsTxPart never_full earlier (tx_part work)
 part-is earlier work sends = record {
   answers = sends.answers;
   turn = sends.turn;
@@ -67,11 +63,11 @@ rests : (set : TxSet) (works : List Work) (tick : ℕ) → HasSent set (moments_
 rests set works tick sent (inl idle) = let P : List TxTurn → Type 0 = λ l. IsTxIdle l in inl (subst P (sym (parts-turns works)) (idle-is set (moments_of works) sent idle.sender))
 rests set works tick sent (inr at) = inr (at ∙ sym (parts-tick works))
 
-pub are-parts : (set : TxSet) (sizes : List ℕ) (works : List Work) → AreTicks sizes works → HasSent set (moments_of works) → AreTxParts never (tx_parts works)
+pub are-parts : (set : TxSet) (sizes : List ℕ) (works : List Work) → AreTicks sizes works → HasSent set (moments_of works) → AreTxParts never_full (tx_parts works)
 are-parts set sizes [] ticks sent = tt
 are-parts set sizes (work ∷ earlier) ticks sent =
     let before : HasSent set (moments_of earlier) = happened-front _ work.moments (moments_of earlier) sent in
-    let P : List TxTurn → Type 0 = λ l. IsTxPart never l (tx_part work) in (
+    let P : List TxTurn → Type 0 = λ l. IsTxPart never_full l (tx_part work) in (
       record {
         later = omega (arith, ticks.0.later, parts-tick earlier);
         next = rests set earlier work.tick before ticks.0.next;
@@ -82,7 +78,7 @@ are-parts set sizes (work ∷ earlier) ticks sent =
 
 -- the sender's own run
 abbrev pub tx_run : WholeRun → TxRun
-tx_run o = record { set = o.tx; full = never; last = o.last; parts = tx_parts o.ticks; end = o.end.moments }
+tx_run o = record { set = o.tx; full = never_full; last = o.last; parts = tx_parts o.ticks; end = o.end.moments }
 
 pub run-turns : (o : WholeRun) → turns_in (tx_run o) ≡ moments_of (works_of o)
 run-turns o = ap (λ l. o.end.moments ++ l) (parts-turns o.ticks)
@@ -121,5 +117,5 @@ frames-of-run o =
 pub records-of-run : (o : WholeRun) → DestRecords (route o).leg
 records-of-run o = of-leg DestRecords o (dest_records (tx_run o) o.budget (is-tx-run o))
 
-pub causes-of-run : (o : WholeRun) → 1 ≤ o.tx.n_bs → TransmissionCauses (route o).leg
-causes-of-run o some = of-leg TransmissionCauses o (causes (tx_run o) o.budget (is-tx-run o) (λ tick. refl) some)
+pub causes-of-run : (o : WholeRun) → HasLimits o.tx → TransmissionCauses never_full (route o).leg
+causes-of-run o some = of-leg (TransmissionCauses never_full) o (causes (tx_run o) o.budget (is-tx-run o) some)

@@ -74,7 +74,7 @@ starts-from id start period before (s ∷ later) built =
 -- ---- the laws hold
 
 limits_of : (m : Machines) → AreMachines m.rx m.shape m.tx → HasLawfulLimits m.rx m.tx m.shape BUDGET BUDGET
-limits_of m are = record { shape_is = are.controls.shape_is; n_ar = are.n_ar; n_cr = are.n_cr; n_bs = are.n_bs; source_budget_is = omega arith; budget_is = omega arith }
+limits_of m are = record { shape_is = are.controls.shape_is; n_ar = are.n_ar; n_cr = are.n_cr; n_as = are.n_as; n_bs = are.n_bs; source_budget_is = omega arith; budget_is = omega arith }
 
 -- what a run tells keeps the laws
 pub lawful_of : (m : Machines) (clock : Clock) (last : ℕ) (source destination : List Stamped) (told : Told) → AreMachines m.rx m.shape m.tx →

@@ -76,7 +76,7 @@ pub record IsBlocked (limit : ℕ) (full : ℕ → Bool) (controls : List Contro
   pub since : ℕ
   pub allowed : IsAllowed controls begin ticks tick since
   pub blocked : IsFullFrom full since tick
-  pub due : since + limit ≡ tick
+  pub over : since + limit ≡ tick
 
 -- the gap isn't over in a tick
 pub record IsInGap (controls : List Control) (begin : ℕ) (ticks : List ℕ) (tick : ℕ) : Type 0 where

@@ -82,7 +82,7 @@ of-box full tx all so_far last ticks s calls did phase splits stands box (Due la
       since = s.since;
       allowed = allowed-now tx all so_far did.tick s.begin ticks s.block s.gap box.may.from s.since splits box.may.by_is box.may.may;
       blocked = box.blocked;
-      due = omega (arith, late, box.in_time);
+      over = omega (arith, late, box.in_time);
     }) stands.counted stands.in_time
 of-box full tx all so_far last ticks s calls did phase splits stands box (NotDue early row) =
     Goes s row.records row.live (record {

@@ -9,6 +9,7 @@ pub mod TxMoves
 pub mod TxPaces
 pub mod TxReadings
 pub mod TxStages
+pub mod TxStarts
 pub mod TxSteps
 pub mod TxWorld
 pub mod TxWritten

@@ -1,6 +1,6 @@
 -- No frame of a session leaves before a look of it that shows enough.
-use Rattle.std.proofs.Common.{◌≡◌, ◌⊎◌, inl, inr, ℕ, ◌≤◌, Bool, true, false, Option, None, Some, List, [], ◌∷◌, ◌++◌, length, refl, ap, sym, ◌∙◌, subst, arith, append_assoc, append-nil}
-use Rattle.std.specs.Prelude.{◌==◌, ◌&&◌, ◌||◌, map, nat_le, not, slice_get}
+use Rattle.std.proofs.Common.{◌≡◌, ◌⊎◌, inl, inr, ℕ, ◌≤◌, Bool, true, false, Option, None, Some, List, [], ◌∷◌, ◌++◌, length, refl, ap, sym, ◌∙◌, subst, arith, append_assoc}
+use Rattle.std.specs.Prelude.{◌==◌, ◌&&◌, ◌||◌, nat_le, not, slice_get}
 use Rattle.std.proofs.lemmas.Bool.Decides.{nat_tests}
 use Rattle.gw_base.proofs.Lists.{slice_get-more}
 use Rattle.hub_core.proofs.Growing.{slice_get-pushed}
@@ -17,7 +17,7 @@ use Rattle.tp_sender.specs.declared.event.TxEvent.TheVariants.{Turn, Fc as CameF
 use Rattle.tp_sender.specs.declared.set.TxSet.{TxSet}
 use Rattle.tp_sender.specs.declared.transmission.Phase.{Phase}
 use Rattle.tp_sender.specs.declared.transmission.Phase.TheVariants.{Start, Bytes, Box, Fc, Gap}
-use Rattle.sender_law.specs.Starts.{HasLooked, IsBegun, ShowsEnough, StartLaw}
+use Rattle.sender_law.specs.Starts.{HasLooked, IsBegun, StartLaw}
 
 -- more calls
 looked-more : (set : TxSet) (calls more : List Event) (seq len : ℕ) → HasLooked set calls seq len → HasLooked set (calls ++ more) seq len
@@ -48,38 +48,38 @@ looks-at : (set : TxSet) (calls : List Event) (live is : Option Transmission) �
 looks-at set calls live is same looks = let P : Option Transmission → Type 0 = λ l. Looks set calls l in subst P (sym same) looks
 
 -- the session goes on, or none is sent
-data Keeps (s : Transmission) (live : Option Transmission) : Type 0 where
-  IsOver : live ≡ None → Keeps s live
-  IsSame : (t : Transmission) → live ≡ Some t → t.seq ≡ s.seq → t.len ≡ s.len → Keeps s live
+data Keeps (seq len : ℕ) (live : Option Transmission) : Type 0 where
+  IsOver : live ≡ None → Keeps seq len live
+  IsSame : (t : Transmission) → live ≡ Some t → t.seq ≡ seq → t.len ≡ len → Keeps seq len live
 
-looks-kept : (set : TxSet) (calls : List Event) (s : Transmission) (live : Option Transmission) → HasLooked set calls s.seq s.len → Keeps s live → Looks set calls live
+looks-kept : (set : TxSet) (calls : List Event) (s : Transmission) (live : Option Transmission) → HasLooked set calls s.seq s.len → Keeps s.seq s.len live → Looks set calls live
 looks-kept set calls s live has (IsOver is) = looks-at set calls live None is tt
 looks-kept set calls s live has (IsSame t is seq len) = looks-at set calls live (Some t) is (inr (rw (seq, len) has))
 
-of-lacks : (set : TxSet) (s : Transmission) (look : Seen) (calls : List Event) (did : TxDid) → Lacks set s look calls did → Keeps s did.new.live
+of-lacks : (set : TxSet) (s : Transmission) (look : Seen) (calls : List Event) (did : TxDid) → Lacks set s look calls did → Keeps s.seq s.len did.new.live
 of-lacks set s look calls did (WriterGone gone row) = IsOver row.live
 of-lacks set s look calls did (TooLate there late row) = IsOver row.live
 of-lacks set s look calls did (MayCome there early row) = IsSame s row.live refl refl
 
-of-bytes : (set : TxSet) (s : Transmission) (calls : List Event) (did : TxDid) → InBytes set s calls did → Keeps s did.new.live
+of-bytes : (set : TxSet) (s : Transmission) (calls : List Event) (did : TxDid) → InBytes set s calls did → Keeps s.seq s.len did.new.live
 of-bytes set s calls did (Enough look cells fetches row) = IsSame _ row.live refl refl
 of-bytes set s calls did (Short look cells more fetches short lacks) = of-lacks set (fetched cells s) look more did lacks
 
-of-wait : (set : TxSet) (s : Transmission) (limit : ℕ) (result : DestResult) (calls : List Event) (did : TxDid) → InWait set s limit result calls did → Keeps s did.new.live
+of-wait : (set : TxSet) (s : Transmission) (limit : ℕ) (result : DestResult) (calls : List Event) (did : TxDid) → InWait set s limit result calls did → Keeps s.seq s.len did.new.live
 of-wait set s limit result calls did (Due late row) = IsOver row.live
 of-wait set s limit result calls did (NotDue early row) = IsSame s row.live refl refl
 
-of-gap : (set : TxSet) (s : Transmission) (until : ℕ) (calls : List Event) (did : TxDid) → InGap set s until calls did → Keeps s did.new.live
+of-gap : (set : TxSet) (s : Transmission) (until : ℕ) (calls : List Event) (did : TxDid) → InGap set s until calls did → Keeps s.seq s.len did.new.live
 of-gap set s until calls did (GapOver over row) = of-bytes set (in_phase Bytes did.tick s) calls did row
 of-gap set s until calls did (GapLasts before row) = IsSame s row.live refl refl
 
-of-answered : (set : TxSet) (s : Transmission) (fs bs st : ℕ) (calls : List Event) (did : TxDid) → Answered set s fs bs st calls did → Keeps s did.new.live
+of-answered : (set : TxSet) (s : Transmission) (fs bs st : ℕ) (calls : List Event) (did : TxDid) → Answered set s fs bs st calls did → Keeps s.seq s.len did.new.live
 of-answered set s fs bs st calls did (Continues is row) = IsSame _ row.live refl refl
 of-answered set s fs bs st calls did (AsksToWait is row) = IsSame _ row.live refl refl
 of-answered set s fs bs st calls did (Overflows is row) = IsOver row.live
 of-answered set s fs bs st calls did (IsInvalid is row) = IsOver row.live
 
-of-left : (set : TxSet) (s : Transmission) (calls : List Event) (did : TxDid) → FrameLeft set s calls did → Keeps s did.new.live
+of-left : (set : TxSet) (s : Transmission) (calls : List Event) (did : TxDid) → FrameLeft set s calls did → Keeps s.seq s.len did.new.live
 of-left set s calls did (LastLeft whole row) = IsOver row.live
 of-left set s calls did (FirstLeft none more row) = IsSame _ row.live refl refl
 of-left set s calls did (BlockLeft some more one row) = IsSame _ row.live refl refl
@@ -94,7 +94,7 @@ of-start set before s calls did phase (NeverReached look more are is gone row) =
 of-start set before s calls did phase (NotReached look more are is there row) = looks-at set (before ++ calls) did.new.live (Some s) row.live (inl phase)
 
 -- one that was begun
-begun : (set : TxSet) (before : List Event) (s : Transmission) (calls : List Event) (did : TxDid) (phase : Phase) → s.phase ≡ phase → (phase ≡ Start → ⊥) → Looks set before (Some s) → Keeps s did.new.live → Looks set (before ++ calls) did.new.live
+begun : (set : TxSet) (before : List Event) (s : Transmission) (calls : List Event) (did : TxDid) (phase : Phase) → s.phase ≡ phase → (phase ≡ Start → ⊥) → Looks set before (Some s) → Keeps s.seq s.len did.new.live → Looks set (before ++ calls) did.new.live
 begun set before s calls did phase at out looks keeps = elim looks [
   | inl start ↦ absurd (out (sym at ∙ start))
   | inr has ↦ looks-kept set (before ++ calls) s did.new.live (looked-more set before calls s.seq s.len has) keeps

@@ -8,6 +8,7 @@ pub mod TxLeft
 pub mod TxMoves
 pub mod TxPaces
 pub mod TxReadings
+pub mod TxSources
 pub mod TxStages
 pub mod TxStarts
 pub mod TxSteps

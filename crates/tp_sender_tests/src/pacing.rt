@@ -43,6 +43,7 @@ const SET: TxSet = TxSet {
 type Control = (u64, u8, u8, u8);
 
 /// A session, and how it is sent.
+#[derive(Clone, Copy, Debug)]
 struct Row<'a> {
     /// Its cells, of seven bytes each, and every how many ticks one comes, from tick 0 on.
     cells: u32,
@@ -138,7 +139,13 @@ fn feed<P: Port>(port: &mut P, writer: &mut Opened, wanted: u32, comes: bool) ->
 }
 
 /// Sends a session while its cells come: how many frames left, each in the tick that the row has for it, and the record.
-fn send<P: Port>(port: &mut P, sender: &mut Sender, writer: &mut Opened, row: &Row) -> Option<(usize, DestRecord)>
+#[tactic(auto, using(crate::proofs::Knowing::knows_kept, crate::proofs::Knowing::acts_kept, crate::proofs::Knowing::still_writes))]
+fn send<P: Port>(
+    port: &mut P,
+    sender: &mut Sender,
+    writer: &mut Opened,
+    row: &Row,
+) -> Option<(usize, DestRecord)>
     requires knows { Knows (P.view port.old) sender.old }
     requires acts { ActsFor (P.means port.old) sender.old }
     requires idle { (state_of sender.old).live ≡ None }
@@ -154,7 +161,12 @@ fn send<P: Port>(port: &mut P, sender: &mut Sender, writer: &mut Opened, row: &R
         if tick < now {
             return None;
         }
-        wanted = feed(port, writer, wanted, step % 3 == 0 && tick.checked_rem(row.every) == Some(0));
+        wanted = feed(
+            port,
+            writer,
+            wanted,
+            step % 3 == 0 && tick.checked_rem(row.every) == Some(0),
+        );
         let event = event_at(row, step, full);
         if event == TxEvent::Left {
             if row.ticks.get(left) != Some(&tick) {
@@ -272,14 +284,18 @@ const GAPS: [(u8, u32, u64); 27] = [
 #[test]
 fn separation_times_are_gaps(rt: HostRuntime) -> Result<(), Fail> {
     for (st, period, gap) in GAPS {
+        let last = gap.saturating_add(1);
         let mut hub = PlainHub::new(rt.alloc(), &[20])?;
         let row = Row {
             period,
             controls: &[(1, 0, 0, st)],
-            ticks: &[0, 1, 1 + gap],
+            ticks: &[0, 1, last],
             ..PLAIN
         };
-        assert_eq!(rt; told(&mut hub, &row), Some((3, Tick(1 + gap), DestResult::Sent)));
+        assert_eq!(rt;
+            told(&mut hub, &row),
+            Some((3, Tick(last), DestResult::Sent))
+        );
     }
     Ok(())
 }
@@ -377,21 +393,17 @@ const ROWS: [(Row, u64, DestResult); 9] = [
         DestResult::BsTimeout,
     ),
     // a frame that lies in its box for its limit
-    (
-        Row {
-            free: 6,
-            ..PLAIN
-        },
-        5,
-        DestResult::AsTimeout,
-    ),
+    (Row { free: 6, ..PLAIN }, 5, DestResult::AsTimeout),
 ];
 
 #[test]
 fn frames_leave_in_their_ticks(rt: HostRuntime) -> Result<(), Fail> {
     for (row, end, result) in &ROWS {
         let mut hub = PlainHub::new(rt.alloc(), &[20])?;
-        assert_eq!(rt; told(&mut hub, row), Some((row.ticks.len(), Tick(*end), *result)));
+        assert_eq!(rt;
+            told(&mut hub, row),
+            Some((row.ticks.len(), Tick(*end), *result))
+        );
     }
     Ok(())
 }

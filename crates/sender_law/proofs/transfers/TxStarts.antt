@@ -1,11 +1,9 @@
 -- No frame of a session leaves before a look of it that shows enough.
-use Rattle.std.proofs.Common.{◌≡◌, ◌⊎◌, inl, inr, ℕ, ◌≤◌, Bool, true, false, Option, None, Some, List, [], ◌∷◌, ◌++◌, length, refl, ap, sym, ◌∙◌, subst, arith, append_assoc}
-use Rattle.std.specs.Prelude.{◌==◌, ◌&&◌, ◌||◌, nat_le, not, slice_get}
+use Rattle.std.proofs.Common.{◌≡◌, ◌⊎◌, inl, inr, ℕ, ◌≤◌, Bool, true, false, Option, None, Some, List, [], ◌∷◌, ◌++◌, refl, ap, sym, ◌∙◌, subst, arith, append_assoc}
+use Rattle.std.specs.Prelude.{◌==◌, ◌&&◌, ◌||◌, nat_le, not}
 use Rattle.std.proofs.lemmas.Bool.Decides.{nat_tests}
-use Rattle.gw_base.proofs.Lists.{slice_get-more}
-use Rattle.hub_core.proofs.Growing.{slice_get-pushed}
 use Rattle.hub_core.specs.Turns.{calls_by, state_after}
-use Rattle.hub_core.specs.View.{Event, Joining, Saw}
+use Rattle.hub_core.specs.View.{Event, Joining}
 use Rattle.hub_core.specs.declared.port.Seen.{Seen}
 use Rattle.hub_core.specs.declared.record.DestResult.{DestResult}
 use Rattle.tp_sender.specs.Runs.{HasSent}
@@ -17,11 +15,15 @@ use Rattle.tp_sender.specs.declared.event.TxEvent.TheVariants.{Turn, Fc as CameF
 use Rattle.tp_sender.specs.declared.set.TxSet.{TxSet}
 use Rattle.tp_sender.specs.declared.transmission.Phase.{Phase}
 use Rattle.tp_sender.specs.declared.transmission.Phase.TheVariants.{Start, Bytes, Box, Fc, Gap}
-use Rattle.sender_law.specs.Starts.{HasLooked, IsBegun, StartLaw}
+use Rattle.sender_law.specs.Starts.{HasLooked, IsBegun, StartLaw, look_of}
 
 -- more calls
 looked-more : (set : TxSet) (calls more : List Event) (seq len : ℕ) → HasLooked set calls seq len → HasLooked set (calls ++ more) seq len
-looked-more set calls more seq len has = record { look = has.look; place = has.place; is = slice_get-more calls more has.place (Saw set.path.0 set.dest.0 seq has.look.cells has.look.bytes has.look.writer) has.is; enough = has.enough }
+looked-more set calls more seq len has = record {
+  look = has.look;
+  among = record { before = has.among.before; after = has.among.after ++ more; are = ap (λ l. l ++ more) has.among.are ∙ append_assoc has.among.before (look_of set seq has.look ∷ has.among.after) more };
+  enough = has.enough;
+}
 
 enough-by : (bytes len threshold cells : ℕ) (store : Bool) → (bytes == len || not store && nat_le threshold cells) ≡ true → (bytes ≡ len) ⊎ ((store ≡ false) × (threshold ≤ cells))
 enough-by bytes len threshold cells true is = inl (grind (arith, nat_tests))
@@ -29,15 +31,7 @@ enough-by bytes len threshold cells false is = grind (arith, nat_tests)
 
 -- a look that shows it
 looked-now : (set : TxSet) (calls more : List Event) (s : Transmission) (look : Seen) → is_reached set s look ≡ true → HasLooked set (calls ++ look_at set s look ∷ more) s.seq s.len
-looked-now set calls more s look is =
-    let e : Event = look_at set s look in
-    let P : List Event → Type 0 = λ l. slice_get l (length calls) ≡ Some e in
-    record {
-      look = look;
-      place = length calls;
-      is = subst P (append_assoc calls (e ∷ []) more) (slice_get-more (calls ++ e ∷ []) more (length calls) e (slice_get-pushed calls e (length calls) refl));
-      enough = enough-by look.bytes s.len set.threshold look.cells set.store is;
-    }
+looked-now set calls more s look is = record { look = look; among = record { before = calls; after = more; are = refl }; enough = enough-by look.bytes s.len set.threshold look.cells set.store is }
 
 -- of the session that is sent, unless it still waits to be begun
 abbrev Looks : TxSet → List Event → Option Transmission → Type 0

@@ -1,11 +1,11 @@
 -- The pace of a transmission, when one more flow control comes or one more frame leaves.
 use Rattle.std.proofs.Common.{◌≡◌, ℕ, ◌+◌, ◌-◌, ◌<◌, ◌≤◌, Bool, true, false, Option, Some, None, List, [], ◌∷◌, ◌++◌, zero, suc, refl, ap, sym, subst, ◌∙◌, arith, append-nil}
-use Rattle.std.specs.Prelude.{filter, nat_le, if◌then◌else◌}
+use Rattle.std.specs.Prelude.{nat_le, if◌then◌else◌}
 use Rattle.std.specs.List.{AllByRecursion}
 use Rattle.std.proofs.lemmas.Bool.Decides.{nat_tests}
 use Rattle.std.proofs.lemmas.Grind.{fold-append}
 use Rattle.std.proofs.lemmas.List.Elements.{filter-append}
-use Rattle.flow_plan.specs.Pace.{ArePacedFrom, Awaits, Control, IsPaced, May, MayLeave, Pace, Refused, after_frames, answered, answered_all, answered_by, block_of, came_to, gone_on, pace_once}
+use Rattle.flow_plan.specs.Pace.{ArePacedFrom, Awaits, Control, IsPaced, May, MayLeave, Pace, Refused, after_frames, answered, answered_all, answered_by, block_of, came_to, gone_on}
 
 -- all that came up to a tick stands in it
 pub came-all : (tick : ℕ) (controls : List Control) → AllByRecursion (λ (c : Control). c.tick ≤ tick) controls → came_to tick controls ≡ controls

@@ -1,5 +1,5 @@
 -- Each step is made of effects: the one walk over the rows of the table.
-use Rattle.std.proofs.Common.{◌≡◌, ℕ, ◌+◌, ◌-◌, ◌%◌, ◌<◌, false, Option, None, Some, List, [], ◌∷◌, ◌++◌, length, refl, ap, sym, ◌∙◌, subst, arith, append-nil}
+use Rattle.std.proofs.Common.{◌≡◌, ℕ, ◌+◌, ◌-◌, ◌%◌, Option, None, Some, List, [], ◌∷◌, ◌++◌, refl, ap, sym, ◌∙◌, subst, arith}
 use Rattle.std.specs.Prelude.{map}
 use Rattle.flow_plan.specs.Gap.{gap_in}
 use Rattle.gw_base.specs.declared.numbers.Tick.{Tick}
@@ -15,9 +15,9 @@ use Rattle.tp_sender.specs.declared.transmission.Phase.{Phase}
 use Rattle.tp_sender.specs.declared.transmission.Phase.TheVariants.{Start, Bytes, Box, Fc, Gap}
 use Rattle.tp_sender.specs.declared.set.TxSet.{TxSet}
 use Rattle.tp_sender.specs.State.{Transmission, TxDid, TxState}
-use Rattle.tp_sender.specs.Table.{Answered, Ends as EndsRow, FrameLeft, GoesOn, IdleRow, InAnswer, InBytes, InGap, InStart, InTurn, InWait, Lacks, LiveRow, NoneStands, TxRow, TxStep, all_sent, continued, fetched, in_phase, is_reached, joined_in, next_part, revoked, wait_of}
+use Rattle.tp_sender.specs.Table.{Answered, Ends as EndsRow, FrameLeft, GoesOn, IdleRow, InAnswer, InBytes, InGap, InStart, InTurn, InWait, Lacks, LiveRow, NoneStands, TxRow, TxStep, continued, fetched, in_phase, joined_in, next_part, revoked, wait_of}
 use Rattle.tp_sender.specs.Table.{AsksToWait, BlockLeft, Continues, Due, Enough, FindsOne, FirstLeft, GapLasts, GapOver, IsInvalid, Joins as JoinsRow, LastLeft, MayCome, NeverReached, NextLeft, NotDue, NotReached, NothingStands, NothingToSend, Overflows, Reached, Short, TooLate, WriterGone}
-use Rattle.tp_sender.specs.Effects.{AreEffects, Awaits, IsAwaiting, IsEffect, IsMade, IsSettled, IsShort, MayEnd, TxStage, ShowsEnd, TxDone, TxEffect, act_then, done_by, done_then, done_by_all, nothing_at, first_stage}
+use Rattle.tp_sender.specs.Effects.{AreEffects, IsAwaiting, IsEffect, IsMade, IsSettled, IsShort, MayEnd, TxStage, ShowsEnd, TxDone, TxEffect, act_then, done_by, done_by_all, nothing_at}
 use Rattle.tp_sender.specs.Effects.{Misses, Joins, Looks, Reads, Offers, Leaves, Waits, Ends, AfterBlock, AfterFirst, AfterNext, IsReached, GapIsOver, IsContinued, IsPaused, NoNext, NoStart, IsWhole, IsCut}
 
 -- the rest of a step, from where it is with these calls left, is made of effects

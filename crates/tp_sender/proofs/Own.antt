@@ -1,11 +1,10 @@
 -- Every step offers data frames of its channel alone, and tells of one session of its own at the most.
-use Rattle.std.proofs.Common.{◌≡◌, ℕ, ◌+◌, ◌≤◌, Bool, true, false, if◌then◌else◌, Option, None, Some, List, [], ◌∷◌, ◌++◌, length, inl, inr, ◌⊎◌, refl, ap, sym, ◌∙◌, subst, arith, append-nil}
+use Rattle.std.proofs.Common.{◌≡◌, ℕ, ◌≤◌, Bool, true, false, if◌then◌else◌, Option, None, Some, List, [], ◌∷◌, ◌++◌, length, inl, inr, ◌⊎◌, refl, sym, ◌∙◌, subst, arith, append-nil}
 use Rattle.std.specs.Prelude.{◌==◌, map}
 use Rattle.hub_core.specs.View.{Read}
 use Rattle.std.specs.List.{AllByRecursion}
 use Rattle.gw_base.proofs.Lists.{all-join}
 use Rattle.hub_core.specs.declared.port.Seen.{Seen}
-use Rattle.hub_core.specs.declared.record.DestRecord.{DestRecord}
 use Rattle.hub_core.specs.declared.record.DestResult.{DestResult}
 use Rattle.tp_unit.specs.Shape.{part_of_start}
 use Rattle.tp_unit.specs.Unit.{BoxMeaning, Keeps, Offers as OffersUnit, Revokes, SingleFrame, FirstFrame, ConsecutiveFrame}
@@ -14,7 +13,7 @@ use Rattle.tp_sender.specs.declared.event.TxEvent.TheVariants.{Turn, Left}
 use Rattle.tp_sender.specs.declared.set.TxSet.{TxSet}
 use Rattle.tp_sender.specs.declared.transmission.Phase.{Phase}
 use Rattle.tp_sender.specs.declared.transmission.Phase.TheVariants.{Start, Bytes, Box, Fc, Gap}
-use Rattle.tp_sender.specs.Effects.{AreEffects, IsEffect, IsMade, IsSettled, MayBe, MayEnd, TxStage, TxDone, TxEffect, act_then, done_by, done_by_all, done_then, found_by, nothing_at}
+use Rattle.tp_sender.specs.Effects.{AreEffects, IsEffect, IsMade, IsSettled, MayBe, MayEnd, TxStage, TxDone, TxEffect, act_then, done_by, done_by_all, done_then, found_by}
 use Rattle.tp_sender.specs.Effects.{Misses, Joins, Looks, Reads, Offers, Leaves, Waits, Ends, GapIsOver, IsContinued, IsPaused, IsReached, IsWhole, IsCut}
 use Rattle.tp_sender.specs.Own.{OfDest, IsFittingAct, IsToldIn, KeepsToOwn}
 use Rattle.tp_unit.specs.Box.{IsNoData}

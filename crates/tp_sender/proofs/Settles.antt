@@ -1,12 +1,12 @@
 -- After a step the phase lasts since its tick at most, and its act says whether a frame lies in the box.
-use Rattle.std.proofs.Common.{◌≡◌, ℕ, ◌≤◌, Option, None, Some, List, refl, ap, sym, ◌∙◌, subst, arith}
+use Rattle.std.proofs.Common.{◌≡◌, ℕ, ◌≤◌, Option, None, Some, refl, ap, subst, arith}
 use Rattle.tp_sender.specs.declared.transmission.Transmission.{Transmission as HeldTransmission}
 use Rattle.tp_sender.specs.declared.transmission.Phase.{Phase}
 use Rattle.tp_sender.specs.declared.transmission.Phase.TheVariants.{Start, Bytes, Box, Fc, Gap}
 use Rattle.tp_sender.specs.Port.{StepOver, did_by}
 use Rattle.std.specs.Prelude.{option_map}
 use Rattle.hub_core.specs.Floors.{Floors}
-use Rattle.hub_core.specs.View.{Event, View}
+use Rattle.hub_core.specs.View.{View}
 use Rattle.hub_core.specs.declared.port.Seen.{Seen}
 use Rattle.hub_core.specs.declared.record.DestResult.{DestResult}
 use Rattle.tp_unit.specs.Unit.{BoxMeaning, Keeps, Offers as OffersUnit, Revokes}
@@ -14,7 +14,7 @@ use Rattle.tp_sender.specs.declared.event.TxActs.{TxActs}
 use Rattle.tp_sender.specs.declared.event.TxEvent.{TxEvent}
 use Rattle.tp_sender.specs.declared.event.TxEvent.TheVariants.{Turn, Fc as CameFc, Left, RunEnd}
 use Rattle.tp_sender.specs.declared.set.TxSet.{TxSet}
-use Rattle.tp_sender.specs.Effects.{AwaitsNext, IsSettled, MayBe, MayEnd, MayWait, TxStage, TxDone, TxEffect, act_then, done_by, done_then, found_by, nothing_at, first_stage}
+use Rattle.tp_sender.specs.Effects.{AwaitsNext, IsSettled, MayBe, MayEnd, MayWait, TxStage, TxDone, TxEffect, act_then, done_by, found_by}
 use Rattle.tp_sender.specs.Effects.{Misses, Joins, Looks, Reads, Offers, Leaves, Waits, Ends, AfterBlock, AfterFirst, AfterNext, IsReached, GapIsOver, IsContinued, IsPaused, IsWhole, IsCut}
 use Rattle.tp_sender.specs.State.{HasFrame, IsInBox, TxState, StillHasFrame, in_box, since_of, Transmission, transmission_of, TxDid}
 use Rattle.tp_sender.specs.Table.{LiveRow, TxRow, TxStep, revoked}

@@ -1,5 +1,5 @@
 -- What a sender is at.
-use Rattle.std.specs.Prelude.{◌≡◌, ℕ, List, Option, Some, None}
+use Rattle.std.specs.Prelude.{ℕ, List, Option, Some, None}
 use Rattle.std.specs.Prelude.{option_map}
 use Rattle.hub_core.specs.Turns.{Did, Turn as TurnOf}
 use Rattle.hub_core.specs.View.{Event}

@@ -1,6 +1,7 @@
 -- The transmissions.
 pub mod OtherFrames
 pub mod TxAnswers
+pub mod TxBoxed
 pub mod TxFrames
 pub mod TxLaw
 pub mod TxLeaves

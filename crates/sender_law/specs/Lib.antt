@@ -1,3 +1,4 @@
+pub mod Boxed
 pub mod Channel
 pub mod Emission
 pub mod Pacing

@@ -9,4 +9,4 @@ mod numbers;
 pub use digits::decimal;
 pub use list::{Bytes, ListOf};
 pub use memory::Memory;
-pub use numbers::{BufNo, BusNo, ChanNo, DestNo, Micros, PathNo, Tick};
+pub use numbers::{BufNo, BusNo, ChanNo, DestNo, GroupNo, Micros, PathNo, Tick};

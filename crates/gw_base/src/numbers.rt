@@ -18,6 +18,10 @@ pub struct DestNo(pub u8);
 #[derive(Clone, Copy, Debug, Default, PartialEq, Eq)]
 pub struct BufNo(pub u8);
 
+/// A group of the pool's buffers, by its place in the configuration, from 0.
+#[derive(Clone, Copy, Debug, Default, PartialEq, Eq)]
+pub struct GroupNo(pub u8);
+
 /// A tick, counted from the first frame of all logs; a tick lasts one period.
 #[derive(Clone, Copy, Debug, Default, PartialEq, Eq, PartialOrd, Ord)]
 pub struct Tick(pub u64);

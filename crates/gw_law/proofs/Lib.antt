@@ -1,8 +1,10 @@
+pub mod Addressed
 pub mod causes
 pub mod deliveries
-pub mod Emission
+mod Dests
 pub mod Laws
 pub mod pools
-mod Records
+mod Routes
 pub mod runs
+pub mod Sources
 pub mod times

@@ -1,7 +1,6 @@
--- Why records end.
+-- Causes of records that need both parties.
 pub mod JointCauses
-pub mod JointEnds
-pub mod JointTicks
+mod JointEnds
+mod JointTicks
 pub mod JointWaits
-pub mod RxLooks
-pub mod SizedPieces
+mod SizedPieces

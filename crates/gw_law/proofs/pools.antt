@@ -1,7 +1,8 @@
--- The moves of the pool.
-pub mod Changes
-pub mod Entries
-pub mod FreeSets
-pub mod Needs
+-- The moves of the pool, and what the records of source channels say of them.
+mod Changes
+mod Entries
+mod FreeSets
+mod Needs
+mod Overs
 pub mod PoolRuns
 pub mod Pools

@@ -1,7 +1,7 @@
--- A run, and what each machine did in it.
+pub mod Barriers
+pub mod Before
 pub mod Fronts
+pub mod Meetings
+pub mod Moments
 pub mod OwnCalls
-pub mod RxOfRun
-pub mod TxOfRun
-pub mod WholeRun
-pub mod Wholes
+pub mod Parts

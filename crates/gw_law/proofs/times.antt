@@ -1,5 +1,4 @@
--- Nothing leaves before it came.
 pub mod Pieces
-pub mod RxUpTo
+mod RxUpTo
 pub mod Timely
-pub mod TxUpTo
+mod TxUpTo

@@ -15,8 +15,8 @@ use Rattle.tp_attempts.specs.Walk.{Piece, joined, walk_of}
 use Rattle.tp_sender.specs.Frame.{part_after}
 use Rattle.tp_unit.specs.Shape.{address_size}
 use Rattle.gw_law.specs.Delivery.{IsNamed}
-use Rattle.gw_law.specs.Run.{Route}
-use Rattle.gw_law.specs.Timely.{bytes_to, delivery_of_route}
+use Rattle.gw_law.specs.Account.{Route}
+use Rattle.gw_law.specs.Timely.{bytes_below, delivery_of_route}
 use Rattle.sender_law.specs.Pacing.{controls_of}
 use Rattle.sender_law.specs.Transfer.{has_sent}
 use Rattle.sender_law.specs.TransmissionCauses.{IsLate}
@@ -33,14 +33,14 @@ IsOwnEnd AsTimeout = Unit {0}
 IsOwnEnd Cancelled = Unit {0}
 IsOwnEnd (RunEnd wait since) = ⊥
 
--- no destination reads a session any more: its destination ended by itself, in an earlier tick
+-- a destination no longer reads a session: it ended by itself, in a tick below a window from the session's end on
 pub record IsUnread (r : Route) (session : SessionRecord) : Type 0 where
   pub opened : OpenedAt
   pub opened_is : session.opened ≡ Some opened
   pub told : DestRecord
   pub told_is : slice_get r.leg.dests opened.seq ≡ Some told
   pub seq_is : told.seq ≡ opened.seq
-  pub before : told.end.0 < session.end.0
+  pub before : told.end.0 < session.end.0 + r.window
   pub cause : IsOwnEnd told.result
 
 -- each record that tells that no destination reads
@@ -53,13 +53,13 @@ pub data Lacks (r : Route) (session : SessionRecord) (sent : ℕ) : Type 0 where
   LacksNext : session.bytes < sent + part_after r.leg.tx.shape session.len sent → Lacks r session sent
   LacksStart : sent ≡ 0 → session.bytes ≢ session.len → (r.leg.tx.store ≡ false → cells_of session.bytes < r.leg.tx.threshold) → Lacks r session sent
 
--- the source ended by then, before its unit was whole, and without what comes next
+-- the source ended below a window from then on, before its unit was whole, and without what comes next
 pub record HasLostSource (r : Route) (told : DestRecord) : Type 0 where
   pub unit : Cut Seen
   pub session : SessionRecord
   pub named : IsNamed (delivery_of_route r) told.seq unit session
   pub broken : session.result ≢ Whole
-  pub ended : session.end.0 ≤ told.end.0
+  pub ended : session.end.0 < told.end.0 + r.window
   pub lacks : Lacks r session told.sent
 
 -- so many bytes of the source's unit were seen, and they are fewer than the next frame takes
@@ -91,12 +91,12 @@ AreShort r = AllByRecursion (λ (told : DestRecord). IsShortBy r told told.resul
 abbrev pub left_before : ℕ → List Piece → List Piece
 left_before tick pieces = filter (λ (piece : Piece). nat_lt piece.at tick) pieces
 
--- the bytes of a session that came up to a tick, at most those that were put
+-- the bytes of a session that came in ticks below a window from a tick on, at most those that were put
 abbrev pub came_by : Route → Cut Seen → SessionRecord → ℕ → ℕ
-came_by r unit session tick = min (bytes_to tick (walk_of r.source.rx.a unit).pieces) session.bytes
+came_by r unit session tick = min (bytes_below (tick + r.window) (walk_of r.source.rx.a unit).pieces) session.bytes
 
 -- by a tick a destination waits too long for bytes: its start left before, the next frame was allowed at least as many ticks ago as the limit,
--- and fewer bytes of the session came up to the tick than were sent and the next frame carries
+-- and fewer bytes of the session came in ticks below a window from it on than were sent and the next frame carries
 pub record WaitsTooLong (r : Route) (unit : Cut Seen) (session : SessionRecord) (begin : ℕ) (pieces : List Piece) (tick : ℕ) : Type 0 where
   pub started : 0 < length (left_before tick pieces)
   pub late : IsLate r.leg.tx.n_cs (controls_of r.leg.tx.period r.leg.answers) begin (map (λ (piece : Piece). piece.at) (left_before tick pieces)) tick

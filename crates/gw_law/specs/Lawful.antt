@@ -1,24 +1,47 @@
--- The laws of a run over one path with one destination: what its logs, its outputs and its report say together.
-use Rattle.gw_law.specs.Delivery.{AreOfEach, DeliveryLaw}
-use Rattle.gw_law.specs.Emission.{BusLaw}
-use Rattle.receiver_law.specs.Channel.{is_full}
+-- The laws of a run: what its configuration, its logs, its outputs and its report say together.
+use Rattle.std.specs.Prelude.{◌≡◌, ℕ, Bool, Some, slice_get}
+use Rattle.std.specs.List.{AllByRecursion}
 use Rattle.receiver_law.specs.FlowControls.{FlowControlLaw}
-use Rattle.gw_law.specs.JointCauses.{JointCauses}
-use Rattle.gw_law.specs.PoolOfRoute.{PoolOf}
 use Rattle.receiver_law.specs.ReceptionCauses.{AreCaused, AreNeverBoxed}
-use Rattle.gw_law.specs.Records.{RecordsLaw}
-use Rattle.gw_law.specs.Run.{Route}
 use Rattle.receiver_law.specs.Source.{SourceLaw}
-use Rattle.gw_law.specs.Timely.{TimelyLaw, delivery_of_route}
 use Rattle.sender_law.specs.Channel.{never_full}
+use Rattle.sender_law.specs.Emission.{DataEmission, DestRecords}
 use Rattle.sender_law.specs.TransmissionCauses.{TransmissionCauses}
+use Rattle.gw_law.specs.Account.{Account, Route, dest_in, is_full_for, route_in, source_in}
+use Rattle.gw_law.specs.Delivery.{AreOfEach, DeliveryLaw}
+use Rattle.gw_law.specs.Emission.{BusLaw, ControlEmission, NoOthers}
+use Rattle.gw_law.specs.JointCauses.{JointCauses}
+use Rattle.gw_law.specs.Plan.{Receiving, Sending}
+use Rattle.gw_law.specs.PoolOfAccount.{PoolOf}
+use Rattle.gw_law.specs.Records.{SessionRecords}
+use Rattle.gw_law.specs.Timely.{TimelyLaw, delivery_of_route}
 
--- what is told of a run keeps all laws
-pub record Lawful (r : Route) : Type 0 where
-  -- whose the records are, and that they lie within the run, one after another
-  pub records : RecordsLaw r
-  -- the records of the source channel are those of its attempts
-  pub source : SourceLaw r.source.rx.chan.0 r.source.rx.a r.source.rx.functional r.source.seen r.source.sessions
+-- the bus of a source channel has no place for its flow control in a tick
+abbrev pub is_full_at : Account → Receiving → ℕ → Bool
+is_full_at a r tick = is_full_for (a.plan.budget r.bus) (a.left r.bus) r.shape.id tick
+
+-- a source channel, over the frames that came to it, its flow controls that left, and its records
+pub record IsLawfulSource (a : Account) (r : Receiving) : Type 0 where
+  -- the records are those of the channel's attempts, one for each, in order
+  pub source : SourceLaw r.set.chan.0 r.set.a r.set.functional (source_in a r).seen (source_in a r).sessions
+  -- whose they are, that they lie within the run, and that one follows another
+  pub records : SessionRecords (source_in a r)
+  -- at most one flow control leaves in a tick; which ones leave, and where one that is owed doesn't, its bus was full
+  pub emission : ControlEmission (source_in a r)
+  pub controls : FlowControlLaw (is_full_at a r) (source_in a r)
+  -- each record comes of its cause, and no earlier one is passed over
+  pub receptions : AreCaused (is_full_at a r) (source_in a r)
+  pub never_boxed : AreNeverBoxed (source_in a r)
+
+-- a destination of a path, over the flow controls that came to its channel, the data frames that left, and its records
+pub record IsLawfulDest (a : Account) (s : Sending) : Type 0 where
+  pub records : DestRecords (dest_in a s)
+  pub emission : DataEmission (dest_in a s)
+  -- each record comes of its cause, and no earlier one is passed over; no data frame waits for its bus
+  pub transmissions : TransmissionCauses never_full (dest_in a s)
+
+-- a path from its source channel to one of its destinations
+pub record IsLawfulRoute (r : Route) : Type 0 where
   -- the destination's transmissions reassemble, in source order, to the first bytes, as many as its records tell, of the source
   -- units that the records name
   pub delivery : DeliveryLaw (delivery_of_route r)
@@ -26,14 +49,17 @@ pub record Lawful (r : Route) : Type 0 where
   pub each : AreOfEach r.source.sessions r.leg.dests
   -- nothing leaves before its bytes came, and each frame is a counted one of a transmission
   pub timely : TimelyLaw r
-  -- the moves of the pool replay, and at the end each buffer is free
-  pub pool : PoolOf r
-  -- what each bus sends in a tick
-  pub bus : BusLaw r
-  -- which flow controls leave, where their bus isn't full
-  pub controls : FlowControlLaw (is_full r.source) r.source
-  -- each record comes of its cause, and no earlier one is passed over; no data frame waits for its bus
-  pub receptions : AreCaused (is_full r.source) r.source
-  pub never_boxed : AreNeverBoxed r.source
-  pub transmissions : TransmissionCauses never_full r.leg
+  -- records whose end the other party's part decides come of their causes
   pub joint : JointCauses r
+
+-- what is told of a run keeps all laws
+pub record Lawful (a : Account) : Type 0 where
+  pub sources : AllByRecursion (IsLawfulSource a) a.plan.receivers
+  pub dests : AllByRecursion (IsLawfulDest a) a.plan.senders
+  pub routes : (place other : ℕ) (r : Receiving) (s : Sending) → slice_get a.plan.receivers place ≡ Some r → slice_get a.plan.senders other ≡ Some s → s.set.path.0 ≡ r.set.path.0 → IsLawfulRoute (route_in a r s)
+  -- no record is of another channel or destination
+  pub no_others : NoOthers a
+  -- the moves of the pool replay, and at the end each buffer is free
+  pub pool : PoolOf a
+  -- what each bus sends in a tick
+  pub buses : (bus : ℕ) → BusLaw a bus

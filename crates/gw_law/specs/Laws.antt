@@ -8,12 +8,12 @@ use Rattle.tp_receiver.specs.State.{RxTurn}
 use Rattle.tp_receiver.specs.declared.set.RxSet.{RxSet}
 use Rattle.tp_sender.specs.State.{TxTurn, tx_new}
 use Rattle.tp_sender.specs.declared.set.TxSet.{TxSet}
-use Rattle.tp_unit.specs.declared.shape.Shape.{Shape}
+use Rattle.gw_law.specs.Account.{Account}
+use Rattle.gw_law.specs.Deeds.{Deeds, Window}
 use Rattle.gw_law.specs.Delivery.{AreOfEach, AreWholeRuns, DeliveryLaw, delivery_of}
 use Rattle.gw_law.specs.Lawful.{Lawful}
 use Rattle.gw_law.specs.Pool.{AreAllOver, AreAllUsed, AreNamed, IsPoolRun, PoolEnds, PoolLaw, Source, channel_of}
-use Rattle.gw_law.specs.Run.{HasLawfulLimits, IsRun, Work, route_of}
-use Rattle.gw_law.specs.Small.{IsSmall}
+use Rattle.gw_law.specs.Run.{AreAllShort, IsNeverBusy, IsRun}
 
 -- the frames that a sender wrote deliver what the receiver of its path got
 abbrev pub RunsDeliver : Type 0
@@ -41,8 +41,6 @@ TakesAreNamed = (sources : List Source) (sizes : List ℕ) (count free : ℕ) (v
 abbrev pub PoolsEnd : Type 0
 PoolsEnd = (sources : List Source) (sizes : List ℕ) (count free : ℕ) (v : View) (moves : List Move) → IsPoolRun sources sizes count free v moves → AreAllOver v → PoolEnds sizes free (map channel_of sources) moves
 
--- what every whole run tells, with limits of at least a tick and messages that fit the one buffer, keeps all laws
+-- what every run tells whose buses are never full and whose messages are short keeps all laws
 abbrev pub RunsAreLawful : Type 0
-RunsAreLawful = (rx : RxSet) (tx : TxSet) (shape : Shape) (source_budget budget : ℕ) (sizes : List ℕ) (last count free : ℕ) (ticks : List Work) (end : Work) →
-    HasLawfulLimits rx tx shape source_budget budget → IsSmall (route_of rx tx shape source_budget budget sizes last count free ticks end) →
-    IsRun rx tx sizes last count free ticks end → Lawful (route_of rx tx shape source_budget budget sizes last count free ticks end)
+RunsAreLawful = (a : Account) (d : Deeds) (windows : List Window) (v : View) → IsRun a d windows v → IsNeverBusy d → AreAllShort d → Lawful a

@@ -1,11 +1,14 @@
+pub mod Account
+pub mod Channels
+pub mod Deeds
 pub mod Delivery
 pub mod Emission
 pub mod JointCauses
 pub mod Lawful
 pub mod Laws
+pub mod Plan
 pub mod Pool
-pub mod PoolOfRoute
+pub mod PoolOfAccount
 pub mod Records
 pub mod Run
-pub mod Small
 pub mod Timely

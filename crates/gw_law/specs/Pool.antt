@@ -1,5 +1,5 @@
 -- What the moves of the pool of buffers are, and what the records of the source channels say of them (this project's own).
-use Rattle.std.specs.Prelude.{◌≡◌, ℕ, ◌+◌, ◌-◌, ◌^◌, ◌<◌, ◌≤◌, ◌==◌, ◌↔◌, if◌then◌else◌, zero, suc, true, false, Option, Some, None, List, length, map, find, slice_get, IsBitSet}
+use Rattle.std.specs.Prelude.{◌≡◌, ℕ, ◌+◌, ◌-◌, ◌^◌, ◌<◌, ◌≤◌, ◌==◌, ◌↔◌, if◌then◌else◌, zero, suc, true, false, Option, Some, None, List, length, map, find, slice_get, IsBitSet, [], ◌∷◌}
 use Rattle.hub_core.specs.Moves.{move_of}
 use Rattle.tp_receiver.specs.Table.{cells_of}
 use Rattle.tp_receiver.specs.State.{RxTurn, rx_new}
@@ -8,7 +8,9 @@ use Rattle.hub_core.specs.Turns.{calls_by, came_by, state_after, records_by}
 use Rattle.std.specs.List.{AllByRecursion, AllZip}
 use Rattle.gw_base.specs.Fit.{IsSmallest, NoneFits}
 use Rattle.gw_base.specs.declared.numbers.BufNo.{BufNo}
-use Rattle.hub_core.specs.Joint.{Joint, IsOver, number_of, numbered}
+use Rattle.hub_core.specs.Journal.{number_of, numbered}
+use Rattle.hub_core.specs.Groups.{IsWordOf}
+use Rattle.hub_core.specs.Joint.{Joint, IsOver}
 use Rattle.hub_core.specs.View.{View, Event, Session, Taken, empty_view, grows, session_at}
 use Rattle.hub_core.specs.View.{Took, Refused, Entered, Asked, Put, Published, Joining, Missed, Saw, Read, Closed, Parted}
 use Rattle.hub_core.specs.declared.record.Move.{Move}
@@ -138,14 +140,14 @@ pub record PoolEnds (sizes : List ℕ) (free : ℕ) (channels : List Channel) (m
 
 -- a take and an overflow of a call stand in a view
 abbrev pub IsIn : View → Event → Type 0
-IsIn v (Took number buf size need) = (place : ℕ) × (slice_get v.changes place ≡ Some (Taken number buf need))
-IsIn v (Refused number free need) = (place : ℕ) × (slice_get v.refused place ≡ Some (record { number = number; free = free; need = need }))
+IsIn v (Took group number buf size need) = (place : ℕ) × (slice_get v.changes place ≡ Some (Taken number buf need))
+IsIn v (Refused group number free need) = (place : ℕ) × (slice_get v.refused place ≡ Some (record { group = group; number = number; free = free; need = need }))
 IsIn v (Entered path seq buf number size len readers) = Unit {0}
 IsIn v (Asked path seq cells readers) = Unit {0}
 IsIn v (Put path seq cell) = Unit {0}
 IsIn v (Published path seq bytes) = Unit {0}
 IsIn v (Joining path dest seq buf len) = Unit {0}
-IsIn v (Missed path dest seq) = Unit {0}
+IsIn v (Missed group path dest seq) = Unit {0}
 IsIn v (Saw path dest seq cells bytes writer) = Unit {0}
 IsIn v (Read path dest seq cell) = Unit {0}
 IsIn v (Closed path seq freed) = Unit {0}
@@ -170,7 +172,8 @@ pub record IsWholeRun (v : View) (source : Source) : Type 0 where
 
 -- whole runs of the receivers of all paths that have sessions, each of a path of its own, and the changes of their hub in order
 pub record IsPoolRun (sources : List Source) (sizes : List ℕ) (count free : ℕ) (v : View) (moves : List Move) : Type 0 where
-  pub joint : Joint sizes count free v
+  pub joint : Joint (sizes ∷ []) v
+  pub word : IsWordOf (sizes ∷ []) 0 v count free
   pub moves_are : moves ≡ map move_of v.changes
   pub in_order : CountsFrom 1 (map number_of v.changes)
   pub runs : AllByRecursion (IsWholeRun v) sources

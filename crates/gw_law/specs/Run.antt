@@ -1,145 +1,62 @@
--- What a run over one path with one destination did, tick by tick: the steps of the source channel's receiver and of the
--- destination's sender, and what the hub said after each bus's work. The newest of everything stands first.
-use Rattle.std.specs.Prelude.{◌≡◌, ◌⊎◌, ℕ, ◌+◌, ◌≤◌, None, List, [], ◌∷◌, ◌++◌, length, map}
-use Rattle.tp_sender.specs.Runs.{HasSent, controls_in, left_by}
-use Rattle.tp_sender.specs.State.{TxTurn, tx_new}
-use Rattle.tp_receiver.specs.State.{RunEnd, RxTurn, rx_new}
+-- What a run is: runs of all machines, on buses that send in order, over one hub whose view is joint after each window.
+use Rattle.std.specs.Prelude.{◌≡◌, ℕ, ◌≤◌, true, List, [], ◌∷◌, length, map}
+use Rattle.std.specs.List.{AllByRecursion, AllZip}
+use Rattle.hub_core.specs.Groups.{IsWordOf}
+use Rattle.hub_core.specs.Joint.{Joint}
+use Rattle.hub_core.specs.Journal.{number_of}
 use Rattle.hub_core.specs.Moves.{move_of}
-use Rattle.tp_receiver.specs.Runs.{HasReceived, frames_in}
-use Rattle.hub_core.specs.Turns.{calls_by, came_by, state_after, records_by}
-use Rattle.std.specs.List.{AllByRecursion}
-use Rattle.hub_core.specs.Joint.{Joint, number_of}
-use Rattle.hub_core.specs.View.{View, empty_view, grows}
-use Rattle.hub_core.specs.declared.record.Move.{Move}
-use Rattle.tp_receiver.specs.declared.set.RxSet.{RxSet}
-use Rattle.tp_sender.specs.declared.event.TxEvent.TheVariants.{RunEnd}
-use Rattle.tp_sender.specs.declared.set.TxSet.{TxSet}
-use Rattle.tp_unit.specs.Shape.{IsShape}
-use Rattle.tp_unit.specs.declared.shape.Shape.{Shape}
-use Rattle.receiver_law.specs.Channel.{SourceChannel}
-use Rattle.receiver_law.specs.Parts.{AreLooks, EndsReceiving, ReceivesIn}
+use Rattle.hub_core.specs.Turns.{state_after, turns_of}
+use Rattle.hub_core.specs.View.{View}
+use Rattle.receiver_law.specs.Looks.{AreShort}
+use Rattle.receiver_law.specs.RxRun.{IsRxRun, RxRun, source_of, turns_in as received_in}
 use Rattle.receiver_law.specs.Source.{CountsFrom}
-use Rattle.sender_law.specs.Channel.{DestChannel}
-use Rattle.sender_law.specs.Parts.{IsStepIn, SendsIn}
-use Rattle.tp_receiver.specs.Runs.{controls_by}
+use Rattle.sender_law.specs.Runs.{IsTxRun, TxRun, leg_of, turns_in as sent_in}
+use Rattle.tp_sender.specs.State.{tx_new}
+use Rattle.tp_unit.specs.Box.{IsNeverFull}
+use Rattle.gw_law.specs.Account.{Account, dest_in, is_full_for, source_in}
+use Rattle.gw_law.specs.Deeds.{AreWindows, Deeds, IsJoined, LiesWithin, Window}
+use Rattle.gw_law.specs.Emission.{BusLaw, NoOthers}
+use Rattle.gw_law.specs.Plan.{IsLawfulPlan, Receiving, Sending}
 
--- what was done in a tick: first the turns of the receiver, then the moments of the sender
-pub record Work : Type 0 where
-  pub tick : ℕ
-  pub turns : List RxTurn
-  pub moments : List TxTurn
+-- a receiver's run, whose flow controls wait only where their bus has no place for them, and which tells what is told of its channel
+pub record IsReceiverRun (a : Account) (r : Receiving) (run : RxRun) : Type 0 where
+  pub run_is : IsRxRun run
+  pub full : (tick : ℕ) → run.full tick ≡ true → is_full_for (a.plan.budget r.bus) (a.left r.bus) r.shape.id tick ≡ true
+  pub tells : source_of (a.plan.budget r.bus) run ≡ source_in a r
 
--- all turns, and all moments
-abbrev pub turns_of : List Work → List RxTurn
-turns_of [] = []
-turns_of (work ∷ earlier) = work.turns ++ turns_of earlier
+-- the same for a sender
+pub record IsSenderRun (a : Account) (s : Sending) (run : TxRun) : Type 0 where
+  pub run_is : IsTxRun run
+  pub full : (tick : ℕ) → run.full tick ≡ true → is_full_for (a.plan.budget s.bus) (a.left s.bus) s.set.shape.id tick ≡ true
+  pub tells : leg_of (a.plan.budget s.bus) run ≡ dest_in a s
 
-abbrev pub moments_of : List Work → List TxTurn
-moments_of [] = []
-moments_of (work ∷ earlier) = work.moments ++ moments_of earlier
+-- a sender has joined each session of its path
+abbrev pub HasJoinedAll : View → TxRun → Type 0
+HasJoinedAll v run = length (v.sessions run.set.path.0) ≤ (state_after tx_new (sent_in run)).next
 
--- the hub's view after all that was done
-abbrev pub view_of : List Work → View
-view_of [] = empty_view
-view_of (work ∷ earlier) = grows (calls_by work.moments) (grows (calls_by work.turns) (view_of earlier))
+-- a run, by what each machine did and by the barriers between its windows; at its end the machines were told so, and the view is
+-- that of all their turns
+pub record IsRun (a : Account) (d : Deeds) (windows : List Window) (v : View) : Type 0 where
+  pub plan : IsLawfulPlan a.plan
+  pub receivers : AllZip (IsReceiverRun a) a.plan.receivers d.receivers
+  pub senders : AllZip (IsSenderRun a) a.plan.senders d.senders
+  pub buses : (bus : ℕ) → BusLaw a bus
+  pub no_others : NoOthers a
+  pub windows_are : AreWindows (a.plan.sizes ∷ []) a.plan.window d windows
+  pub received_within : AllByRecursion (λ (run : RxRun). LiesWithin windows run.parts) d.receivers
+  pub sent_within : AllByRecursion (λ (run : TxRun). LiesWithin windows run.parts) d.senders
+  pub joint : Joint (a.plan.sizes ∷ []) v
+  pub word : IsWordOf (a.plan.sizes ∷ []) 0 v a.count a.free
+  pub moves : a.moves ≡ map move_of v.changes
+  pub in_order : CountsFrom 1 (map number_of v.changes)
+  pub joined : IsJoined d received_in sent_in v
+  pub served : AllByRecursion (HasJoinedAll v) d.senders
 
--- the hub's view in the midst of a tick's work, once the source's bus is done
-abbrev pub view_between : List Work → Work → View
-view_between earlier work = grows (calls_by work.turns) (view_of earlier)
+-- no bus is ever full for a machine's frame
+pub record IsNeverBusy (d : Deeds) : Type 0 where
+  pub receivers : AllByRecursion (λ (run : RxRun). IsNeverFull run.full) d.receivers
+  pub senders : AllByRecursion (λ (run : TxRun). IsNeverFull run.full) d.senders
 
--- the tick of the last work, and the one after it; 0 where nothing was done
-abbrev pub tick_after : List Work → ℕ
-tick_after [] = 0
-tick_after (work ∷ earlier) = work.tick + 1
-
--- the hub's word and view are joint
-abbrev pub IsJoint : List ℕ → View → Type 0
-IsJoint sizes v = (count : ℕ) × (free : ℕ) × Joint sizes count free v
-
--- nothing is received and nothing is sent
-pub record IsIdle (works : List Work) : Type 0 where
-  pub receiver : (state_after rx_new (turns_of works)).busy ≡ None
-  pub sender : (state_after tx_new (moments_of works)).live ≡ None
-
--- the work of one tick, after that of earlier ones; no tick is left out but where all is idle
-pub record IsTick (sizes : List ℕ) (earlier : List Work) (work : Work) : Type 0 where
-  pub later : tick_after earlier ≤ work.tick
-  pub next : IsIdle earlier ⊎ (work.tick ≡ tick_after earlier)
-  pub receives : ReceivesIn work.tick (turns_of earlier) work.turns
-  pub looks : AreLooks (view_of earlier) work.turns
-  pub between : IsJoint sizes (view_between earlier work)
-  pub sends : SendsIn work.tick (moments_of earlier) work.moments
-  pub after : IsJoint sizes (view_of (work ∷ earlier))
-
-abbrev pub AreTicks : List ℕ → List Work → Type 0
-AreTicks sizes [] = Unit {0}
-AreTicks sizes (work ∷ earlier) = IsTick sizes earlier work × AreTicks sizes earlier
-
--- the run's end in its last tick, after the work of its ticks: no reception and no transmission goes on, and each session was joined
-pub record IsEnd (sizes : List ℕ) (path last : ℕ) (ticks : List Work) (end : Work) : Type 0 where
-  pub tick_is : end.tick ≡ last
-  pub in_time : tick_after ticks ≤ last + 1
-  pub reached : IsIdle ticks ⊎ (tick_after ticks ≡ last + 1)
-  pub receives : EndsReceiving last end.turns
-  pub between : IsJoint sizes (view_between ticks end)
-  pub sends : AllByRecursion (IsStepIn last RunEnd) end.moments
-  pub idle : IsIdle (end ∷ ticks)
-  pub joined : length ((view_of (end ∷ ticks)).sessions path) ≤ (state_after tx_new (moments_of (end ∷ ticks))).next
-
--- a whole run of a path with one destination, from the first tick to the end
-pub record IsRun (rx : RxSet) (tx : TxSet) (sizes : List ℕ) (last count free : ℕ) (ticks : List Work) (end : Work) : Type 0 where
-  pub shape : IsShape tx.shape
-  pub path : tx.path ≡ rx.path
-  pub readers : rx.readers ≡ 1
-  pub ticks_are : AreTicks sizes ticks
-  pub ends : IsEnd sizes rx.path.0 last ticks end
-  pub received : HasReceived rx (turns_of (end ∷ ticks))
-  pub sent : HasSent tx (moments_of (end ∷ ticks))
-  pub joint : Joint sizes count free (view_of (end ∷ ticks))
-  pub in_order : CountsFrom 1 (map number_of (view_of (end ∷ ticks)).changes)
-
--- what is told of a run: its source channel and its destination's channel, the cells of the pool's buffers, the pool's moves,
--- their number and the last free set
-pub record Route : Type 0 where
-  pub source : SourceChannel
-  pub leg : DestChannel
-  pub sizes : List ℕ
-  pub moves : List Move
-  pub count : ℕ
-  pub free : ℕ
-
--- what a run tells
-abbrev pub route_of : RxSet → TxSet → Shape → (source_budget budget : ℕ) → List ℕ → (last count free : ℕ) → (ticks : List Work) → (end : Work) → Route
-route_of rx tx shape source_budget budget sizes last count free ticks end = record {
-  source = record {
-    rx = rx;
-    shape = shape;
-    budget = source_budget;
-    last = last;
-    seen = came_by frames_in (turns_of (end ∷ ticks));
-    controls = controls_by shape (turns_of (end ∷ ticks));
-    sessions = records_by (turns_of (end ∷ ticks));
-  };
-  leg = record {
-    tx = tx;
-    budget = budget;
-    last = last;
-    answers = came_by controls_in (moments_of (end ∷ ticks));
-    frames = left_by tx.shape (moments_of (end ∷ ticks));
-    dests = records_by (moments_of (end ∷ ticks));
-  };
-  sizes = sizes;
-  moves = map move_of (view_of (end ∷ ticks)).changes;
-  count = count;
-  free = free;
-}
-
--- the limits are of at least a tick, each bus may send a frame in a tick, and the flow controls have a lawful shape
-pub record HasLawfulLimits (rx : RxSet) (tx : TxSet) (shape : Shape) (source_budget budget : ℕ) : Type 0 where
-  pub shape_is : IsShape shape
-  pub n_ar : 1 ≤ rx.n_ar
-  pub n_cr : 1 ≤ rx.n_cr
-  pub n_as : 1 ≤ tx.n_as
-  pub n_bs : 1 ≤ tx.n_bs
-  pub source_budget_is : 1 ≤ source_budget
-  pub budget_is : 1 ≤ budget
+-- each message that comes fits a buffer of four cells, as each look at the room shows
+abbrev pub AreAllShort : Deeds → Type 0
+AreAllShort d = AllByRecursion (λ (run : RxRun). AreShort run.set (turns_of run.parts)) d.receivers

@@ -1,5 +1,5 @@
 -- When a destination's frames leave, and what they are: none leaves before its bytes came (ISO 15765-2, segmentation and reassembly).
-use Rattle.std.specs.Prelude.{◌≡◌, ℕ, ◌≤◌, false, nat_le, List, filter, length, map}
+use Rattle.std.specs.Prelude.{◌≡◌, ℕ, ◌+◌, ◌<◌, ◌≤◌, false, nat_le, nat_lt, List, filter, length, map}
 use Rattle.tp_unit.specs.Box.{Written}
 use Rattle.std.specs.List.{AllByRecursion, AllZip, flat_map}
 use Rattle.hub_core.specs.declared.record.DestRecord.{DestRecord}
@@ -12,7 +12,7 @@ use Rattle.tp_unit.specs.Shape.{address_size}
 use Rattle.gw_law.specs.Delivery.{Delivery, IsNamed}
 use Rattle.sender_law.specs.Channel.{IsOfChannel}
 use Rattle.sender_law.specs.Pacing.{controls_of}
-use Rattle.gw_law.specs.Run.{Route}
+use Rattle.gw_law.specs.Account.{Route}
 use Rattle.sender_law.specs.Transfer.{has_sent, seen_of}
 
 -- the source channel and the destination of a route
@@ -28,17 +28,22 @@ delivery_of_route r = record {
   records = r.leg.dests;
 }
 
--- the number of bytes in the pieces up to that tick
+-- the number of bytes in the pieces up to that tick, and in those of earlier ticks
 abbrev pub bytes_to : ℕ → List Piece → ℕ
 bytes_to tick pieces = length (joined (filter (λ (piece : Piece). nat_le piece.at tick) pieces))
 
--- a destination's record begins no earlier than the record of the session that it names
-abbrev pub BeginsAfter : Delivery → DestRecord → Type 0
-BeginsAfter d told = (unit : Cut Seen) (session : SessionRecord) → IsNamed d told.seq unit session → session.begin.0 ≤ told.begin.0
+abbrev pub bytes_below : ℕ → List Piece → ℕ
+bytes_below tick pieces = length (joined (filter (λ (piece : Piece). nat_lt piece.at tick) pieces))
 
--- up to each tick a transmission has sent no more bytes than had come of the source unit that its record names
-abbrev pub IsTimely : Delivery → Cut Seen → DestRecord → Type 0
-IsTimely d cut told = (unit : Cut Seen) (session : SessionRecord) → IsNamed d told.seq unit session → (tick : ℕ) → bytes_to tick (walk_of d.address cut).pieces ≤ bytes_to tick (walk_of d.source unit).pieces
+-- a destination's record begins by less than a window earlier than the record of the session that it names, and in windows of one
+-- tick no earlier
+abbrev pub BeginsAfter : (window : ℕ) → Delivery → DestRecord → Type 0
+BeginsAfter window d told = (unit : Cut Seen) (session : SessionRecord) → IsNamed d told.seq unit session → session.begin.0 < told.begin.0 + window
+
+-- up to each tick a transmission has sent no more bytes than come of the source unit that its record names in ticks below a window
+-- from that one on
+abbrev pub IsTimely : (window : ℕ) → Delivery → Cut Seen → DestRecord → Type 0
+IsTimely window d cut told = (unit : Cut Seen) (session : SessionRecord) → IsNamed d told.seq unit session → (tick : ℕ) → bytes_to tick (walk_of d.address cut).pieces ≤ bytes_below (tick + window) (walk_of d.source unit).pieces
 
 -- the ticks of a transmission's counted frames
 abbrev pub counted_ticks : ℕ → Cut Seen → List ℕ
@@ -46,7 +51,7 @@ counted_ticks address cut = map (λ (piece : Piece). piece.at) (walk_of address 
 
 -- no record and no frame of the destination comes before its time, all frames are the channel's own, and each is a counted frame of a transmission
 pub record TimelyLaw (r : Route) : Type 0 where
-  pub begins : AllByRecursion (BeginsAfter (delivery_of_route r)) r.leg.dests
-  pub timely : AllZip (IsTimely (delivery_of_route r)) (attempts_in false (delivery_of_route r).frames) (filter has_sent r.leg.dests)
+  pub begins : AllByRecursion (BeginsAfter r.window (delivery_of_route r)) r.leg.dests
+  pub timely : AllZip (IsTimely r.window (delivery_of_route r)) (attempts_in false (delivery_of_route r).frames) (filter has_sent r.leg.dests)
   pub own : AllByRecursion (IsOfChannel r.leg.tx.shape) r.leg.frames
   pub counted : map (λ (written : Written). written.tick) r.leg.frames ≡ flat_map (counted_ticks (delivery_of_route r).address) (attempts_in false (delivery_of_route r).frames)

@@ -7,7 +7,7 @@ use Rattle.tp_receiver.specs.State.{RxTurn}
 use Rattle.hub_core.specs.Turns.{calls_by, came_by}
 use Rattle.hub_core.specs.View.{View, grows}
 use Rattle.sender_law.specs.Parts.{FrameLeaves}
-use Rattle.gw_law.specs.Run.{Work, moments_of, turns_of, view_of}
+use Rattle.gw_run.specs.Works.{Work, moments_of, turns_of, view_of}
 use Rattle.tp_attempts.specs.Seen.{Seen}
 use Rattle.tp_sender.specs.declared.event.TxEvent.{TxEvent}
 use Rattle.tp_sender.specs.declared.event.TxEvent.TheVariants.{Turn, Fc, Left}

@@ -3,7 +3,7 @@ use Rattle.std.proofs.Common.{◌≡◌, ◌⊎◌, inl, inr, ℕ, ◌-◌, ◌�
 use Rattle.tp_unit.specs.Box.{Answer}
 use Rattle.tp_receiver.specs.State.{RxState, RxTurn}
 use Rattle.hub_core.specs.View.{View}
-use Rattle.gw_law.specs.Run.{IsIdle, Work, moments_of, turns_of, view_of}
+use Rattle.gw_run.specs.Works.{IsIdle, Work, moments_of, turns_of, view_of}
 use Rattle.tp_attempts.specs.Seen.{Seen}
 use Rattle.tp_sender.specs.State.{TxState, TxTurn}
 use Rattle.gw_run.specs.declared.gateway.Gateway.{Gateway}

@@ -7,6 +7,7 @@ use Rattle.tp_receiver.specs.State.{RxEvent, Came, RxTurn}
 use Rattle.std.proofs.lemmas.Bool.Decides.{nat_tests}
 use Rattle.can_frame.specs.Frame.{CanFrame, IsLawful}
 use Rattle.can_frame.specs.Length.{length_fits}
+use Rattle.gw_base.specs.declared.numbers.GroupNo.{GroupNo}
 use Rattle.gw_base.specs.declared.numbers.PathNo.{PathNo}
 use Rattle.hub_core.specs.View.{View}
 use Rattle.tp_attempts.specs.Seen.{Seen}
@@ -26,10 +27,11 @@ pub can-tell : (g : Gateway) (t tick : ℕ) (turns : List RxTurn) (moments : Lis
 can-tell g t tick turns moments view event s by can =
     let set = s.receives.set in
     let path : g.receiver.set.path.0 ≡ 0 = ap (λ (r : RxSet). r.path.0) set ∙ g.machines.are.path in
+    let group : g.receiver.set.group.0 ≡ 0 = ap (λ (r : RxSet). r.group.0) set ∙ g.machines.are.group in
     let readers : g.receiver.set.readers ≡ 1 = ap (λ (r : RxSet). r.readers) set ∙ g.machines.are.readers in
     let P : View → Type 0 = λ v. Knows v g.receiver in
     record {
-      acts = record { writes = ap (λ n. nat_lt n 64) path; most = omega (arith, readers) };
+      acts = record { writes = ap (λ n. nat_lt n 64) path; most = omega (arith, readers); group = omega (arith, group) };
       knows = subst P (sym s.pool.view_is) s.receives.knows;
       waits = waits-later g.receiver.state t tick by s.receives.waits;
       can = can;
@@ -56,12 +58,14 @@ pub can-tell-sender : (g : Gateway) (t tick : ℕ) (turns : List RxTurn) (moment
 can-tell-sender g t tick turns moments view event s by low left =
     let set = s.sends.set in
     let path : g.sender.set.path.0 ≡ 0 = ap (λ (r : TxSet). r.path.0) set ∙ ap (λ (p : PathNo). p.0) g.machines.are.same_path ∙ g.machines.are.path in
+    let group : g.sender.set.group.0 ≡ 0 = ap (λ (r : TxSet). r.group.0) set ∙ ap (λ (k : GroupNo). k.0) g.machines.are.same_group ∙ g.machines.are.group in
     let dest : g.sender.set.dest.0 ≡ 0 = ap (λ (r : TxSet). r.dest.0) set ∙ g.machines.are.dest in
     let P : View → Type 0 = λ v. KnowsPort v g.sender in
     record {
       knows = subst P (sym s.pool.view_is) s.sends.knows;
-      acts = ap (λ n. nat_lt n 64 && nat_lt g.sender.set.dest.0 8) path ∙ ap (λ n. nat_lt 0 64 && nat_lt n 8) dest;
+      acts = record { reads = ap (λ n. nat_lt n 64 && nat_lt g.sender.set.dest.0 8) path ∙ ap (λ n. nat_lt 0 64 && nat_lt n 8) dest; group = omega (arith, group) };
       dest = dest;
+      group = group;
       since = omega (arith, s.sends.since);
       tick_is = low;
       left = left;

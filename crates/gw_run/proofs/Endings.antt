@@ -6,7 +6,10 @@ use Rattle.tp_receiver.proofs.Made.{idle-ended}
 use Rattle.hub_core.specs.Turns.{came_by, calls_by}
 use Rattle.tp_receiver.specs.Runs.{frames_in}
 use Rattle.hub_core.specs.Floors.{AreFresh, IsFresh, floors_of}
-use Rattle.hub_core.specs.Joint.{AreInOrder, Joint}
+use Rattle.hub_core.specs.Journal.{AreInOrder}
+use Rattle.hub_core.proofs.OneGroup.{same}
+use Rattle.hub_core.specs.Groups.{IsWordOf}
+use Rattle.hub_core.specs.Joint.{Joint}
 use Rattle.gw_base.specs.declared.numbers.PathNo.{PathNo}
 use Rattle.hub_core.proofs.Hubs.{is-joint, none-missed}
 use Rattle.hub_core.specs.declared.plain.PlainHub.{PlainHub}
@@ -14,7 +17,7 @@ use Rattle.hub_core.specs.View.{Event, Missed, Session, View, grows}
 use Rattle.hub_core.specs.declared.record.DestRecord.{DestRecord}
 use Rattle.hub_core.specs.declared.record.Move.{Move}
 use Rattle.hub_core.specs.declared.record.SessionRecord.{SessionRecord}
-use Rattle.gw_law.specs.Run.{IsIdle, Route, Work, moments_of, turns_of, view_of}
+use Rattle.gw_run.specs.Works.{IsIdle, RunTold, Work, moments_of, turns_of, view_of}
 use Rattle.tick_clock.specs.declared.clock.Clock.{Clock}
 use Rattle.tp_attempts.specs.Seen.{Seen}
 use Rattle.tp_receiver.specs.declared.set.RxSet.{RxSet}
@@ -25,8 +28,8 @@ use Rattle.tp_sender.specs.declared.event.TxEvent.{TxEvent}
 use Rattle.tp_sender.specs.declared.event.TxEvent.TheVariants.{RunEnd}
 use Rattle.tp_sender.specs.declared.set.TxSet.{TxSet}
 use Rattle.tp_unit.specs.Unit.{Meaning}
-use Rattle.gw_run.specs.Played.{Told}
-use Rattle.gw_run.specs.Standing.{AtBarrier, Finishes, IsQuiet, RxStands, Stands, TxStands, lying, route_with, view_in}
+use Rattle.gw_run.specs.Played.{Told, told_with}
+use Rattle.gw_run.specs.Standing.{groups_in, AtBarrier, Finishes, IsQuiet, RxStands, Stands, TxStands, lying, view_in}
 use Rattle.gw_run.specs.Telling.{EndsTelling, IsOver, Tells, TellsReceiver, TellsSender, means_in}
 use Rattle.gw_run.specs.declared.gateway.Gateway.{Gateway}
 use Rattle.gw_run.specs.declared.machines.Machines.{Machines}
@@ -57,31 +60,32 @@ ends-more g h last turns moments view ends told =
       stands = subst V (sym (grows-append (calls_by ends.more) turn.did.calls view)) stands;
     }
 
-missed-fresh : (hub : PlainHub) (path dest number : ℕ) (calls more : List Event) → dest ≡ 0 → AreFresh (floors_of (view_in hub)) (view_in hub) calls → calls ≡ Missed path dest number ∷ more → length ((view_in hub).sessions path) ≤ number
-missed-fresh hub path dest number calls more first fresh is =
-    let P : List Event → Type 0 = λ c. AreFresh (floors_of (view_in hub)) (view_in hub) c in
-    let Q : ℕ → Type 0 = λ d. IsFresh (view_in hub) (floors_of (view_in hub)) (Missed path d number) in
-    none-missed hub path number (subst Q first (subst P is fresh).0)
+missed-fresh : (hub : PlainHub) (group path dest number : ℕ) (calls more : List Event) → dest ≡ 0 → group ≡ 0 → AreFresh (floors_of (groups_in hub) (view_in hub)) (view_in hub) calls → calls ≡ Missed group path dest number ∷ more →
+    length ((view_in hub).sessions path) ≤ number
+missed-fresh hub group path dest number calls more first one fresh is =
+    let P : List Event → Type 0 = λ c. AreFresh (floors_of (groups_in hub) (view_in hub)) (view_in hub) c in
+    let Q : ℕ × ℕ → Type 0 = λ x. IsFresh (view_in hub) (floors_of (groups_in hub) (view_in hub)) (Missed x.0 path x.1 number) in
+    none-missed hub path number (subst Q (λ i. (one i, first i)) (subst P is fresh).0)
 
 no-more : (before after more : List DestRecord) → after ≡ before ++ more → length after ≤ length before → more ≡ []
 no-more before after [] is few = refl
 no-more before after (told ∷ more) is few = absurd (omega (arith, ap length is ∙ length-append before (told ∷ more), few))
 
-pub is-over : (g h : Gateway) (last : ℕ) → (set_of g.sender).dest.0 ≡ 0 → TellsSender g h RunEnd last (lying g.frame) g.frames → length h.dests ≤ length g.dests → IsOver h
-is-over g h last first told few =
+pub is-over : (g h : Gateway) (last : ℕ) → (set_of g.sender).dest.0 ≡ 0 → (set_of g.sender).group.0 ≡ 0 → TellsSender g h RunEnd last (lying g.frame) g.frames → length h.dests ≤ length g.dests → IsOver h
+is-over g h last first one told few =
     let turn = told.turn in
     let st = told.stepped in
     let next = ap (λ (s : TxState). s.next) st.state in
     let out = none-told (set_of g.sender) (state_of g.sender) turn.event turn.did (λ path. length ((view_in g.hub).sessions path)) st.event_is st.row (no-more g.dests h.dests turn.did.records told.dests few)
-    (λ number more is. missed-fresh g.hub (set_of g.sender).path.0 (set_of g.sender).dest.0 number turn.did.calls more first st.fresh is) in
+    (λ number more is. missed-fresh g.hub (set_of g.sender).group.0 (set_of g.sender).path.0 (set_of g.sender).dest.0 number turn.did.calls more first one st.fresh is) in
     let joined : length ((view_in h.hub).sessions h.sender.set.path.0) ≡ length ((view_in g.hub).sessions g.sender.set.path.0) =
     ap (λ (s : ℕ → List Session). length (s h.sender.set.path.0)) st.sessions ∙ ap (λ (x : TxSet). length ((view_in g.hub).sessions x.path.0)) st.set in
     record { live = ap (λ (s : TxState). s.live) st.state ∙ out.0; joined = omega (arith, joined, next, out.1) }
 
 -- where the sender makes a record, less is left for it
-readings-most : (sizes : List ℕ) (count free : ℕ) (v : View) (path dest number : ℕ) → Joint sizes count free v → length (v.readings path dest) ≡ number → number ≤ length (v.sessions path)
-readings-most sizes count free v path dest zero joint is = omega arith
-readings-most sizes count free v path dest (suc seq) joint is =
+readings-most : (groups : List (List ℕ)) (v : View) (path dest number : ℕ) → Joint groups v → length (v.readings path dest) ≡ number → number ≤ length (v.sessions path)
+readings-most groups v path dest zero joint is = omega arith
+readings-most groups v path dest (suc seq) joint is =
     let item = there-at (v.readings path dest) seq (omega (arith, is)) in
     let session = joint.streams.joined path dest seq item.0 item.1 in
     omega (arith, slice_get_within (v.sessions path) seq session.0 session.1)
@@ -96,20 +100,23 @@ less-remains g h last lies frames told more =
     let same : length ((view_in h.hub).sessions h.sender.set.path.0) ≡ length ((view_in g.hub).sessions g.sender.set.path.0) =
     ap (λ (s : ℕ → List Session). length (s h.sender.set.path.0)) st.sessions ∙ ap (λ (x : TxSet). length ((view_in g.hub).sessions x.path.0)) st.set in
     let joint = is-joint h.hub in
-    let most : h.sender.next ≤ length ((view_in h.hub).sessions h.sender.set.path.0) = readings-most _ joint.0 joint.1 (view_in h.hub) h.sender.set.path.0 h.sender.set.dest.0 h.sender.next joint.2 st.knows.next in
+    let most : h.sender.next ≤ length ((view_in h.hub).sessions h.sender.set.path.0) = readings-most _ (view_in h.hub) h.sender.set.path.0 h.sender.set.dest.0 h.sender.next joint st.knows.next in
     omega (arith, next, live, same, most, out.1, out.2)
 
-same-route : (m : Machines) (last count free : ℕ) (seen : List Seen) (answers : List Answer) (controls frames : List Written) (sessions : List SessionRecord) (dests : List DestRecord) (moves : List Move) (told : Told) (seen_told : List Seen) (answers_told : List Answer) →
+same-told : (count free : ℕ) (seen : List Seen) (answers : List Answer) (controls frames : List Written) (sessions : List SessionRecord) (dests : List DestRecord) (moves : List Move) (told : Told) (seen_told : List Seen) (answers_told : List Answer) →
     seen ≡ seen_told → answers ≡ answers_told → told.controls ≡ controls → told.frames ≡ frames → told.report.sessions ≡ sessions → told.report.dests ≡ dests → told.report.moves ≡ moves → told.report.pool.changes ≡ count → told.report.pool.free ≡ free →
-    (let r : Route = record {
-      source = record { rx = m.rx; shape = m.shape; budget = BUDGET; last = last; seen = seen; controls = controls; sessions = sessions };
-      leg = record { tx = m.tx; budget = BUDGET; last = last; answers = answers; frames = frames; dests = dests };
-      sizes = BUFFER_CELLS ∷ [];
+    (let r : RunTold = record {
+      seen = seen;
+      controls = controls;
+      sessions = sessions;
+      answers = answers;
+      frames = frames;
+      dests = dests;
       moves = moves;
       count = count;
       free = free;
-    } in r) ≡ route_with m last seen_told answers_told told
-same-route m last count free seen answers controls frames sessions dests moves told seen_told answers_told a b c d e f g h i = rw (a, b, ← c, ← d, ← e, ← f, ← g, ← h, ← i) refl
+    } in r) ≡ told_with seen_told answers_told told
+same-told count free seen answers controls frames sessions dests moves told seen_told answers_told a b c d e f g h i = rw (a, b, ← c, ← d, ← e, ← f, ← g, ← h, ← i) refl
 
 -- the receiver was told of the run's end
 pub end-stands : (g k : Gateway) (last : ℕ) (seen : List Seen) (answers : List Answer) (next : ℕ) → next ≤ last + 1 → (at : AtBarrier g seen answers next) → (first : TellsReceiver g k RunEnd last (lying g.control) g.controls) →
@@ -132,8 +139,9 @@ finishes g k h clock last seen answers next told in_time quiet at first ends ove
     let T : Machines → Type 0 = λ m. TxStands m.tx last (moments_of (end ∷ works)) (view_of (end ∷ works)) h.sender (lying h.frame) h.frames h.dests in
     let rx : R g.machines = subst R m_is all.receives in
     let tx : T g.machines = subst T m_is all.sends in
-    let J : View → Type 0 = λ v. Joint (BUFFER_CELLS ∷ []) told.report.pool.changes told.report.pool.free v in
-    let S : List ℕ → Type 0 = λ sizes. Joint sizes told.report.pool.changes told.report.pool.free (view_in h.hub) in
+    let J : View → Type 0 = λ v. Joint ((BUFFER_CELLS ∷ []) ∷ []) v × IsWordOf ((BUFFER_CELLS ∷ []) ∷ []) 0 v told.report.pool.changes told.report.pool.free in
+    let S : List (List ℕ) → Type 0 = λ groups. Joint groups (view_in h.hub) × IsWordOf groups 0 (view_in h.hub) told.report.pool.changes told.report.pool.free in
+    let pool : J (view_of (end ∷ works)) = subst J all.pool.view_is (subst S all.pool.groups (tells.joint, tells.word)) in
     let O : View → Type 0 = λ v. AreInOrder v.changes in
     let path : h.sender.set.path.0 ≡ g.machines.rx.path.0 = ap (λ (x : TxSet). x.path.0) tx.set ∙ ap (λ (p : PathNo). p.0) g.machines.are.same_path in
     let count : length ((view_in h.hub).sessions h.sender.set.path.0) ≡ length ((view_of (end ∷ works)).sessions g.machines.rx.path.0) =
@@ -161,10 +169,11 @@ finishes g k h clock last seen answers next told in_time quiet at first ends ove
         };
         received = rx.happened;
         sent = tx.happened;
-        joint = subst J all.pool.view_is (subst S all.pool.sizes tells.joint);
-        in_order = subst O all.pool.view_is tells.in_order;
+        joint = pool.0;
+        word = pool.1;
+        in_order = subst O all.pool.view_is (subst AreInOrder (same h.hub.sizes.items (view_in h.hub) tells.joint) tells.in_order);
       };
-      route = same-route g.machines last _ _ _ _ _ _ _ _ _ told seen answers (append-nil (came_by frames_in (turns_of works)) ∙ at.seen_is) (end-answers last out.more (moments_of works) out.only ∙ at.answers_is)
+      tells = same-told _ _ _ _ _ _ _ _ _ told seen answers (append-nil (came_by frames_in (turns_of works)) ∙ at.seen_is) (end-answers last out.more (moments_of works) out.only ∙ at.answers_is)
           (tells.controls ∙ rx.controls_are) (tells.frames ∙ tx.frames_are) (tells.sessions ∙ rx.sessions_are) (tells.dests ∙ tx.dests_are) (tells.moves ∙ all.pool.moves_are) refl refl;
       clock_is = tells.clock_is;
       buffers = tells.buffers;

@@ -7,7 +7,8 @@ use Rattle.can_frame.specs.Frame.{CanFrame}
 use Rattle.tick_clock.specs.Ticks.{tick_at}
 use Rattle.candump_log.specs.declared.log.Stamped.{Stamped}
 use Rattle.gw_run.specs.Feed.{ComeAfter, ComeWithin}
-use Rattle.gw_run.specs.Frames.{InTick, greatest_tick, in_ticks, in_ticks_from}
+use Rattle.gw_law.specs.Channels.{InTick}
+use Rattle.gw_run.specs.Frames.{greatest_tick, in_ticks, in_ticks_from}
 
 -- a greatest value is at least the one that it starts from
 from_below : (top : ℕ) (ticks : List ℕ) → top ≤ fold max top ticks

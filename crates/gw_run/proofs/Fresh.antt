@@ -10,7 +10,7 @@ use Rattle.tp_receiver.specs.declared.reception.State.{State}
 use Rattle.tp_receiver.specs.declared.reception.State.TheVariants.{Idle, Busy}
 use Rattle.tp_sender.specs.State.{HasFrame, TxState, set_of, since_of, state_of as sender_state, Transmission, tx_new}
 use Rattle.tp_unit.specs.Unit.{Meaning}
-use Rattle.gw_run.specs.Standing.{AtBarrier, FitsIn, Lies, lying, view_in}
+use Rattle.gw_run.specs.Standing.{groups_in, AtBarrier, FitsIn, Lies, lying, view_in}
 use Rattle.gw_run.specs.Telling.{means_in}
 use Rattle.gw_run.specs.declared.gateway.Gateway.{Gateway}
 use Rattle.gw_run.specs.declared.machines.TheConstants.{BUFFER_CELLS}
@@ -23,7 +23,7 @@ idle-waits : (state : State) (tick : ℕ) → reception_in state ≡ None → Wa
 idle-waits Idle tick is = tt
 idle-waits (Busy r) tick is = cc
 
-pub begins : (g : Gateway) → view_in g.hub ≡ empty_view → means_in g.hub ≡ hub_means (BUFFER_CELLS ∷ []) 1000000 → g.receiver.set ≡ g.machines.rx → receiver_state g.receiver ≡ idle 0 0 →
+pub begins : (g : Gateway) → view_in g.hub ≡ empty_view → means_in g.hub ≡ hub_means ((BUFFER_CELLS ∷ []) ∷ []) 1000000 → g.receiver.set ≡ g.machines.rx → receiver_state g.receiver ≡ idle 0 0 →
     set_of g.sender ≡ g.machines.tx → sender_state g.sender ≡ tx_new → KnowsPort empty_view g.sender → lying g.control ≡ None → lying g.frame ≡ None →
     g.controls ≡ [] → g.frames ≡ [] → g.sessions ≡ [] → g.dests ≡ [] → g.moves ≡ [] → AtBarrier g [] [] 0
 begins g view means rx rx_state tx tx_state knows control frame controls frames sessions dests moves =
@@ -32,7 +32,7 @@ begins g view means rx rx_state tx tx_state knows control frame controls frames 
     let seq : g.receiver.next_seq ≡ 0 = ap (λ (s : RxState). s.seq) rx_state in
     let live : (sender_state g.sender).live ≡ None = ap (λ (s : TxState). s.live) tx_state in
     let takes : g.hub.takes ≡ 1000000 = ap (λ (m : Means). m.takes) means in
-    let sizes : g.hub.sizes.items ≡ BUFFER_CELLS ∷ [] = ap (λ (m : Means). m.sizes) means in
+    let groups : groups_in g.hub ≡ (BUFFER_CELLS ∷ []) ∷ [] = ap (λ (m : Means). m.groups) means in
     let L : Option Transmission → Type 0 = λ l. HasFrame l → Lies (lying g.frame) in
     let N : Option Meaning → Type 0 = λ l. Lies l → HasFrame (sender_state g.sender).live in
     let S : Option Transmission → Type 0 = λ l. since_of l ≤ 0 in
@@ -68,7 +68,7 @@ begins g view means rx rx_state tx tx_state knows control frame controls frames 
           frames_are = frames;
           dests_are = dests;
         };
-        pool = record { view_is = view; sizes = sizes; takes = omega (arith, takes); moves_are = moves };
+        pool = record { view_is = view; groups = groups; takes = omega (arith, takes); moves_are = moves };
       };
       clear = omega arith;
       seen_is = refl;

@@ -25,3 +25,4 @@ pub mod Starts
 pub mod Telling
 pub mod Ticks
 pub mod TxMoments
+pub mod works

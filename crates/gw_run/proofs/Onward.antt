@@ -13,7 +13,8 @@ use Rattle.candump_log.specs.declared.log.Stamped.{Stamped}
 use Rattle.gw_run.specs.declared.machines.Machines.{Machines}
 use Rattle.gw_run.specs.Answers.{IsPlainAnswer, IsPlainControl}
 use Rattle.gw_run.specs.Feed.{ComeAfter, ComeWithin, TakesFirst}
-use Rattle.gw_run.specs.Frames.{InTick, answer_in, answers_in, greatest_tick, in_ticks, is_same_id, seen_in, with_id}
+use Rattle.gw_law.specs.Channels.{InTick, answer_in, answers_in, is_same_id, seen_in}
+use Rattle.gw_run.specs.Frames.{greatest_tick, in_ticks, with_id}
 use Rattle.gw_run.specs.Played.{Plays, Told}
 use Rattle.gw_run.specs.Playing.{DestinationSoFar, IsNext, MayWorkOnDestination, MayWorkOnSource, SoFar, SourceSoFar, WorksOnDestination, WorksOnSource}
 use Rattle.gw_run.specs.Standing.{AtBarrier, Finishes, InDestination, InSource, IsQuiet}
@@ -52,8 +53,8 @@ source-takes id all seen tick last frame coming same far =
     let f : InTick = record { tick = tick; frame = frame } in
     record {
       all_is =
-          append_assoc seen (seen_frame 0 tick frame ∷ []) (seen_in (with_id id coming))
-          ∙ ap (λ (frames : List InTick). seen ++ seen_in frames) (sym (keeps (is_same_id id frame.id) f (with_id id coming) same)) ∙ far.all_is;
+          append_assoc seen (seen_frame 0 tick frame ∷ []) (seen_in 0 (with_id id coming))
+          ∙ ap (λ (frames : List InTick). seen ++ seen_in 0 frames) (sym (keeps (is_same_id id frame.id) f (with_id id coming) same)) ∙ far.all_is;
       few = omega (arith, far.few, length-append seen (seen_frame 0 tick frame ∷ []));
       within = far.within.2;
     }
@@ -64,7 +65,7 @@ source-leaves : (id : CanId) (all seen : List Seen) (tick last : ℕ) (frame : C
 source-leaves id all seen tick last frame coming other far =
     let f : InTick = record { tick = tick; frame = frame } in
     record {
-      all_is = ap (λ (frames : List InTick). seen ++ seen_in frames) (sym (leaves (is_same_id id frame.id) f (with_id id coming) other)) ∙ far.all_is;
+      all_is = ap (λ (frames : List InTick). seen ++ seen_in 0 frames) (sym (leaves (is_same_id id frame.id) f (with_id id coming) other)) ∙ far.all_is;
       few = omega (arith, far.few);
       within = far.within.2;
     }
@@ -77,8 +78,8 @@ destination-takes id all answers tick last frame coming same far =
     let f : InTick = record { tick = tick; frame = frame } in
     record {
       all_is =
-          append_assoc answers (answer_in tick (unit_of 0 frame)) (answers_in (with_id id coming))
-          ∙ ap (λ (frames : List InTick). answers ++ answers_in frames) (sym (keeps (is_same_id id frame.id) f (with_id id coming) same)) ∙ far.all_is;
+          append_assoc answers (answer_in tick (unit_of 0 frame)) (answers_in 0 (with_id id coming))
+          ∙ ap (λ (frames : List InTick). answers ++ answers_in 0 frames) (sym (keeps (is_same_id id frame.id) f (with_id id coming) same)) ∙ far.all_is;
       within = far.within.2;
       plain = far.plain.1;
     }
@@ -89,7 +90,7 @@ destination-leaves : (id : CanId) (all answers : List Answer) (tick last : ℕ) 
 destination-leaves id all answers tick last frame coming other far =
     let f : InTick = record { tick = tick; frame = frame } in
     record {
-      all_is = ap (λ (frames : List InTick). answers ++ answers_in frames) (sym (leaves (is_same_id id frame.id) f (with_id id coming) other)) ∙ far.all_is;
+      all_is = ap (λ (frames : List InTick). answers ++ answers_in 0 frames) (sym (leaves (is_same_id id frame.id) f (with_id id coming) other)) ∙ far.all_is;
       within = far.within.2;
       plain = far.plain.1;
     }
@@ -185,7 +186,7 @@ answers-all id tick g0 g g1 before coming after so_far step seen answers all las
 pub starts : (g : Gateway) (m : Machines) (start period last : ℕ) (source destination : List Stamped) →
     length source + length destination ≤ 1000000 → greatest_tick start period source ≤ last → greatest_tick start period destination ≤ last →
     All (λ (s : Stamped). IsPlainAnswer m.destination_id s.frame) destination → g.machines ≡ m → AtBarrier g [] [] 0 →
-    SoFar g m (seen_in (with_id m.source_id (in_ticks start period source))) (answers_in (with_id m.destination_id (in_ticks start period destination))) 0 last
+    SoFar g m (seen_in 0 (with_id m.source_id (in_ticks start period source))) (answers_in 0 (with_id m.destination_id (in_ticks start period destination))) 0 last
     (in_ticks start period source) (in_ticks start period destination)
 starts g m start period last source destination few by by' plain machines at = record {
   seen = [];
@@ -282,21 +283,21 @@ ends g m all all_answers tick last source destination by past far =
 
 -- and all came, of which the run tells
 pub tells : (g : Gateway) (m : Machines) (clock : Clock) (tick last : ℕ) (source destination : List Stamped) (rest rest' : List InTick) (told : Told) → tick ≤ last + 1 → last < tick →
-    SoFar g m (seen_in (with_id m.source_id (in_ticks clock.start.0 clock.period source))) (answers_in (with_id m.destination_id (in_ticks clock.start.0 clock.period destination))) tick last rest rest' →
+    SoFar g m (seen_in 0 (with_id m.source_id (in_ticks clock.start.0 clock.period source))) (answers_in 0 (with_id m.destination_id (in_ticks clock.start.0 clock.period destination))) tick last rest rest' →
     ((seen : List Seen) (answers : List Answer) (next : ℕ) → next ≤ last + 1 → IsQuiet g ⊎ (next ≡ last + 1) → AtBarrier g seen answers next → Finishes g.machines clock last seen answers told) →
     Plays m clock last source destination told
 unfolding ends
 tells g m clock tick last source destination rest rest' told by past far tell =
-    let all : List Seen = seen_in (with_id m.source_id (in_ticks clock.start.0 clock.period source)) in
-    let all_answers : List Answer = answers_in (with_id m.destination_id (in_ticks clock.start.0 clock.period destination)) in
+    let all : List Seen = seen_in 0 (with_id m.source_id (in_ticks clock.start.0 clock.period source)) in
+    let all_answers : List Answer = answers_in 0 (with_id m.destination_id (in_ticks clock.start.0 clock.period destination)) in
     let none : rest ≡ [] = none-within tick last rest past far.on_source.within in
     let none' : rest' ≡ [] = none-within tick last rest' past far.on_destination.within in
-    let seen : far.seen ≡ all = sym (append-nil far.seen) ∙ subst (λ (frames : List InTick). far.seen ++ seen_in (with_id m.source_id frames) ≡ all) none far.on_source.all_is in
+    let seen : far.seen ≡ all = sym (append-nil far.seen) ∙ subst (λ (frames : List InTick). far.seen ++ seen_in 0 (with_id m.source_id frames) ≡ all) none far.on_source.all_is in
     let answers : far.answers ≡ all_answers =
-    sym (append-nil far.answers) ∙ subst (λ (frames : List InTick). far.answers ++ answers_in (with_id m.destination_id frames) ≡ all_answers) none' far.on_destination.all_is in
+    sym (append-nil far.answers) ∙ subst (λ (frames : List InTick). far.answers ++ answers_in 0 (with_id m.destination_id frames) ≡ all_answers) none' far.on_destination.all_is in
     let end = ends g m all all_answers tick last rest rest' by past far in
     let over : Finishes m clock last all all_answers told =
     subst (λ (m : Machines). Finishes m clock last all all_answers told) far.machines
     (subst (λ (answers : List Answer). Finishes g.machines clock last all answers told) answers
     (subst (λ (seen : List Seen). Finishes g.machines clock last seen far.answers told) seen (tell far.seen far.answers end.2 end.3 end.4 far.at))) in
-    record { ticks = over.ticks; end = over.end; run = over.run; route = over.route; clock_is = over.clock_is; buffers = over.buffers }
+    record { ticks = over.ticks; end = over.end; run = over.run; tells = over.tells; clock_is = over.clock_is; buffers = over.buffers }

@@ -31,14 +31,14 @@ use Rattle.gw_run.proofs.Same.{port-same}
 -- the moves of a view are those of its calls
 moves-grow : (call : Event) (v : View) → map move_of (grow call v).changes ≡ map move_of v.changes ++ moves_of call
 unfolding grow
-moves-grow (Took number buf size need) v = map-append move_of v.changes (Taken number buf need ∷ [])
-moves-grow (Refused number free need) v = sym (append-nil (map move_of v.changes))
+moves-grow (Took group number buf size need) v = map-append move_of v.changes (Taken number buf need ∷ [])
+moves-grow (Refused group number free need) v = sym (append-nil (map move_of v.changes))
 moves-grow (Entered path seq buf number size len readers) v = sym (append-nil (map move_of v.changes))
 moves-grow (Asked path seq cells readers) v = sym (append-nil (map move_of v.changes))
 moves-grow (Put path seq cell) v = sym (append-nil (map move_of v.changes))
 moves-grow (Published path seq bytes) v = sym (append-nil (map move_of v.changes))
 moves-grow (Joining path dest seq buf len) v = sym (append-nil (map move_of v.changes))
-moves-grow (Missed path dest seq) v = sym (append-nil (map move_of v.changes))
+moves-grow (Missed group path dest seq) v = sym (append-nil (map move_of v.changes))
 moves-grow (Saw path dest seq cells bytes writer) v = sym (append-nil (map move_of v.changes))
 moves-grow (Read path dest seq cell) v = sym (append-nil (map move_of v.changes))
 moves-grow (Closed path seq freed) v = map-append move_of v.changes freed
@@ -115,7 +115,7 @@ turn-stands g h t tick turns moments view event s by told =
       sends = subst T (sym told.rest) (sender-stays g.machines.tx t tick moments view (grows did.calls view) g.sender (lying g.frame) g.frames g.dests readings by s.sends);
       pool = record {
         view_is = grown;
-        sizes = st.sizes ∙ pool.sizes;
+        groups = st.groups ∙ pool.groups;
         takes = omega (arith, more, st.takes, pool.takes);
         moves_are = told.moves ∙ ap (λ l. l ++ moves_in did.calls) pool.moves_are ∙ sym (moves-grows did.calls view);
       };

@@ -11,8 +11,18 @@ use Rattle.gw_law.proofs.Laws.{laws}
 use Rattle.receiver_law.proofs.causes.ShortStarts.{short-start}
 use Rattle.gw_law.specs.Lawful.{Lawful}
 use Rattle.receiver_law.specs.ReceptionCauses.{IsShortStart}
-use Rattle.gw_law.specs.Small.{IsSmall}
-use Rattle.gw_law.specs.Run.{HasLawfulLimits}
+use Rattle.gw_law.specs.Run.{AreAllShort}
+use Rattle.gw_base.proofs.Lists.{all-front}
+use Rattle.hub_core.proofs.Turns.{came-append}
+use Rattle.hub_core.specs.Turns.{came_by}
+use Rattle.receiver_law.specs.Looks.{AreShort}
+use Rattle.tp_receiver.specs.Runs.{frames_in}
+use Rattle.gw_run.specs.Works.{RunTold, turns_of, view_of}
+use Rattle.gw_run.proofs.works.RxLooks.{all-look}
+use Rattle.gw_run.proofs.works.RxParts.{turns-same}
+use Rattle.gw_run.proofs.works.Runs.{Played, account, is-run, never-busy, run_of}
+use Rattle.gw_run.proofs.works.SerialRun.{SerialRun, works_of}
+use Rattle.gw_run.proofs.works.Windows.{deeds_of, windows_of}
 use Rattle.tick_clock.specs.Ticks.{tick_at}
 use Rattle.tick_clock.specs.declared.clock.Clock.{Clock}
 use Rattle.tp_attempts.specs.Seen.{Seen, len_of}
@@ -20,13 +30,14 @@ use Rattle.tp_unit.specs.Reading.{unit_of}
 use Rattle.tp_unit.specs.Unit.{Meaning, SingleFrame, FirstFrame, ConsecutiveFrame, FlowControl, NoUnit}
 use Rattle.candump_log.specs.declared.log.Stamped.{Stamped}
 use Rattle.gw_run.specs.declared.machines.Machines.{Machines}
-use Rattle.gw_run.specs.declared.machines.TheConstants.{BUDGET, BUFFER_CELLS}
+use Rattle.gw_run.specs.declared.machines.TheConstants.{BUFFER_CELLS}
 use Rattle.gw_run.specs.declared.setup.Side.TheVariants.{Source, Destination}
 use Rattle.gw_run.specs.Answers.{IsPlainAnswer, IsPlainControl}
 use Rattle.gw_run.specs.Forwarded.{Tells, last_of}
-use Rattle.gw_run.specs.Frames.{InTick, in_ticks_from, is_same_id, seen_in, with_id}
+use Rattle.gw_law.specs.Channels.{InTick, is_same_id, seen_in}
+use Rattle.gw_run.specs.Frames.{in_ticks_from, with_id}
 use Rattle.gw_run.specs.Machines.{AreMachines}
-use Rattle.gw_run.specs.Played.{Plays, Told, route_told}
+use Rattle.gw_run.specs.Played.{Plays, Told, account_of}
 use Rattle.gw_run.specs.Setup.{AreMachinesOf, IsBuiltFrame, Setup, is_long_first, is_other_control}
 
 -- ---- flow controls that are built let everything come at once
@@ -56,14 +67,14 @@ short-of size (NoUnit why) short is = tt
 
 -- a frame with or without the identifier before others
 one-more : (id : CanId) (tick : ℕ) (frame : CanFrame) (later : List InTick) (same : Bool) → is_same_id id frame.id ≡ same → IsBuiltFrame (Source id) frame →
-    AllByRecursion (λ (seen : Seen). IsShortStart seen.size seen.meaning) (seen_in (with_id id later)) →
-    AllByRecursion (λ (seen : Seen). IsShortStart seen.size seen.meaning) (seen_in (with_id id (record { tick = tick; frame = frame } ∷ later)))
+    AllByRecursion (λ (seen : Seen). IsShortStart seen.size seen.meaning) (seen_in 0 (with_id id later)) →
+    AllByRecursion (λ (seen : Seen). IsShortStart seen.size seen.meaning) (seen_in 0 (with_id id (record { tick = tick; frame = frame } ∷ later)))
 one-more id tick frame later true same built rest =
     rw same (short-of (length frame.bytes) (unit_of 0 frame) (short-start frame built.0) (and-false (is_same_id id frame.id) (is_long_first (unit_of 0 frame)) built.1 same), rest)
 one-more id tick frame later false same built rest = rw same rest
 
 starts-from : (id : CanId) (start period before : ℕ) (frames : List Stamped) → All (λ s. IsBuiltFrame (Source id) s.frame) frames →
-    AllByRecursion (λ (seen : Seen). IsShortStart seen.size seen.meaning) (seen_in (with_id id (in_ticks_from start period before frames)))
+    AllByRecursion (λ (seen : Seen). IsShortStart seen.size seen.meaning) (seen_in 0 (with_id id (in_ticks_from start period before frames)))
 starts-from id start period before [] built = tt
 starts-from id start period before (s ∷ later) built =
     let next : ℕ = max before (tick_at start period s.at.0) in
@@ -73,36 +84,43 @@ starts-from id start period before (s ∷ later) built =
 
 -- ---- the laws hold
 
-limits_of : (m : Machines) → AreMachines m.rx m.shape m.tx → HasLawfulLimits m.rx m.tx m.shape BUDGET BUDGET
-limits_of m are = record { shape_is = are.controls.shape_is; n_ar = are.n_ar; n_cr = are.n_cr; n_as = are.n_as; n_bs = are.n_bs; source_budget_is = omega arith; budget_is = omega arith }
+-- each message that came fits the buffer
+short-of-all : (p : Played) → All (λ s. IsBuiltFrame (Source p.m.source_id) s.frame) p.source → AreAllShort (deeds_of (run_of p))
+short-of-all p built =
+    let o : SerialRun = run_of p in
+    let Short : Seen → Type 0 = λ frame. IsShortStart frame.size frame.meaning in
+    let whole : AllByRecursion Short (came_by frames_in (turns_of (works_of o))) =
+    subst (AllByRecursion Short) (sym (ap (λ (r : RunTold). r.seen) p.plays.tells)) (starts-from p.m.source_id p.clock.start.0 p.clock.period 0 p.source built) in
+    let starts : AllByRecursion Short (came_by frames_in (turns_of o.ticks)) =
+    all-front Short (came_by frames_in (turns_of o.ticks)) (came_by frames_in o.end.turns) (subst (AllByRecursion Short) (came-append frames_in o.end.turns (turns_of o.ticks)) whole) in
+    (subst (AreShort p.m.rx) (sym (turns-same o.ticks)) (record { address = p.are.address; starts = starts; looks = all-look o refl }), tt)
 
 -- what a run tells keeps the laws
 pub lawful_of : (m : Machines) (clock : Clock) (last : ℕ) (source destination : List Stamped) (told : Told) → AreMachines m.rx m.shape m.tx →
-    All (λ s. IsBuiltFrame (Source m.source_id) s.frame) source → Plays m clock last source destination told → Lawful (route_told m clock.start.0 clock.period last source destination told)
+    All (λ s. IsBuiltFrame (Source m.source_id) s.frame) source → Plays m clock last source destination told → Lawful (account_of m clock.start.0 clock.period last source destination told)
 lawful_of m clock last source destination told are built plays =
-    let small : IsSmall (route_told m clock.start.0 clock.period last source destination told) = record { address = are.address; buffer = refl; starts = starts-from m.source_id clock.start.0 clock.period 0 source built } in
-    subst Lawful plays.route
-    (laws m.rx m.tx m.shape BUDGET BUDGET (BUFFER_CELLS ∷ []) last told.report.pool.changes told.report.pool.free plays.ticks plays.end (limits_of m are) (subst IsSmall (sym plays.route) small) plays.run)
+    let p : Played = record { m = m; clock = clock; last = last; source = source; destination = destination; told = told; are = are; plays = plays } in
+    laws (account p) (deeds_of (run_of p)) (windows_of plays.ticks) (view_of (works_of (run_of p))) (is-run p) (never-busy p) (short-of-all p built)
 
 -- and what was sent left within the run's ticks
-pub controls-within : (m : Machines) (start period last : ℕ) (source destination : List Stamped) (told : Told) → last + 1 ≤ 10_000_000 → Lawful (route_told m start period last source destination told) →
+pub controls-within : (m : Machines) (start period last : ℕ) (source destination : List Stamped) (told : Told) → last + 1 ≤ 10_000_000 → Lawful (account_of m start period last source destination told) →
     All (λ (sent : Written). sent.tick ≤ 10_000_000) told.controls
 controls-within m start period last source destination told less lawful =
     All-weaker (λ (sent : Written). sent.tick ≤ last) (λ (sent : Written). sent.tick ≤ 10_000_000) (λ sent le. omega (arith, le, less)) told.controls
-    (All-from_recursion (λ (sent : Written). sent.tick ≤ last) told.controls lawful.bus.controls_end)
+    (All-from_recursion (λ (sent : Written). sent.tick ≤ last) told.controls (lawful.buses 0).end)
 
-pub frames-within : (m : Machines) (start period last : ℕ) (source destination : List Stamped) (told : Told) → last + 1 ≤ 10_000_000 → Lawful (route_told m start period last source destination told) →
+pub frames-within : (m : Machines) (start period last : ℕ) (source destination : List Stamped) (told : Told) → last + 1 ≤ 10_000_000 → Lawful (account_of m start period last source destination told) →
     All (λ (sent : Written). sent.tick ≤ 10_000_000) told.frames
 frames-within m start period last source destination told less lawful =
     All-weaker (λ (sent : Written). sent.tick ≤ last) (λ (sent : Written). sent.tick ≤ 10_000_000) (λ sent le. omega (arith, le, less)) told.frames
-    (All-from_recursion (λ (sent : Written). sent.tick ≤ last) told.frames lawful.bus.frames_end)
+    (All-from_recursion (λ (sent : Written). sent.tick ≤ last) told.frames (lawful.buses 1).end)
 
 pub tells_of : (setup : Setup) (m : Machines) (clock : Clock) (last : ℕ) (source destination : List Stamped) (told : Told) → AreMachinesOf setup m → clock.period ≡ setup.period →
-    last ≡ last_of setup clock.start.0 source destination → Lawful (route_told m clock.start.0 clock.period last source destination told) → Plays m clock last source destination told → Tells setup source destination clock.start.0 told
+    last ≡ last_of setup clock.start.0 source destination → Lawful (account_of m clock.start.0 clock.period last source destination told) → Plays m clock last source destination told → Tells setup source destination clock.start.0 told
 tells_of setup m clock last source destination told are period last_is lawful plays = record {
   machines = m;
   are = are;
-  lawful = subst (λ n. Lawful (route_told m clock.start.0 setup.period n source destination told)) last_is (subst (λ n. Lawful (route_told m clock.start.0 n last source destination told)) period lawful);
+  lawful = subst (λ n. Lawful (account_of m clock.start.0 setup.period n source destination told)) last_is (subst (λ n. Lawful (account_of m clock.start.0 n last source destination told)) period lawful);
   start_is = ap (λ (c : Clock). c.start.0) plays.clock_is;
   period_is = ap (λ (c : Clock). c.period) plays.clock_is ∙ period;
   buffers = plays.buffers;

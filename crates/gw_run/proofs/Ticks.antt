@@ -7,16 +7,17 @@ use Rattle.hub_core.specs.Turns.{calls_by, came_by}
 use Rattle.tp_receiver.specs.Runs.{frames_in}
 use Rattle.can_frame.specs.Frame.{CanFrame}
 use Rattle.hub_core.specs.Floors.{floors_of}
+use Rattle.hub_core.specs.Joint.{Joint}
 use Rattle.hub_core.specs.View.{View, grows}
 use Rattle.hub_core.proofs.Hubs.{is-joint}
-use Rattle.gw_law.proofs.causes.RxLooks.{fresh-counts}
+use Rattle.gw_run.proofs.works.RxLooks.{fresh-counts}
 use Rattle.receiver_law.specs.Parts.{AreLooks, ControlLeaves, LooksCount}
-use Rattle.gw_law.specs.Run.{IsJoint, moments_of, turns_of, view_of}
+use Rattle.gw_run.specs.Works.{IsJoint, moments_of, turns_of, view_of}
 use Rattle.tp_receiver.specs.Runs.{control_after}
 use Rattle.tp_attempts.specs.Seen.{Seen, seen_frame}
 use Rattle.tp_unit.specs.Reading.{unit_of}
 use Rattle.tp_unit.specs.Unit.{Meaning}
-use Rattle.gw_run.specs.Standing.{InDestination, InSource, Stands, lying, view_in}
+use Rattle.gw_run.specs.Standing.{groups_in, InDestination, InSource, Stands, lying, view_in}
 use Rattle.gw_run.specs.Telling.{LeavesControl, TellsReceiver}
 use Rattle.gw_run.specs.declared.gateway.Gateway.{Gateway}
 use Rattle.gw_run.specs.declared.machines.TheConstants.{BUFFER_CELLS}
@@ -28,8 +29,8 @@ use Rattle.hub_core.proofs.Turns.{calls-append}
 pub stands-joint : (g : Gateway) (t : ℕ) (turns : List RxTurn) (moments : List TxTurn) (view : View) → Stands g t turns moments view → IsJoint (BUFFER_CELLS ∷ []) view
 stands-joint g t turns moments view s =
     let P : View → Type 0 = λ v. IsJoint (BUFFER_CELLS ∷ []) v in
-    let Q : List ℕ → Type 0 = λ sizes. IsJoint sizes (view_in g.hub) in
-    subst P s.pool.view_is (subst Q s.pool.sizes (is-joint g.hub))
+    let Q : List (List ℕ) → Type 0 = λ groups. Joint groups (view_in g.hub) in
+    subst P s.pool.view_is (subst Q s.pool.groups (is-joint g.hub))
 
 -- the same step, with the flow controls that had left written otherwise
 abbrev pub told-with : (g h : Gateway) (event : RxEvent) (tick : ℕ) (lies : Option Meaning) (controls other : List Written) → controls ≡ other → TellsReceiver g h event tick lies controls → TellsReceiver g h event tick lies other
@@ -42,7 +43,7 @@ told-same g h event tick lies told = told-with g h event tick lies g.controls (g
 counts-at : (g h : Gateway) (t tick : ℕ) (turns : List RxTurn) (moments : List TxTurn) (view : View) (event : RxEvent) (lies : Option Meaning) (controls : List Written) → Stands g t turns moments view →
     (told : TellsReceiver g h event tick lies controls) → LooksCount view told.did.calls
 counts-at g h t tick turns moments view event lies controls s told =
-    let P : View → Type 0 = λ v. LooksCount v told.did.calls in subst P s.pool.view_is (fresh-counts (floors_of (view_in g.hub)) (view_in g.hub) told.did.calls told.stepped.fresh)
+    let P : View → Type 0 = λ v. LooksCount v told.did.calls in subst P s.pool.view_is (fresh-counts (floors_of (groups_in g.hub) (view_in g.hub)) (view_in g.hub) told.did.calls told.stepped.fresh)
 
 -- a frame of the source channel came
 pub received : (g h : Gateway) (seen : List Seen) (answers : List Answer) (tick : ℕ) (frame : CanFrame) → InSource g seen answers tick →

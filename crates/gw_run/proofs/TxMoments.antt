@@ -98,7 +98,7 @@ moment-stands g h t tick turns moments view event s by order told =
       sends = subst T (sym told.rest) (sender-moment g.machines.tx t tick moments view (grows turn.did.calls view) g.sender h.sender (lying g.frame) (lying h.frame) g.frames h.frames g.dests h.dests g.hub h.hub event turn s.sends by order st grown told.lies_is told.frames_are told.dests);
       pool = record {
         view_is = grown;
-        sizes = st.sizes ∙ pool.sizes;
+        groups = st.groups ∙ pool.groups;
         takes = omega (arith, st.takes, pool.takes);
         moves_are = told.moves ∙ ap (λ l. l ++ moves_in turn.did.calls) pool.moves_are ∙ sym (moves-grows turn.did.calls view);
       };

@@ -4,7 +4,7 @@ use Rattle.can_frame.specs.Frame.{CanFrame}
 use Rattle.can_frame.specs.declared.id.CanId.{CanId}
 use Rattle.tp_unit.specs.Reading.{unit_of}
 use Rattle.tp_unit.specs.Unit.{Meaning, SingleFrame, FirstFrame, ConsecutiveFrame, FlowControl, NoUnit}
-use Rattle.gw_run.specs.Frames.{is_same_id}
+use Rattle.gw_law.specs.Channels.{is_same_id}
 
 -- a flow control that lets everything come at once
 abbrev pub IsPlainControl : Meaning → Type 0

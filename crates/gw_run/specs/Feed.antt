@@ -1,7 +1,7 @@
 -- The frames of a log that are still to come.
 use Rattle.std.specs.Prelude.{◌≡◌, ◌≤◌, ◌<◌, ℕ, List, [], ◌∷◌, Option, None, Some}
 use Rattle.can_frame.specs.Frame.{CanFrame}
-use Rattle.gw_run.specs.Frames.{InTick}
+use Rattle.gw_law.specs.Channels.{InTick}
 
 -- the tick of the first of the frames
 abbrev pub first_tick : List InTick → Option ℕ

@@ -20,7 +20,7 @@ use Rattle.gw_run.specs.Config.{ReadsConfig}
 use Rattle.gw_run.specs.Frames.{greatest_tick}
 use Rattle.gw_run.specs.Log.{IsBuiltLog}
 use Rattle.gw_run.specs.Output.{output_text}
-use Rattle.gw_run.specs.Played.{Told, route_told}
+use Rattle.gw_run.specs.Played.{Told, account_of}
 use Rattle.gw_run.specs.Results.{HasBegun, HasResults}
 use Rattle.gw_run.specs.Setup.{AreMachinesOf, Bus, IsBuiltConfig, Setup}
 use Rattle.gw_run.specs.Start.{IsStart, stamps_of}
@@ -64,7 +64,7 @@ pub record IsBuilt (files : Files) (config report : List ℕ) (setup : Setup) (s
 pub record Tells (setup : Setup) (source destination : List Stamped) (start : ℕ) (told : Told) : Type 0 where
   pub machines : Machines
   pub are : AreMachinesOf setup machines
-  pub lawful : Lawful (route_told machines start setup.period (last_of setup start source destination) source destination told)
+  pub lawful : Lawful (account_of machines start setup.period (last_of setup start source destination) source destination told)
   pub start_is : told.report.clock.start.0 ≡ start
   pub period_is : told.report.clock.period ≡ setup.period
   pub buffers : told.report.pool.buffers ≡ 1

@@ -23,3 +23,4 @@ pub mod Status
 pub mod Telling
 pub mod Whole
 pub mod Words
+pub mod Works

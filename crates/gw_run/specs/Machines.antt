@@ -12,11 +12,13 @@ pub record IsClassic (shape : Shape) : Type 0 where
   pub fd : shape.fd ≡ false
   pub dl : shape.dl ≡ 8
 
--- the receiver and the one destination of path 0, both on classic channels without an address byte, with limits of at least a tick
+-- the receiver and the one destination of path 0 with the buffers of group 0, both on classic channels without an address byte, with limits of at least a tick
 pub record AreMachines (rx : RxSet) (shape : Shape) (tx : TxSet) : Type 0 where
   pub chan : rx.chan.0 ≡ 0
   pub path : rx.path.0 ≡ 0
   pub same_path : tx.path ≡ rx.path
+  pub group : rx.group.0 ≡ 0
+  pub same_group : tx.group ≡ rx.group
   pub dest : tx.dest.0 ≡ 0
   pub readers : rx.readers ≡ 1
   pub address : rx.a ≡ 0

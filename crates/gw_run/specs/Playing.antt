@@ -6,20 +6,21 @@ use Rattle.can_frame.specs.declared.id.CanId.{CanId}
 use Rattle.tp_attempts.specs.Seen.{Seen}
 use Rattle.gw_run.specs.Answers.{IsPlainAnswer}
 use Rattle.gw_run.specs.Feed.{ComeWithin}
-use Rattle.gw_run.specs.Frames.{InTick, answers_in, seen_in, with_id}
+use Rattle.gw_law.specs.Channels.{InTick, answers_in, seen_in}
+use Rattle.gw_run.specs.Frames.{with_id}
 use Rattle.gw_run.specs.Standing.{AtBarrier, InDestination, InSource, IsQuiet}
 use Rattle.gw_run.specs.declared.gateway.Gateway.{Gateway}
 use Rattle.gw_run.specs.declared.machines.Machines.{Machines}
 
 -- these frames of the source channel came, and with those that are still to come, from one tick to another, they are all of them
 pub record SourceSoFar (id : CanId) (all : List Seen) (least last : ℕ) (came : List Seen) (coming : List InTick) : Type 0 where
-  pub all_is : came ++ seen_in (with_id id coming) ≡ all
+  pub all_is : came ++ seen_in 0 (with_id id coming) ≡ all
   pub few : length came + length coming ≤ 1000000
   pub within : ComeWithin least last coming
 
 -- these flow controls of the destination's channel came, and with those that are still to come, from one tick to another, they are all of them
 pub record DestinationSoFar (id : CanId) (all : List Answer) (least last : ℕ) (came : List Answer) (coming : List InTick) : Type 0 where
-  pub all_is : came ++ answers_in (with_id id coming) ≡ all
+  pub all_is : came ++ answers_in 0 (with_id id coming) ≡ all
   pub within : ComeWithin least last coming
   pub plain : AllByRecursion (λ (f : InTick). IsPlainAnswer id f.frame) coming
 

@@ -17,7 +17,7 @@ use Rattle.tp_unit.specs.declared.shape.Shape.{Shape}
 use Rattle.gw_run.specs.declared.machines.Machines.{Machines}
 use Rattle.gw_run.specs.declared.setup.Side.{Side}
 use Rattle.gw_run.specs.declared.setup.Side.TheVariants.{Source, Destination}
-use Rattle.gw_run.specs.Frames.{is_same_id}
+use Rattle.gw_law.specs.Channels.{is_same_id}
 
 -- a bus of a run: its interface's name in its log, its files, and the channel on it
 pub record Bus : Type 0 where
@@ -160,11 +160,12 @@ IsBuiltFrame side frame = (length frame.bytes ≤ 8) × (is_unbuilt_frame side f
 abbrev pub shape_of : ChannelEntry → Shape
 shape_of channel = record { id = channel.tx; fd = false; brs = false; address = None; dl = 8; pad = false; fill = 204 }
 
--- how the receiver of the source channel is configured: channel 0 and path 0, with one destination
+-- how the receiver of the source channel is configured: channel 0, path 0 and group 0, with one destination
 abbrev pub rx_set_of : ChannelEntry → RxSet
 rx_set_of channel = record {
   chan = record { 0 = 0 };
   path = record { 0 = 0 };
+  group = record { 0 = 0 };
   readers = 1;
   a = 0;
   functional = false;
@@ -182,6 +183,7 @@ rx_set_of channel = record {
 abbrev pub tx_set_of : ℕ → ChannelEntry → TxSet
 tx_set_of period channel = record {
   path = record { 0 = 0 };
+  group = record { 0 = 0 };
   dest = record { 0 = 0 };
   shape = shape_of channel;
   threshold = 1;

@@ -10,7 +10,7 @@ use Rattle.tp_receiver.specs.Runs.{HasReceived, frames_in}
 use Rattle.hub_core.specs.Turns.{calls_by, now_of, came_by, state_after, records_by}
 use Rattle.std.specs.List.{AllByRecursion}
 use Rattle.receiver_law.specs.Parts.{AreLooks, CameIn, ReceivesIn}
-use Rattle.gw_law.specs.Run.{AreTicks, IsIdle, IsJoint, IsRun, Route, Work, moments_of, route_of, tick_after, turns_of, view_of}
+use Rattle.gw_run.specs.Works.{AreTicks, IsIdle, IsJoint, IsSerialRun, Work, moments_of, tick_after, told_by, turns_of, view_of}
 use Rattle.sender_law.specs.Parts.{IsAnswerIn}
 use Rattle.tp_receiver.specs.Runs.{control_after, controls_by}
 use Rattle.hub_core.specs.Past.{view_after}
@@ -30,10 +30,10 @@ use Rattle.tp_unit.specs.Shape.{fits_shape}
 use Rattle.tp_unit.specs.Unit.{Meaning, meaning_of}
 use Rattle.tp_unit.specs.declared.shape.Shape.{Shape}
 use Rattle.tp_unit.specs.declared.unit.Unit.{Unit as ProtocolUnit}
-use Rattle.gw_run.specs.Played.{Told}
+use Rattle.gw_run.specs.Played.{Told, told_with}
 use Rattle.gw_run.specs.declared.gateway.Gateway.{Gateway}
 use Rattle.gw_run.specs.declared.machines.Machines.{Machines}
-use Rattle.gw_run.specs.declared.machines.TheConstants.{BUDGET, BUFFER_CELLS}
+use Rattle.gw_run.specs.declared.machines.TheConstants.{BUFFER_CELLS}
 
 -- what lies in a box
 abbrev pub lying : Option ProtocolUnit → Option Meaning
@@ -48,6 +48,10 @@ Lies (Some meaning) = Unit {0}
 abbrev pub FitsIn : Shape → Option Meaning → Type 0
 FitsIn shape None = Unit {0}
 FitsIn shape (Some meaning) = fits_shape shape meaning ≡ true
+
+-- the cells of the hub's buffers, which are one group
+abbrev pub groups_in : PlainHub → List (List ℕ)
+groups_in hub = hub.sizes.items ∷ []
 
 -- what the hub did and saw
 abbrev pub view_in : PlainHub → View
@@ -85,7 +89,7 @@ pub record TxStands (tx : TxSet) (tick : ℕ) (moments : List TxTurn) (view : Vi
 -- the pool after so many frames of the source channel: one take is used for each at most, and its moves are told
 pub record PoolStands (came : ℕ) (view : View) (hub : PlainHub) (moves : List Move) : Type 0 where
   pub view_is : view_in hub ≡ view
-  pub sizes : hub.sizes.items ≡ BUFFER_CELLS ∷ []
+  pub groups : groups_in hub ≡ (BUFFER_CELLS ∷ []) ∷ []
   pub takes : 1000000 ≤ came + hub.takes
   pub moves_are : moves ≡ map move_of view.changes
 
@@ -141,22 +145,11 @@ pub record InDestination (g : Gateway) (seen : List Seen) (answers : List Answer
   pub seen_is : came_by frames_in (turns ++ turns_of earlier) ≡ seen
   pub answers_is : came_by controls_in (moments ++ moments_of earlier) ≡ answers
 
--- what is told of a run in which these frames and flow controls came
-abbrev pub route_with : Machines → (last : ℕ) → List Seen → List Answer → Told → Route
-route_with m last seen answers told = record {
-  source = record { rx = m.rx; shape = m.shape; budget = BUDGET; last = last; seen = seen; controls = told.controls; sessions = told.report.sessions };
-  leg = record { tx = m.tx; budget = BUDGET; last = last; answers = answers; frames = told.frames; dests = told.report.dests };
-  sizes = BUFFER_CELLS ∷ [];
-  moves = told.report.moves;
-  count = told.report.pool.changes;
-  free = told.report.pool.free;
-}
-
 -- the run is over, these frames and flow controls came in it, and this is what it tells
 pub record Finishes (m : Machines) (clock : Clock) (last : ℕ) (seen : List Seen) (answers : List Answer) (told : Told) : Type 0 where
   pub ticks : List Work
   pub end : Work
-  pub run : IsRun m.rx m.tx (BUFFER_CELLS ∷ []) last told.report.pool.changes told.report.pool.free ticks end
-  pub route : route_of m.rx m.tx m.shape BUDGET BUDGET (BUFFER_CELLS ∷ []) last told.report.pool.changes told.report.pool.free ticks end ≡ route_with m last seen answers told
+  pub run : IsSerialRun m.rx m.tx (BUFFER_CELLS ∷ []) last told.report.pool.changes told.report.pool.free ticks end
+  pub tells : told_by m.tx m.shape told.report.pool.changes told.report.pool.free ticks end ≡ told_with seen answers told
   pub clock_is : told.report.clock ≡ clock
   pub buffers : told.report.pool.buffers ≡ 1

@@ -11,7 +11,9 @@ use Rattle.std.specs.List.{AllByRecursion}
 use Rattle.sender_law.specs.Parts.{IsStepIn}
 use Rattle.hub_core.specs.Calls.{Means}
 use Rattle.hub_core.specs.Floors.{AreFresh, floors_of}
-use Rattle.hub_core.specs.Joint.{AreInOrder, Joint}
+use Rattle.hub_core.specs.Journal.{AreInOrder}
+use Rattle.hub_core.specs.Groups.{changes_in, IsWordOf}
+use Rattle.hub_core.specs.Joint.{Joint}
 use Rattle.hub_core.specs.Plain.{hub_means}
 use Rattle.hub_core.specs.View.{View, grows}
 use Rattle.hub_core.specs.declared.plain.PlainHub.{PlainHub}
@@ -24,12 +26,12 @@ use Rattle.tp_sender.specs.declared.event.TxEvent.TheVariants.{Left, RunEnd}
 use Rattle.tp_sender.specs.declared.sender.Sender.{Sender}
 use Rattle.tp_unit.specs.Unit.{Meaning}
 use Rattle.gw_run.specs.Played.{Told}
-use Rattle.gw_run.specs.Standing.{Stands, lying, view_in}
+use Rattle.gw_run.specs.Standing.{Stands, groups_in, lying, view_in}
 use Rattle.gw_run.specs.declared.gateway.Gateway.{Gateway}
 
 -- what the hub may do
 abbrev pub means_in : PlainHub → Means
-means_in hub = hub_means hub.sizes.items hub.takes
+means_in hub = hub_means (groups_in hub) hub.takes
 
 -- the receiver can be told of this in that tick
 pub record CanTell (receiver : Receiver) (hub : PlainHub) (event : RxEvent) (tick : ℕ) : Type 0 where
@@ -42,7 +44,7 @@ pub record CanTell (receiver : Receiver) (hub : PlainHub) (event : RxEvent) (tic
 pub record RxStepped (receiver : Receiver) (hub : PlainHub) (next : Receiver) (later : PlainHub) (event : RxEvent) (tick : ℕ) (did : RxDid) : Type 0 where
   pub tick_is : did.tick ≡ tick
   pub row : RxStep receiver.set (receiver_state receiver) event did
-  pub fresh : AreFresh (floors_of (view_in hub)) (view_in hub) did.calls
+  pub fresh : AreFresh (floors_of (groups_in hub) (view_in hub)) (view_in hub) did.calls
   pub grown : view_in later ≡ grows did.calls (view_in hub)
   pub set : next.set ≡ receiver.set
   pub state : receiver_state next ≡ did.new
@@ -50,7 +52,7 @@ pub record RxStepped (receiver : Receiver) (hub : PlainHub) (next : Receiver) (l
   pub waits : WaitsBy next.state tick
   pub number : next.next_n ≤ receiver.next_n + takes_for event
   pub readings : (view_in later).readings ≡ (view_in hub).readings
-  pub sizes : later.sizes.items ≡ hub.sizes.items
+  pub groups : groups_in later ≡ groups_in hub
   pub takes : hub.takes ≤ later.takes + takes_for event
 
 -- the receiver was told of this in that tick, where this lay in its box and these flow controls had left, and its step is noted
@@ -73,6 +75,7 @@ pub record CanTellSender (sender : Sender) (hub : PlainHub) (event : TxEvent) (t
   pub knows : KnowsPort (view_in hub) sender
   pub acts : ActsForSender (means_in hub) sender
   pub dest : (set_of sender).dest.0 ≡ 0
+  pub group : (set_of sender).group.0 ≡ 0
   pub since : since_of (sender_state sender).live ≤ tick
   pub tick_is : tick ≤ 10000000
   pub left : event ≡ Left → HasFrame (sender_state sender).live
@@ -82,7 +85,7 @@ pub record TxStepped (sender : Sender) (hub : PlainHub) (next : Sender) (later :
   pub event_is : turn.event ≡ event
   pub tick_is : turn.did.tick ≡ tick
   pub row : TxStep (set_of sender) (sender_state sender) turn.event turn.did
-  pub fresh : AreFresh (floors_of (view_in hub)) (view_in hub) turn.did.calls
+  pub fresh : AreFresh (floors_of (groups_in hub) (view_in hub)) (view_in hub) turn.did.calls
   pub grown : view_in later ≡ grows turn.did.calls (view_in hub)
   pub set : set_of next ≡ set_of sender
   pub state : sender_state next ≡ turn.did.new
@@ -90,7 +93,7 @@ pub record TxStepped (sender : Sender) (hub : PlainHub) (next : Sender) (later :
   pub since : since_of (sender_state next).live ≤ tick
   pub boxed : IsInBox turn.did.act (StillHasFrame event (sender_state sender).live) (sender_state next).live
   pub sessions : (view_in later).sessions ≡ (view_in hub).sessions
-  pub sizes : later.sizes.items ≡ hub.sizes.items
+  pub groups : groups_in later ≡ groups_in hub
   pub takes : hub.takes ≤ later.takes
 
 -- the sender was told of this in that tick, where this lay in its box and these frames had left, and its step is noted
@@ -128,5 +131,6 @@ pub record Tells (g : Gateway) (clock : Clock) (told : Told) : Type 0 where
   pub moves : told.report.moves ≡ g.moves
   pub clock_is : told.report.clock ≡ clock
   pub buffers : told.report.pool.buffers ≡ 1
-  pub joint : Joint g.hub.sizes.items told.report.pool.changes told.report.pool.free (view_in g.hub)
-  pub in_order : AreInOrder (view_in g.hub).changes
+  pub joint : Joint (groups_in g.hub) (view_in g.hub)
+  pub word : IsWordOf (groups_in g.hub) 0 (view_in g.hub) told.report.pool.changes told.report.pool.free
+  pub in_order : AreInOrder (changes_in (groups_in g.hub) 0 (view_in g.hub))

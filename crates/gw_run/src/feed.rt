@@ -20,7 +20,8 @@ pub(crate) struct Feed<'a> {
 
 impl<'a> Model for Feed<'a> {
     ghost use Rattle.std.specs.Prelude.{List};
-    ghost use Rattle.gw_run.specs.Frames.{InTick, in_ticks_from};
+    ghost use Rattle.gw_law.specs.Channels.{InTick};
+    ghost use Rattle.gw_run.specs.Frames.{in_ticks_from};
 
     ghost Value = { List InTick };
 

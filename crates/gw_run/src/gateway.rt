@@ -9,7 +9,7 @@ ghost use Rattle.tp_attempts.specs.Seen.{Seen, seen_frame};
 ghost use Rattle.tp_sender.specs.declared.event.TxEvent.TheVariants.{Left, RunEnd};
 ghost use Rattle.tp_unit.specs.Reading.{unit_of};
 ghost use Rattle.gw_run.specs.Answers.{IsPlainControl};
-ghost use Rattle.gw_run.specs.Frames.{answer_in};
+ghost use Rattle.gw_law.specs.Channels.{answer_in};
 ghost use Rattle.gw_run.specs.Standing.{AtBarrier, Finishes, FitsIn, InDestination, InSource, IsQuiet, Lies, Stands, lying};
 ghost use Rattle.gw_run.specs.Telling.{CanTell, CanTellSender, EndsTelling, IsOver, LeavesControl, LeavesFrame, Tells, TellsReceiver, TellsSender};
 
@@ -18,7 +18,7 @@ use crate::machines::{BUFFER_CELLS, Machines};
 use crate::notes::{note, note_all};
 use crate::played::{Played, Sent};
 use can_frame::Frame;
-use gw_base::{ListOf, Memory, Tick};
+use gw_base::{GroupNo, ListOf, Memory, Tick};
 use hub_core::PlainHub;
 use session_report::{DestLines, MoveLines, PoolLine, Report, SessionLines};
 use std::alloc::Global;
@@ -85,7 +85,7 @@ impl Gateway {
         if self.control.is_some() || self.frame.is_some() {
             return true;
         }
-        self.hub.word() % ONE_CHANGE != ALL_FREE
+        self.hub.word(GroupNo(0)) % ONE_CHANGE != ALL_FREE
     }
 
     /// A frame of the source channel came.
@@ -240,7 +240,7 @@ impl Gateway {
     fn told(self, clock: &Clock) -> Played
         ensures { Tells self clock.now result }
     {
-        let word = self.hub.word();
+        let word = self.hub.word(GroupNo(0));
         Played {
             controls: self.controls,
             frames: self.frames,

@@ -3,7 +3,7 @@ ghost use Rattle.std.specs.Prelude.{◌≡◌, ◌≢◌, List, ℕ, true, Some,
 ghost use Rattle.std.specs.List.{list_all};
 ghost use Rattle.gw_config.specs.Config.{Configuration};
 ghost use Rattle.gw_config.specs.Texts.{is_name_byte};
-ghost use Rattle.gw_run.specs.Frames.{is_same_id};
+ghost use Rattle.gw_law.specs.Channels.{is_same_id};
 ghost use Rattle.gw_run.specs.Setup.{IsBaseBus, IsBaseChannel, IsBasePath, IsBuiltConfig, HasBaseNumbers, HasBaseTop, IsShortId, is_unbuilt_frame, setup_of, shape_of};
 ghost use Rattle.gw_run.specs.Setup.{Bus as BusOfRun, Setup as SetupOfRun};
 
@@ -11,7 +11,7 @@ use crate::files::are_same;
 use crate::machines::{BUDGET, BUFFER_CELLS, Machines};
 use can_frame::{CanId, Frame};
 use candump_log::LogSource;
-use gw_base::{BusNo, ChanNo, DestNo, PathNo};
+use gw_base::{BusNo, ChanNo, DestNo, GroupNo, PathNo};
 use gw_config::{Addressing, BusKeys, ChannelKeys, Config, Mode, PathKeys};
 use std::marker::Model;
 use std::str;
@@ -249,6 +249,7 @@ impl Setup<'_> {
             rx: RxSet {
                 chan: ChanNo(0),
                 path: PathNo(0),
+                group: GroupNo(0),
                 readers: 1,
                 a: 0,
                 functional: false,
@@ -264,6 +265,7 @@ impl Setup<'_> {
             shape: shape_of(receiver),
             tx: TxSet {
                 path: PathNo(0),
+                group: GroupNo(0),
                 dest: DestNo(0),
                 shape: shape_of(sender),
                 threshold: 1,

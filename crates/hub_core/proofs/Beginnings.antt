@@ -2,14 +2,13 @@
 use Rattle.std.proofs.Common.{◌≡◌, ℕ, ◌+◌, ◌-◌, ◌^◌, ◌<◌, ◌≤◌, zero, suc, Bool, true, false, List, [], ◌∷◌, length, take, replicate, Some, All, refl, ap, sym, ◌∙◌, subst, arith}
 use Rattle.std.proofs.lemmas.List.{take_all, take_more}
 use Rattle.std.proofs.lemmas.List.Sums.{sum_by-cons, sum_by_push}
-use Rattle.std.proofs.Math.Path.{fun_ext}
 use Rattle.std.specs.Prelude.{◌==◌, if◌then◌else◌, slice_get, get_or, sum, sum_by}
 use Rattle.hub_core.proofs.Led.{led-opening}
 use Rattle.hub_core.proofs.Shown.{IsShown}
 use Rattle.hub_core.proofs.Starts.{few-words}
-use Rattle.hub_core.specs.Core.{HubState, IsLed}
-use Rattle.hub_core.specs.Plain.{start_of, state_of, reserved, taken}
-use Rattle.hub_core.specs.View.{View, Refusal, empty_view}
+use Rattle.hub_core.specs.Core.{IsLed}
+use Rattle.hub_core.specs.Plain.{start_of, reserved, taken}
+use Rattle.hub_core.specs.View.{View, empty_view}
 use Rattle.hub_core.specs.declared.place.Place.{Place}
 use Rattle.hub_core.specs.declared.place.Place.TheVariants.{Free, Occupied}
 use Rattle.hub_core.specs.declared.place.Row.{Row}
@@ -23,15 +22,8 @@ none-counted : (f : Place → ℕ) (n : ℕ) → f Free ≡ 0 → sum_by f (repl
 none-counted f zero is = refl
 none-counted f (suc n) is = sum_by-cons f Free (replicate n Free) ∙ omega (arith, is, none-counted f n is)
 
-no-refusals : (group : ℕ) → (state_of empty_view).refused group ≡ []
-no-refusals group = by-test (group == 0)
-  where
-    by-test : (b : Bool) → (let none : List Refusal = (if b then [] else []) in none) ≡ []
-    by-test true = refl
-    by-test false = refl
-
-led-empty : (sizes : List ℕ) → IsLed (sizes ∷ []) (state_of empty_view)
-led-empty sizes = subst (IsLed (sizes ∷ [])) (ap (λ (r : ℕ → List Refusal). (let h : HubState = record { view = empty_view; refused = r } in h)) (sym (fun_ext no-refusals))) (led-opening (sizes ∷ []))
+led-empty : (sizes : List ℕ) → IsLed (sizes ∷ []) empty_view
+led-empty sizes = led-opening (sizes ∷ [])
 
 -- nothing is shown yet
 pub begins : (sizes words : List ℕ) (places : List Place) (free takes : ℕ) (v : View) → v ≡ empty_view → places ≡ replicate (length sizes) Free → free ≡ 2 ^ length sizes - 1 → takes ≡ 1000000 → IsShown sizes places words 0 free takes v

@@ -22,14 +22,14 @@ two-beside p d q e g f h is = elim (cases_eq q p) [
 -- a path's sessions, a destination's readings and a buffer's taking grow as they would in another view
 pub sessions-beside : (path : ℕ) (call : Event) (v w : View) → v.sessions path ≡ w.sessions path → (grow call v).sessions path ≡ (grow call w).sessions path
 unfolding grow
-sessions-beside path (Took number buf size need) v w is = is
-sessions-beside path (Refused number free need) v w is = is
+sessions-beside path (Took group number buf size need) v w is = is
+sessions-beside path (Refused group number free need) v w is = is
 sessions-beside path (Entered p seq buf number size len readers) v w is = one-beside p path (λ (l : List Session). l ++ session_new buf number size len readers ∷ []) v.sessions w.sessions is
 sessions-beside path (Asked p seq cells readers) v w is = one-beside p path (change_at seq _) v.sessions w.sessions is
 sessions-beside path (Put p seq cell) v w is = one-beside p path (change_at seq _) v.sessions w.sessions is
 sessions-beside path (Published p seq bytes) v w is = one-beside p path (change_at seq _) v.sessions w.sessions is
 sessions-beside path (Joining p dest seq buf len) v w is = is
-sessions-beside path (Missed p dest seq) v w is = is
+sessions-beside path (Missed group p dest seq) v w is = is
 sessions-beside path (Saw p dest seq cells bytes writer) v w is = is
 sessions-beside path (Read p dest seq cell) v w is = is
 sessions-beside path (Closed p seq freed) v w is = one-beside p path (change_at seq _) v.sessions w.sessions is
@@ -37,14 +37,14 @@ sessions-beside path (Parted p dest seq freed) v w is = is
 
 pub readings-beside : (path dest : ℕ) (call : Event) (v w : View) → v.readings path dest ≡ w.readings path dest → (grow call v).readings path dest ≡ (grow call w).readings path dest
 unfolding grow
-readings-beside path dest (Took number buf size need) v w is = is
-readings-beside path dest (Refused number free need) v w is = is
+readings-beside path dest (Took group number buf size need) v w is = is
+readings-beside path dest (Refused group number free need) v w is = is
 readings-beside path dest (Entered p seq buf number size len readers) v w is = is
 readings-beside path dest (Asked p seq cells readers) v w is = is
 readings-beside path dest (Put p seq cell) v w is = is
 readings-beside path dest (Published p seq bytes) v w is = is
 readings-beside path dest (Joining p d seq buf len) v w is = two-beside p d path dest (λ (l : List Reading). l ++ reading_new buf len ∷ []) v.readings w.readings is
-readings-beside path dest (Missed p d seq) v w is = is
+readings-beside path dest (Missed group p d seq) v w is = is
 readings-beside path dest (Saw p d seq cells bytes writer) v w is = two-beside p d path dest (change_at seq _) v.readings w.readings is
 readings-beside path dest (Read p d seq cell) v w is = two-beside p d path dest (change_at seq _) v.readings w.readings is
 readings-beside path dest (Closed p seq freed) v w is = is
@@ -52,14 +52,14 @@ readings-beside path dest (Parted p d seq freed) v w is = two-beside p d path de
 
 pub held-beside : (buf : ℕ) (call : Event) (v w : View) → v.held buf ≡ w.held buf → (grow call v).held buf ≡ (grow call w).held buf
 unfolding grow
-held-beside buf (Took number b size need) v w is = one-beside b buf (λ (x : Option Taking). Some (record { number = number; size = size })) v.held w.held is
-held-beside buf (Refused number free need) v w is = is
+held-beside buf (Took group number b size need) v w is = one-beside b buf (λ (x : Option Taking). Some (record { number = number; size = size })) v.held w.held is
+held-beside buf (Refused group number free need) v w is = is
 held-beside buf (Entered p seq b number size len readers) v w is = one-beside b buf (λ (x : Option Taking). None) v.held w.held is
 held-beside buf (Asked p seq cells readers) v w is = is
 held-beside buf (Put p seq cell) v w is = is
 held-beside buf (Published p seq bytes) v w is = is
 held-beside buf (Joining p dest seq b len) v w is = is
-held-beside buf (Missed p dest seq) v w is = is
+held-beside buf (Missed group p dest seq) v w is = is
 held-beside buf (Saw p dest seq cells bytes writer) v w is = is
 held-beside buf (Read p dest seq cell) v w is = is
 held-beside buf (Closed p seq freed) v w is = is
@@ -83,14 +83,14 @@ apart-two mine p d q e x f mine-is not = elim (cases_eq q p) [
 -- the events of other parties leave a path's sessions and a destination's readings
 pub sessions-others : (part : Part) (path : ℕ) → part.writes path ≡ false → (e : Event) → IsOf part e → (v : View) → (grow e v).sessions path ≡ v.sessions path
 unfolding grow
-sessions-others part path not (Took number buf size need) of v = refl
-sessions-others part path not (Refused number free need) of v = refl
+sessions-others part path not (Took group number buf size need) of v = refl
+sessions-others part path not (Refused group number free need) of v = refl
 sessions-others part path not (Entered p seq buf number size len readers) of v = apart-one part.writes p path _ v.sessions of not
 sessions-others part path not (Asked p seq cells readers) of v = apart-one part.writes p path _ v.sessions of not
 sessions-others part path not (Put p seq cell) of v = apart-one part.writes p path _ v.sessions of not
 sessions-others part path not (Published p seq bytes) of v = apart-one part.writes p path _ v.sessions of not
 sessions-others part path not (Joining p dest seq buf len) of v = refl
-sessions-others part path not (Missed p dest seq) of v = refl
+sessions-others part path not (Missed group p dest seq) of v = refl
 sessions-others part path not (Saw p dest seq cells bytes writer) of v = refl
 sessions-others part path not (Read p dest seq cell) of v = refl
 sessions-others part path not (Closed p seq freed) of v = apart-one part.writes p path _ v.sessions of not
@@ -98,14 +98,14 @@ sessions-others part path not (Parted p dest seq freed) of v = refl
 
 pub readings-others : (part : Part) (path dest : ℕ) → part.reads path dest ≡ false → (e : Event) → IsOf part e → (v : View) → (grow e v).readings path dest ≡ v.readings path dest
 unfolding grow
-readings-others part path dest not (Took number buf size need) of v = refl
-readings-others part path dest not (Refused number free need) of v = refl
+readings-others part path dest not (Took group number buf size need) of v = refl
+readings-others part path dest not (Refused group number free need) of v = refl
 readings-others part path dest not (Entered p seq buf number size len readers) of v = refl
 readings-others part path dest not (Asked p seq cells readers) of v = refl
 readings-others part path dest not (Put p seq cell) of v = refl
 readings-others part path dest not (Published p seq bytes) of v = refl
 readings-others part path dest not (Joining p d seq buf len) of v = apart-two part.reads p d path dest _ v.readings of not
-readings-others part path dest not (Missed p d seq) of v = refl
+readings-others part path dest not (Missed group p d seq) of v = refl
 readings-others part path dest not (Saw p d seq cells bytes writer) of v = apart-two part.reads p d path dest _ v.readings of not
 readings-others part path dest not (Read p d seq cell) of v = apart-two part.reads p d path dest _ v.readings of not
 readings-others part path dest not (Closed p seq freed) of v = refl
@@ -113,43 +113,43 @@ readings-others part path dest not (Parted p d seq freed) of v = apart-two part.
 
 -- what an event adds to the changes, and to the overflows
 abbrev pub change_by : Event → List Change
-change_by (Took number buf size need) = Taken number buf need ∷ []
+change_by (Took group number buf size need) = Taken number buf need ∷ []
 change_by (Closed path seq freed) = freed
 change_by (Parted path dest seq freed) = freed
-change_by (Refused number free need) = []
+change_by (Refused group number free need) = []
 change_by (Entered p seq buf number size len readers) = []
 change_by (Asked p seq cells readers) = []
 change_by (Put p seq cell) = []
 change_by (Published p seq bytes) = []
 change_by (Joining p d seq buf len) = []
-change_by (Missed p d seq) = []
+change_by (Missed group p d seq) = []
 change_by (Saw p d seq cells bytes writer) = []
 change_by (Read p d seq cell) = []
 
 pub changes-added : (e : Event) (v : View) → (grow e v).changes ≡ v.changes ++ change_by e
 unfolding grow
-changes-added (Took number buf size need) v = refl
-changes-added (Refused number free need) v = sym (append-nil v.changes)
+changes-added (Took group number buf size need) v = refl
+changes-added (Refused group number free need) v = sym (append-nil v.changes)
 changes-added (Entered p seq buf number size len readers) v = sym (append-nil v.changes)
 changes-added (Asked p seq cells readers) v = sym (append-nil v.changes)
 changes-added (Put p seq cell) v = sym (append-nil v.changes)
 changes-added (Published p seq bytes) v = sym (append-nil v.changes)
 changes-added (Joining p d seq buf len) v = sym (append-nil v.changes)
-changes-added (Missed p d seq) v = sym (append-nil v.changes)
+changes-added (Missed group p d seq) v = sym (append-nil v.changes)
 changes-added (Saw p d seq cells bytes writer) v = sym (append-nil v.changes)
 changes-added (Read p d seq cell) v = sym (append-nil v.changes)
 changes-added (Closed p seq freed) v = refl
 changes-added (Parted p d seq freed) v = refl
 
 abbrev pub refusal_by : Event → List Refusal
-refusal_by (Refused number free need) = record { number = number; free = free; need = need } ∷ []
-refusal_by (Took number buf size need) = []
+refusal_by (Refused group number free need) = record { group = group; number = number; free = free; need = need } ∷ []
+refusal_by (Took group number buf size need) = []
 refusal_by (Entered p seq buf number size len readers) = []
 refusal_by (Asked p seq cells readers) = []
 refusal_by (Put p seq cell) = []
 refusal_by (Published p seq bytes) = []
 refusal_by (Joining p d seq buf len) = []
-refusal_by (Missed p d seq) = []
+refusal_by (Missed group p d seq) = []
 refusal_by (Saw p d seq cells bytes writer) = []
 refusal_by (Read p d seq cell) = []
 refusal_by (Closed p seq freed) = []
@@ -157,14 +157,14 @@ refusal_by (Parted p d seq freed) = []
 
 pub refused-added : (e : Event) (v : View) → (grow e v).refused ≡ v.refused ++ refusal_by e
 unfolding grow
-refused-added (Took number buf size need) v = sym (append-nil v.refused)
-refused-added (Refused number free need) v = refl
+refused-added (Took group number buf size need) v = sym (append-nil v.refused)
+refused-added (Refused group number free need) v = refl
 refused-added (Entered p seq buf number size len readers) v = sym (append-nil v.refused)
 refused-added (Asked p seq cells readers) v = sym (append-nil v.refused)
 refused-added (Put p seq cell) v = sym (append-nil v.refused)
 refused-added (Published p seq bytes) v = sym (append-nil v.refused)
 refused-added (Joining p d seq buf len) v = sym (append-nil v.refused)
-refused-added (Missed p d seq) v = sym (append-nil v.refused)
+refused-added (Missed group p d seq) v = sym (append-nil v.refused)
 refused-added (Saw p d seq cells bytes writer) v = sym (append-nil v.refused)
 refused-added (Read p d seq cell) v = sym (append-nil v.refused)
 refused-added (Closed p seq freed) v = sym (append-nil v.refused)

@@ -1,32 +1,62 @@
 -- Each step of the machine that may happen keeps all that its law says.
 use Rattle.std.proofs.Common.{◌≡◌, ℕ, ◌+◌, ◌-◌, inl, inr, Bool, false, List, [], ◌∷◌, ◌++◌, length, Option, Some, All, refl, ap, sym, ◌∙◌, subst, arith, append-nil}
 use Rattle.std.proofs.lemmas.Bool.Decides.{eqb_tells}
-use Rattle.std.proofs.lemmas.List.Elements.{All-nil, All-push}
+use Rattle.std.proofs.lemmas.List.Elements.{All-nil, All-push, All-weaker}
 use Rattle.std.proofs.lemmas.Option.{slice_get_within}
 use Rattle.std.specs.Prelude.{slice_get, if◌then◌else◌}
 use Rattle.gw_base.specs.Fit.{IsSmallest}
-use Rattle.hub_core.proofs.Grouped.{Journals, IsNext, journals-pushed, overflows-pushed}
+use Rattle.hub_core.proofs.Grouped.{Journals, IsNext, journals-pushed, overflow-stays}
 use Rattle.hub_core.proofs.Numbered.{own-numbers, taken-clear}
 use Rattle.hub_core.proofs.Owning.{Takes, Owned, GoOn, took, freed, entered, owned-on, on-session, on-reading, on-joining, on-same}
 use Rattle.hub_core.proofs.Streamed.{Streamed, put, asked, published, closed, saw, read, parted, joining, entered as session-entered}
-use Rattle.hub_core.specs.Core.{HubState, opening, Step, after, May, MayDo, MayTake, MayRefuse, MayFree, Leads, AreJoint, CoreLaw}
+use Rattle.hub_core.specs.Core.{Step, after, May, MayDo, MayTake, MayRefuse, MayFree, Leads, AreJoint, CoreLaw}
 use Rattle.hub_core.specs.Core.{Takes as TakesStep, Refuses, Does, Frees}
 use Rattle.hub_core.specs.Groups.{group_of, place_of, sizes_of, journal_of, changes_in, free_in}
-use Rattle.hub_core.specs.Joint.{replay, IsOverflow}
-use Rattle.hub_core.specs.View.{View, Change, Taken, Freed, Taking, Refusal, Session, Event, reading_new, grow}
+use Rattle.hub_core.specs.Journal.{replay, IsOverflow}
+use Rattle.hub_core.specs.Joint.{IsOverflowIn}
+use Rattle.hub_core.specs.View.{View, Change, Taken, Freed, Taking, Refusal, Session, Event, reading_new, grow, empty_view}
 use Rattle.hub_core.specs.View.{Took, Refused, Entered, Asked, Put, Published, Joining, Missed, Saw, Read, Closed, Parted}
 
-pub record Lawful (groups : List (List ℕ)) (h : HubState) : Type 0 where
-  pub journals : Journals groups h.view.changes
-  pub overflows : (group : ℕ) → All (IsOverflow (sizes_of groups group) (changes_in groups group h.view)) (h.refused group)
-  pub streamed : Streamed h.view
-  pub owned : Owned groups h.view.changes h.view.held h.view
+pub record Lawful (groups : List (List ℕ)) (v : View) : Type 0 where
+  pub journals : Journals groups v.changes
+  pub overflows : All (IsOverflowIn groups v) v.refused
+  pub streamed : Streamed v
+  pub owned : Owned groups v.changes v.held v
+
+-- the overflows stay as one more change comes
+overflows-stay : (groups : List (List ℕ)) (v w : View) (c : Change) → Journals groups v.changes → IsNext groups v.changes c → w.changes ≡ v.changes ++ c ∷ [] → w.refused ≡ v.refused →
+    All (IsOverflowIn groups v) v.refused → All (IsOverflowIn groups w) w.refused
+overflows-stay groups v w c journals next changes refused all =
+    All-weaker (IsOverflowIn groups (record v { changes = v.changes ++ c ∷ [] })) (IsOverflowIn groups w) (λ r is. record {
+      there = is.there;
+      its = subst (λ (l : List Change). IsOverflow (sizes_of groups r.group) (journal_of groups r.group l) r) (sym changes) is.its;
+    }) w.refused (subst (All (IsOverflowIn groups (record v { changes = v.changes ++ c ∷ [] }))) (sym refused)
+    (All-weaker (IsOverflowIn groups v) (IsOverflowIn groups (record v { changes = v.changes ++ c ∷ [] })) (λ r is. record {
+      there = is.there;
+      its = overflow-stays groups v.changes c journals next r.group r is.its;
+    }) v.refused all))
+
+-- the same changes and overflows
+overflows-same : (groups : List (List ℕ)) (v w : View) → w.changes ≡ v.changes → w.refused ≡ v.refused → All (IsOverflowIn groups v) v.refused → All (IsOverflowIn groups w) w.refused
+overflows-same groups v w changes refused all =
+    All-weaker (IsOverflowIn groups v) (IsOverflowIn groups w) (λ r is. record {
+      there = is.there;
+      its = subst (λ (l : List Change). IsOverflow (sizes_of groups r.group) (journal_of groups r.group l) r) (sym changes) is.its;
+    }) w.refused (subst (All (IsOverflowIn groups v)) (sym refused) all)
+
+-- one more overflow
+overflows-more : (groups : List (List ℕ)) (v w : View) (r : Refusal) → w.changes ≡ v.changes → w.refused ≡ v.refused ++ r ∷ [] → All (IsOverflowIn groups v) v.refused → IsOverflowIn groups v r → All (IsOverflowIn groups w) w.refused
+overflows-more groups v w r changes refused all is =
+    subst (All (IsOverflowIn groups w)) (sym refused) (All-push (IsOverflowIn groups w) v.refused r (All-weaker (IsOverflowIn groups v) (IsOverflowIn groups w) on v.refused all) (on r is))
+  where
+    on : (x : Refusal) → IsOverflowIn groups v x → IsOverflowIn groups w x
+    on x its = record { there = its.there; its = subst (λ (l : List Change). IsOverflow (sizes_of groups x.group) (journal_of groups x.group l) x) (sym changes) its.its }
 
 -- at the opening there is nothing
-begins : (groups : List (List ℕ)) → Lawful groups opening
+begins : (groups : List (List ℕ)) → Lawful groups empty_view
 begins groups = record {
   journals = record { order = λ g. tt; lawful = λ g number below. absurd (omega (arith, below)) };
-  overflows = λ g. All-nil (IsOverflow (sizes_of groups g) []);
+  overflows = All-nil (IsOverflowIn groups empty_view);
   streamed = record {
     streams = record { written = λ path seq s at. absurd cc; joined = λ path dest seq r at. absurd cc };
     own = λ path dest seq s r at there. absurd cc;
@@ -47,139 +77,135 @@ begins groups = record {
 }
 
 -- the pool stays, and all sessions go on
-goes : (groups : List (List ℕ)) (h : HubState) (w : View) → Lawful groups h → Streamed w → w.changes ≡ h.view.changes → w.held ≡ h.view.held → GoOn h.view w → Lawful groups (record h { view = w })
-goes groups h w so streamed changes held on = record {
+goes : (groups : List (List ℕ)) (v : View) (w : View) → Lawful groups v → Streamed w → w.changes ≡ v.changes → w.held ≡ v.held → w.refused ≡ v.refused → GoOn v w → Lawful groups w
+goes groups v w so streamed changes held refused on = record {
   journals = subst (Journals groups) (sym changes) so.journals;
-  overflows = λ g. subst (λ (l : List Change). All (IsOverflow (sizes_of groups g) (journal_of groups g l)) (h.refused g)) (sym changes) (so.overflows g);
+  overflows = overflows-same groups v w changes refused so.overflows;
   streamed = streamed;
-  owned = subst (λ (x : List Change × (ℕ → Option Taking)). Owned groups x.0 x.1 w) (λ i. (sym changes i, sym held i)) (owned-on groups h.view.changes h.view.held h.view w on so.owned);
+  owned = subst (λ (x : List Change × (ℕ → Option Taking)). Owned groups x.0 x.1 w) (λ i. (sym changes i, sym held i)) (owned-on groups v.changes v.held v w on so.owned);
 }
 
 -- after a call of a party
-does : (groups : List (List ℕ)) (h : HubState) (event : Event) → MayDo h.view event → Lawful groups h → Lawful groups (after (Does event) h)
+does : (groups : List (List ℕ)) (v : View) (event : Event) → MayDo v event → Lawful groups v → Lawful groups (after (Does event) v)
 unfolding grow
-does groups h (Took number buf size need) may so = absurd may
-does groups h (Refused number free need) may so = absurd may
-does groups h (Entered path seq buf number size len readers) may so = record {
+does groups v (Took group number buf size need) may so = absurd may
+does groups v (Refused group number free need) may so = absurd may
+does groups v (Entered path seq buf number size len readers) may so = record {
   journals = so.journals;
-  overflows = so.overflows;
-  streamed = session-entered path seq buf number size len readers h.view may so.streamed;
-  owned = entered groups h.view.changes h.view.held h.view (grow (Entered path seq buf number size len readers) h.view) path buf number size len readers may.0 refl refl so.owned;
+  overflows = overflows-same groups v (grow (Entered path seq buf number size len readers) v) refl refl so.overflows;
+  streamed = session-entered path seq buf number size len readers v may so.streamed;
+  owned = entered groups v.changes v.held v (grow (Entered path seq buf number size len readers) v) path buf number size len readers may.0 refl refl so.owned;
 }
-does groups h (Asked path seq cells readers) may so =
-    goes groups h (grow (Asked path seq cells readers) h.view) so (asked path seq cells readers h.view may so.streamed) refl refl
-    (on-session path seq (λ s. record s { room = cells; readers = readers }) h.view (grow (Asked path seq cells readers) h.view) refl refl (λ s. record { buf = refl; number = refl; size = refl; dests = refl; gone = λ gone. gone }))
-does groups h (Put path seq cell) may so =
-    goes groups h (grow (Put path seq cell) h.view) so (put path seq cell h.view may so.streamed) refl refl
-    (on-session path seq (λ s. record s { cells = s.cells ++ cell ∷ []; room = s.room - 1 }) h.view (grow (Put path seq cell) h.view) refl refl (λ s. record { buf = refl; number = refl; size = refl; dests = refl; gone = λ gone. gone }))
-does groups h (Published path seq bytes) may so =
-    goes groups h (grow (Published path seq bytes) h.view) so (published path seq bytes h.view may so.streamed) refl refl
-    (on-session path seq (λ s. record s { shown = length s.cells; told = s.told + bytes }) h.view (grow (Published path seq bytes) h.view) refl refl (λ s. record { buf = refl; number = refl; size = refl; dests = refl; gone = λ gone. gone }))
-does groups h (Joining path dest seq buf len) may so =
-    goes groups h (grow (Joining path dest seq buf len) h.view) so (joining path dest seq buf len h.view may so.streamed) refl refl
-    (on-joining path dest (reading_new buf len) h.view (grow (Joining path dest seq buf len) h.view) refl refl)
-does groups h (Missed path dest seq) may so = so
-does groups h (Saw path dest seq cells bytes writer) may so =
-    goes groups h (grow (Saw path dest seq cells bytes writer) h.view) so (saw path dest seq cells bytes writer h.view may so.streamed) refl refl
-    (on-reading path dest seq (λ r. record r { seen = cells; bytes = bytes; writer = writer }) may.reading h.view (grow (Saw path dest seq cells bytes writer) h.view) refl refl may.reads.0 may.reads.1)
-does groups h (Read path dest seq cell) may so =
-    goes groups h (grow (Read path dest seq cell) h.view) so (read path dest seq cell h.view may so.streamed) refl refl
-    (on-reading path dest seq (λ r. record r { cells = r.cells ++ cell ∷ [] }) may.reading h.view (grow (Read path dest seq cell) h.view) refl refl may.reads.0 may.reads.1)
-does groups h (Closed path seq freed-now) may so =
-    subst (λ (f : List Change). Lawful groups (record h { view = grow (Closed path seq f) h.view })) (sym may.2)
-    (goes groups h (grow (Closed path seq []) h.view) so (closed path seq h.view (may.0, may.1, refl) so.streamed) (append-nil h.view.changes) refl
-    (on-session path seq (λ s. record s { stands = false }) h.view (grow (Closed path seq []) h.view) refl refl (λ s. record { buf = refl; number = refl; size = refl; dests = refl; gone = λ gone. refl })))
-does groups h (Parted path dest seq freed-now) may so =
-    subst (λ (f : List Change). Lawful groups (record h { view = grow (Parted path dest seq f) h.view })) (sym may.2)
-    (goes groups h (grow (Parted path dest seq []) h.view) so (parted path dest seq h.view (may.0, may.1, refl) so.streamed) (append-nil h.view.changes) refl
-    (on-reading path dest seq (λ r. record r { stands = false }) may.0 h.view (grow (Parted path dest seq []) h.view) refl refl may.1.0 may.1.1))
+does groups v (Asked path seq cells readers) may so =
+    goes groups v (grow (Asked path seq cells readers) v) so (asked path seq cells readers v may so.streamed) refl refl refl
+    (on-session path seq (λ s. record s { room = cells; readers = readers }) v (grow (Asked path seq cells readers) v) refl refl (λ s. record { buf = refl; number = refl; size = refl; dests = refl; gone = λ gone. gone }))
+does groups v (Put path seq cell) may so =
+    goes groups v (grow (Put path seq cell) v) so (put path seq cell v may so.streamed) refl refl refl
+    (on-session path seq (λ s. record s { cells = s.cells ++ cell ∷ []; room = s.room - 1 }) v (grow (Put path seq cell) v) refl refl (λ s. record { buf = refl; number = refl; size = refl; dests = refl; gone = λ gone. gone }))
+does groups v (Published path seq bytes) may so =
+    goes groups v (grow (Published path seq bytes) v) so (published path seq bytes v may so.streamed) refl refl refl
+    (on-session path seq (λ s. record s { shown = length s.cells; told = s.told + bytes }) v (grow (Published path seq bytes) v) refl refl (λ s. record { buf = refl; number = refl; size = refl; dests = refl; gone = λ gone. gone }))
+does groups v (Joining path dest seq buf len) may so =
+    goes groups v (grow (Joining path dest seq buf len) v) so (joining path dest seq buf len v may so.streamed) refl refl refl
+    (on-joining path dest (reading_new buf len) v (grow (Joining path dest seq buf len) v) refl refl)
+does groups v (Missed group path dest seq) may so = so
+does groups v (Saw path dest seq cells bytes writer) may so =
+    goes groups v (grow (Saw path dest seq cells bytes writer) v) so (saw path dest seq cells bytes writer v may so.streamed) refl refl refl
+    (on-reading path dest seq (λ r. record r { seen = cells; bytes = bytes; writer = writer }) may.reading v (grow (Saw path dest seq cells bytes writer) v) refl refl may.reads.0 may.reads.1)
+does groups v (Read path dest seq cell) may so =
+    goes groups v (grow (Read path dest seq cell) v) so (read path dest seq cell v may so.streamed) refl refl refl
+    (on-reading path dest seq (λ r. record r { cells = r.cells ++ cell ∷ [] }) may.reading v (grow (Read path dest seq cell) v) refl refl may.reads.0 may.reads.1)
+does groups v (Closed path seq freed-now) may so =
+    subst (λ (f : List Change). Lawful groups (grow (Closed path seq f) v)) (sym may.2)
+    (goes groups v (grow (Closed path seq []) v) so (closed path seq v (may.0, may.1, refl) so.streamed) (append-nil v.changes) refl refl
+    (on-session path seq (λ s. record s { stands = false }) v (grow (Closed path seq []) v) refl refl (λ s. record { buf = refl; number = refl; size = refl; dests = refl; gone = λ gone. refl })))
+does groups v (Parted path dest seq freed-now) may so =
+    subst (λ (f : List Change). Lawful groups (grow (Parted path dest seq f) v)) (sym may.2)
+    (goes groups v (grow (Parted path dest seq []) v) so (parted path dest seq v (may.0, may.1, refl) so.streamed) (append-nil v.changes) refl refl
+    (on-reading path dest seq (λ r. record r { stands = false }) may.0 v (grow (Parted path dest seq []) v) refl refl may.1.0 may.1.1))
 
 -- after a take, and after a take that found no buffer
-takes : (groups : List (List ℕ)) (h : HubState) (group number buf size need : ℕ) → MayTake groups h.view group number buf size need → Lawful groups h → Lawful groups (after (TakesStep group number buf size need) h)
+takes : (groups : List (List ℕ)) (v : View) (group number buf size need : ℕ) → MayTake groups v group number buf size need → Lawful groups v → Lawful groups (after (TakesStep group number buf size need) v)
 unfolding grow
-takes groups h group number buf size need may so = record {
-  journals = journals-pushed groups h.view.changes c so.journals next;
-  overflows = λ g. overflows-pushed groups h.view.changes c so.journals next g (h.refused g) (so.overflows g);
+takes groups v group number buf size need may so = record {
+  journals = journals-pushed groups v.changes c so.journals next;
+  overflows = overflows-stay groups v (grow (Took group number buf size need) v) c so.journals next refl refl so.overflows;
   streamed = record { streams = record { written = so.streamed.streams.written; joined = so.streamed.streams.joined }; own = so.streamed.own; most = so.streamed.most; roomy = so.streamed.roomy; none = so.streamed.none };
-  owned = owned-on groups _ _ h.view (grow (Took number buf size need) h.view) (on-same h.view (grow (Took number buf size need) h.view) refl refl)
-      (took groups h.view.changes h.view.held h.view number buf size need so.journals next (subst (λ (g : ℕ). slice_get (sizes_of groups g) (place_of groups buf) ≡ Some size) (sym may.its) may.size_is) so.owned);
+  owned = owned-on groups _ _ v (grow (Took group number buf size need) v) (on-same v (grow (Took group number buf size need) v) refl refl)
+      (took groups v.changes v.held v number buf size need so.journals next (subst (λ (g : ℕ). slice_get (sizes_of groups g) (place_of groups buf) ≡ Some size) (sym may.its) may.size_is) so.owned);
 }
   where
     c : Change
     c = Taken number buf need
 
-    next : IsNext groups h.view.changes c
+    next : IsNext groups v.changes c
     next = record {
-      number = subst (λ (g : ℕ). number ≡ length (changes_in groups g h.view) + 1) (sym may.its) may.next;
-      lawful = subst (λ (g : ℕ). IsSmallest (sizes_of groups g) (free_in groups g h.view) need (place_of groups buf)) (sym may.its) may.smallest;
+      number = subst (λ (g : ℕ). number ≡ length (changes_in groups g v) + 1) (sym may.its) may.next;
+      lawful = subst (λ (g : ℕ). IsSmallest (sizes_of groups g) (free_in groups g v) need (place_of groups buf)) (sym may.its) may.smallest;
     }
 
-refuses : (groups : List (List ℕ)) (h : HubState) (group number free need : ℕ) → MayRefuse groups h.view group number free need → Lawful groups h → Lawful groups (after (Refuses group number free need) h)
+refuses : (groups : List (List ℕ)) (v : View) (group number free need : ℕ) → MayRefuse groups v group number free need → Lawful groups v → Lawful groups (after (Refuses group number free need) v)
 unfolding grow
-refuses groups h group number free need may so = record {
+refuses groups v group number free need may so = record {
   journals = so.journals;
-  overflows = λ g. elim (eqb_tells g group) [
-    | inl same ↦
-        subst (λ (x : Bool). All (IsOverflow (sizes_of groups g) (changes_in groups g h.view)) (if x then h.refused group ++ new ∷ [] else h.refused g)) (sym same.0)
-        (subst (λ (x : ℕ). All (IsOverflow (sizes_of groups x) (changes_in groups x h.view)) (h.refused group ++ new ∷ [])) (sym same.1)
-        (All-push (IsOverflow (sizes_of groups group) (changes_in groups group h.view)) (h.refused group) new (so.overflows group) is))
-    | inr other ↦ subst (λ (x : Bool). All (IsOverflow (sizes_of groups g) (changes_in groups g h.view)) (if x then h.refused group ++ new ∷ [] else h.refused g)) (sym other.0) (so.overflows g)
-  ];
+  overflows = overflows-more groups v (grow (Refused group number free need) v) new refl refl so.overflows (record { there = may.there; its = is });
   streamed = record { streams = record { written = so.streamed.streams.written; joined = so.streamed.streams.joined }; own = so.streamed.own; most = so.streamed.most; roomy = so.streamed.roomy; none = so.streamed.none };
-  owned = owned-on groups h.view.changes h.view.held h.view (grow (Refused number free need) h.view) (on-same h.view (grow (Refused number free need) h.view) refl refl) so.owned;
+  owned = owned-on groups v.changes v.held v (grow (Refused group number free need) v) (on-same v (grow (Refused group number free need) v) refl refl) so.owned;
 }
   where
     new : Refusal
-    new = record { number = number; free = free; need = need }
+    new = record { group = group; number = number; free = free; need = need }
 
-    is : IsOverflow (sizes_of groups group) (changes_in groups group h.view) new
-    is = record { there = omega (arith, may.now); set = may.set ∙ ap (replay (sizes_of groups group) (changes_in groups group h.view)) (sym may.now); none_fits = may.none_fits }
+    is : IsOverflow (sizes_of groups group) (changes_in groups group v) new
+    is = record { there = omega (arith, may.now); set = may.set ∙ ap (replay (sizes_of groups group) (changes_in groups group v)) (sym may.now); none_fits = may.none_fits }
 
 -- after the free of a buffer
-frees : (groups : List (List ℕ)) (h : HubState) (number buf : ℕ) → MayFree groups h.view number buf → Lawful groups h → Lawful groups (after (Frees number buf) h)
-frees groups h number buf may so = record {
-  journals = journals-pushed groups h.view.changes c so.journals next;
-  overflows = λ g. overflows-pushed groups h.view.changes c so.journals next g (h.refused g) (so.overflows g);
+frees : (groups : List (List ℕ)) (v : View) (number buf : ℕ) → MayFree groups v number buf → Lawful groups v → Lawful groups (after (Frees number buf) v)
+frees groups v number buf may so = record {
+  journals = journals-pushed groups v.changes c so.journals next;
+  overflows = overflows-stay groups v (after (Frees number buf) v) c so.journals next refl refl so.overflows;
   streamed = record { streams = record { written = so.streamed.streams.written; joined = so.streamed.streams.joined }; own = so.streamed.own; most = so.streamed.most; roomy = so.streamed.roomy; none = so.streamed.none };
-  owned = owned-on groups _ _ h.view (after (Frees number buf) h).view (on-same h.view (after (Frees number buf) h).view refl refl)
-      (freed groups h.view.changes h.view.held h.view number buf may.path may.seq may.session so.journals next may.known may.its may.over may.last so.owned);
+  owned = owned-on groups _ _ v (after (Frees number buf) v) (on-same v (after (Frees number buf) v) refl refl)
+      (freed groups v.changes v.held v number buf may.path may.seq may.session so.journals next may.known may.its may.over may.last so.owned);
 }
   where
     c : Change
     c = Freed number buf
 
-    its : Takes groups h.view.changes buf may.session.number may.session.size
-    its = subst (λ (b : ℕ). Takes groups h.view.changes b may.session.number may.session.size) may.its (so.owned.taken may.path may.seq may.session may.known)
+    its : Takes groups v.changes buf may.session.number may.session.size
+    its = subst (λ (b : ℕ). Takes groups v.changes b may.session.number may.session.size) may.its (so.owned.taken may.path may.seq may.session may.known)
 
-    next : IsNext groups h.view.changes c
+    next : IsNext groups v.changes c
     next = record {
       number = may.next;
       lawful = (
         slice_get_within (sizes_of groups (group_of groups buf)) (place_of groups buf) may.session.size its.size_is,
-        taken-clear (sizes_of groups (group_of groups buf)) (changes_in groups (group_of groups buf) h.view) may.session.number (place_of groups buf) its.need (so.journals.order (group_of groups buf)) (so.journals.lawful (group_of groups buf)) its.take may.last,
+        taken-clear (sizes_of groups (group_of groups buf)) (changes_in groups (group_of groups buf) v) may.session.number (place_of groups buf) its.need (so.journals.order (group_of groups buf)) (so.journals.lawful (group_of groups buf)) its.take may.last,
       );
     }
 
-steps-keep : (groups : List (List ℕ)) (h : HubState) (step : Step) → May groups h step → Lawful groups h → Lawful groups (after step h)
-steps-keep groups h (TakesStep group number buf size need) may so = takes groups h group number buf size need may so
-steps-keep groups h (Refuses group number free need) may so = refuses groups h group number free need may so
-steps-keep groups h (Does event) may so = does groups h event may so
-steps-keep groups h (Frees number buf) may so = frees groups h number buf may so
+steps-keep : (groups : List (List ℕ)) (v : View) (step : Step) → May groups v step → Lawful groups v → Lawful groups (after step v)
+steps-keep groups v (TakesStep group number buf size need) may so = takes groups v group number buf size need may so
+steps-keep groups v (Refuses group number free need) may so = refuses groups v group number free need may so
+steps-keep groups v (Does event) may so = does groups v event may so
+steps-keep groups v (Frees number buf) may so = frees groups v number buf may so
 
-leads : (groups : List (List ℕ)) (steps : List Step) (h last : HubState) → Lawful groups h → Leads groups h steps last → Lawful groups last
-leads groups [] h last so is = subst (Lawful groups) (sym is) so
-leads groups (step ∷ steps) h last so led = elim led [
-  | inl did ↦ leads groups steps (after step h) last (steps-keep groups h step did.0 so) did.1
-  | inr stayed ↦ leads groups steps h last so stayed.1
+leads : (groups : List (List ℕ)) (steps : List Step) (v last : View) → Lawful groups v → Leads groups v steps last → Lawful groups last
+leads groups [] v last so is = subst (Lawful groups) (sym is) so
+leads groups (step ∷ steps) v last so led = elim led [
+  | inl did ↦ leads groups steps (after step v) last (steps-keep groups v step did.0 so) did.1
+  | inr stayed ↦ leads groups steps v last so stayed.1
 ]
 
-pub lawful-of : (groups : List (List ℕ)) (steps : List Step) (h : HubState) → Leads groups opening steps h → Lawful groups h
-lawful-of groups steps h led = leads groups steps opening h (begins groups) led
+pub lawful-of : (groups : List (List ℕ)) (steps : List Step) (v : View) → Leads groups empty_view steps v → Lawful groups v
+lawful-of groups steps v led = leads groups steps empty_view v (begins groups) led
 
 -- what is kept is what the law says
-pub joint : (groups : List (List ℕ)) (h : HubState) → Lawful groups h → AreJoint groups h
-joint groups h so = record {
-  journal = λ g. record { count_is = refl; free_is = refl; order = so.journals.order g; own = own-numbers (changes_in groups g h.view) (so.journals.order g); each = so.journals.lawful g; overflows = so.overflows g };
+pub joint : (groups : List (List ℕ)) (v : View) → Lawful groups v → AreJoint groups v
+joint groups v so = record {
+  journal = λ g. record { count_is = refl; free_is = refl; own = own-numbers (changes_in groups g v) (so.journals.order g); each = so.journals.lawful g };
+  order = so.journals.order;
+  overflows = so.overflows;
   streams = so.streamed.streams;
   owned = record {
     taken = λ path seq s at. let its = so.owned.taken path seq s at in record { need = its.need; take = its.take; size = its.size_is };
@@ -203,4 +229,4 @@ joint groups h so = record {
 }
 
 pub core : CoreLaw
-core groups steps h led = joint groups h (lawful-of groups steps h led)
+core groups steps v led = joint groups v (lawful-of groups steps v led)

@@ -5,7 +5,7 @@ use Rattle.std.proofs.lemmas.Bool.Decides.{eqb_tells}
 use Rattle.std.specs.Prelude.{◌==◌, if◌then◌else◌}
 use Rattle.hub_core.proofs.Numbered.{AreLawful, numbered-old, numbered-back, numbered-new, within, order-pushed, lawful-pushed, overflow-pushed}
 use Rattle.hub_core.specs.Groups.{group_of, place_of, sizes_of, in_group, journal_of}
-use Rattle.hub_core.specs.Joint.{AreInOrder, number_of, numbered, replay, IsLawful, IsOverflow, changed_buf, ChangesBuf}
+use Rattle.hub_core.specs.Journal.{AreInOrder, number_of, numbered, replay, IsLawful, IsOverflow, changed_buf, ChangesBuf}
 use Rattle.hub_core.specs.View.{Change, Taken, Freed, Refusal}
 
 -- a buffer of the first group, and one of a later group
@@ -139,9 +139,9 @@ module _ (groups : List (List ℕ)) (changes : List Change) (c : Change) (journa
       next : (g : ℕ) → group ≡ g → number_of (in_group groups c) ≡ length (before g) + 1
       next g same = number-is ∙ ap (λ (x : ℕ). length (before x) + 1) same
 
-  -- overflows are of earlier words, which stay
-  pub overflows-pushed : (g : ℕ) (refused : List Refusal) → All (IsOverflow (sizes_of groups g) (before g)) refused → All (IsOverflow (sizes_of groups g) (now g)) refused
-  overflows-pushed g refused all = elim (eqb_tells group g) [
-    | inl same ↦ subst (λ (l : List Change). All (IsOverflow (sizes_of groups g) l) refused) (sym (pushed-same groups g changes c same.1)) (overflow-pushed (sizes_of groups g) (before g) (in_group groups c) refused (journals.order g) all)
-    | inr other ↦ subst (λ (l : List Change). All (IsOverflow (sizes_of groups g) l) refused) (sym (pushed-else groups g changes c other.1)) all
+  -- an overflow is of an earlier word, which stays
+  pub overflow-stays : (g : ℕ) (r : Refusal) → IsOverflow (sizes_of groups g) (before g) r → IsOverflow (sizes_of groups g) (now g) r
+  overflow-stays g r is = elim (eqb_tells group g) [
+    | inl same ↦ subst (λ (l : List Change). IsOverflow (sizes_of groups g) l r) (sym (pushed-same groups g changes c same.1)) (overflow-pushed (sizes_of groups g) (before g) (in_group groups c) r (journals.order g) is)
+    | inr other ↦ subst (λ (l : List Change). IsOverflow (sizes_of groups g) l r) (sym (pushed-else groups g changes c other.1)) is
   ]

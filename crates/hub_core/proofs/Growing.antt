@@ -220,13 +220,13 @@ by_changed-reading : (path dest seq : ℕ) (f : Reading → Reading) (v w : View
 by_changed-reading path dest seq f v w sessions grown =
     by_reader path dest 0 (change_at seq f (v.readings path dest)) v w sessions grown (omega (arith, length-change_at seq f (v.readings path dest)))
 
-pub by-took : (number buf size need : ℕ) (v w : View) → w ≡ grow (Took number buf size need) v → SameParties v w
+pub by-took : (group number buf size need : ℕ) (v w : View) → w ≡ grow (Took group number buf size need) v → SameParties v w
 unfolding grow
-by-took number buf size need v w grown = record { sessions = ap (λ (x : View). x.sessions) grown; readings = ap (λ (x : View). x.readings) grown }
+by-took group number buf size need v w grown = record { sessions = ap (λ (x : View). x.sessions) grown; readings = ap (λ (x : View). x.readings) grown }
 
-pub by-refused : (number free need : ℕ) (v w : View) → w ≡ grow (Refused number free need) v → SameParties v w
+pub by-refused : (group number free need : ℕ) (v w : View) → w ≡ grow (Refused group number free need) v → SameParties v w
 unfolding grow
-by-refused number free need v w grown = record { sessions = ap (λ (x : View). x.sessions) grown; readings = ap (λ (x : View). x.readings) grown }
+by-refused group number free need v w grown = record { sessions = ap (λ (x : View). x.sessions) grown; readings = ap (λ (x : View). x.readings) grown }
 
 pub by-entered : (path seq buf number size len readers : ℕ) (v w : View) → w ≡ grow (Entered path seq buf number size len readers) v → ByWriter path 1 v w
 unfolding grow
@@ -258,9 +258,9 @@ unfolding grow
 by-joining path dest seq buf len v w grown =
     by_reader path dest 1 (v.readings path dest ++ reading_new buf len ∷ []) v w (ap (λ (x : View). x.sessions) grown) (ap (λ (x : View). x.readings) grown) (length-append (v.readings path dest) (reading_new buf len ∷ []))
 
-pub by-missed : (path dest seq : ℕ) (v w : View) → w ≡ grow (Missed path dest seq) v → ByReader path dest 0 v w
+pub by-missed : (group path dest seq : ℕ) (v w : View) → w ≡ grow (Missed group path dest seq) v → ByReader path dest 0 v w
 unfolding grow
-by-missed path dest seq v w grown = record {
+by-missed group path dest seq v w grown = record {
   sessions = ap (λ (x : View). x.sessions) grown;
   number = ap (λ (x : View). length (x.readings path dest)) grown ∙ omega arith;
   others_of = λ other ne. ap (λ (x : View). x.readings other) grown;
@@ -342,3 +342,18 @@ reads-joining path dest seq buf len v w t at grown is =
       known = ap (λ (x : View). slice_get (x.readings path.0 dest.0) seq) grown ∙ ap (λ (l : List Reading). slice_get l seq) (at_two-same path.0 dest.0 (v.readings path.0 dest.0 ++ new ∷ []) v.readings) ∙ slice_get-pushed (v.readings path.0 dest.0) new seq at;
       says = record { buf = refl; len = refl; at = refl; taken = refl; within = omega arith; seen = refl; at_most = omega arith; stands = refl };
     })
+
+-- and tokens with equal fields are equal
+pub opened-is : (a b : Opened) → SameOpened a b → a ≡ b
+opened-is a b is = λ i. record {
+  path = is.path i;
+  seq = is.seq i;
+  buf = is.buf i;
+  cells = is.cells i;
+  len = is.len i;
+  put = is.put i;
+  given = is.given i;
+  told = is.told i;
+  room = is.room i;
+  readers = is.readers i;
+}

@@ -1,20 +1,25 @@
 -- What a plain hub keeps, named by the hub, and where its parties' places are.
-use Rattle.std.proofs.Common.{◌≡◌, ℕ, ◌+◌, ◌^◌, ◌%◌, ◌<◌, ◌≤◌, List, length, Option, Some, None, refl, ap, sym, ◌∙◌, subst, arith, length-set}
+use Rattle.std.proofs.Common.{◌≡◌, ℕ, ◌+◌, ◌-◌, ◌^◌, ◌%◌, ◌<◌, ◌≤◌, List, [], ◌∷◌, length, Option, Some, None, refl, ap, sym, ◌∙◌, subst, arith, length-set}
 use Rattle.std.specs.Prelude.{slice_set, slice_get, get_or, IsBitSet}
 use Rattle.std.proofs.lemmas.Option.{get_or_from_slice_get, slice_get_within}
 use Rattle.std.specs.Vec.{vec_len}
 use Rattle.hub_core.proofs.Fresh.{rise-grow, missed-exact, past-end}
-use Rattle.hub_core.proofs.Ledger.{streams, session-size, session-clear, unfreed}
+use Rattle.hub_core.proofs.Grouped.{first-group}
+use Rattle.hub_core.proofs.Growing.{by-missed}
+use Rattle.hub_core.proofs.Ledger.{free-is, one-journal, order, streams, session-size, session-clear, unfreed}
 use Rattle.hub_core.proofs.Looks.{reader-size, next-cell, word-there, joint-now, place-read, row-read, place-there}
 use Rattle.hub_core.proofs.Shown.{IsShown, writer-place, writer-stays, reader-place, reader-session, reader-stays}
 use Rattle.hub_core.proofs.Starts.{size-some, in-words, few-words}
-use Rattle.hub_core.specs.Calls.{path_of, seq_of, buf_of}
+use Rattle.hub_core.specs.Calls.{SameMeans, TakeUsed, CellUsed, ByReader, IsBufferOf, path_of, seq_of, buf_of}
 use Rattle.hub_core.specs.Floors.{Rise, IsFresh, floors_of}
+use Rattle.hub_core.specs.Groups.{group_of, sizes_of, changes_in, IsWordOf}
 use Rattle.hub_core.specs.Joint.{Joint}
+use Rattle.hub_core.specs.Journal.{AreInOrder}
 use Rattle.hub_core.specs.Past.{view_after}
-use Rattle.hub_core.specs.Plain.{AreLaid, session_in, start_of}
+use Rattle.hub_core.specs.Plain.{AreLaid, port_of, session_in, start_of}
+use Rattle.hub_core.specs.Stays.{Stays}
 use Rattle.hub_core.specs.Tokens.{Writes, Reads, TakesPart}
-use Rattle.hub_core.specs.View.{View, Session, Event, Missed, session_at, grow}
+use Rattle.hub_core.specs.View.{View, Change, Session, Event, Missed, session_at, grow}
 use Rattle.hub_core.specs.declared.place.Place.{Place}
 use Rattle.hub_core.specs.declared.place.Place.TheVariants.{Occupied}
 use Rattle.hub_core.specs.declared.place.Row.{Row}
@@ -38,13 +43,64 @@ module _ (hub : PlainHub) where
   abbrev v : View
   v = view_after hub.past.seat.me.0.deeds
 
+  abbrev groups : List (List ℕ)
+  groups = hub.sizes.items ∷ []
+
   -- the view is joint at every moment
-  pub hub-joint : Joint hub.sizes.items hub.changes hub.free v
+  pub hub-joint : Joint groups v
   hub-joint = joint-now hub.sizes.items hub.places.items hub.words.items hub.changes hub.free hub.takes v (shown-of hub)
 
+  -- the one group's word
+  pub hub-word : (group : ℕ) → group ≡ 0 → IsWordOf groups group v hub.changes hub.free
+  hub-word group first = subst (λ (g : ℕ). IsWordOf groups g v hub.changes hub.free) (sym first) (record {
+    number_is = hub.counts.changes_are ∙ ap (λ (l : List Change). length l) (sym (one-journal hub.sizes.items v hub.led));
+    free_is = hub.counts.free_is ∙ sym (free-is hub.sizes.items v hub.led);
+  })
+
+  pub hub-order : (group : ℕ) → group ≡ 0 → AreInOrder (changes_in groups group v)
+  hub-order group first = subst (λ (g : ℕ). AreInOrder (changes_in groups g v)) (sym first) (subst AreInOrder (sym (one-journal hub.sizes.items v hub.led)) (order hub.sizes.items v hub.led))
+
+  -- a buffer of the one group
+  pub buffer-of : (group buf size : ℕ) → group ≡ 0 → slice_get hub.sizes.items buf ≡ Some size → IsBufferOf groups group buf size
+  buffer-of group buf size first is =
+      let its = first-group hub.sizes.items [] buf (slice_get_within hub.sizes.items buf size is) in
+      (its.0 ∙ sym first, ap (λ (x : ℕ × ℕ). slice_get (sizes_of groups x.0) x.1) (λ i. (first i, its.1 i)) ∙ is)
+
+  pub session-group : (path seq : ℕ) (s : Session) → session_at v path seq ≡ Some s → group_of groups s.buf ≡ 0
+  session-group path seq s at = (first-group hub.sizes.items [] s.buf (slice_get_within hub.sizes.items s.buf s.size (session-size hub.sizes.items v hub.led path seq s at))).0
+
   -- no call lowers the floors
-  pub hub-rises : (event : Event) (w : View) → w ≡ grow event v → Rise (floors_of v) (floors_of w)
-  hub-rises event w grown = rise-grow event v w (streams hub.sizes.items v hub.led) grown
+  pub hub-rises : (event : Event) (w : View) → w ≡ grow event v → Rise (floors_of groups v) (floors_of groups w)
+  hub-rises event w grown = rise-grow groups event v w (streams hub.sizes.items v hub.led) grown
+
+  -- what a call leaves as it is, and what a take does
+  pub stays-same : {By : View → View → Type 0} (event : Event) (w : View) → w ≡ grow event v → By v w → Stays By SameMeans (port_of groups hub.takes v) (port_of groups hub.takes w)
+  stays-same event w grown by = record {
+    by = by;
+    means = record { pool = record { groups = refl; writes = refl; reads = refl; most = refl }; takes = refl; spare = omega arith };
+    rise = hub-rises event w grown;
+    home = refl;
+  }
+
+  pub stays-missed : (path dest seq : ℕ) → Stays (ByReader path dest 0) SameMeans (port_of groups hub.takes v) (port_of groups hub.takes v)
+  unfolding grow
+  stays-missed path dest seq = stays-same (Missed 0 path dest seq) v refl (by-missed 0 path dest seq v v refl)
+
+  pub stays-took : {By : View → View → Type 0} (event : Event) (w : View) → w ≡ grow event v → By v w → Stays By TakeUsed (port_of groups hub.takes v) (port_of groups (hub.takes - 1) w)
+  stays-took event w grown by = record {
+    by = by;
+    means = record { pool = record { groups = refl; writes = refl; reads = refl; most = refl }; takes = omega arith; spare = omega arith };
+    rise = hub-rises event w grown;
+    home = refl;
+  }
+
+  pub stays-put : {By : View → View → Type 0} (event : Event) (w : View) → w ≡ grow event v → By v w → Stays By CellUsed (port_of groups hub.takes v) (port_of groups hub.takes w)
+  stays-put event w grown by = record {
+    by = by;
+    means = record { pool = record { groups = refl; writes = refl; reads = refl; most = refl }; takes = refl; spare = omega arith };
+    rise = hub-rises event w grown;
+    home = refl;
+  }
 
   -- the place of a party's session
   pub party-place : (end : End) → TakesPart v end → session_in (slice_get hub.places.items (buf_of end)) ≡ Some (path_of end, seq_of end)
@@ -117,13 +173,13 @@ module _ (hub : PlainHub) where
       (subst (λ (x : ℕ × ℕ). IsBitSet x.0 x.1) (λ i. (hub.counts.free_is i, (sym known.says.buf ∙ its.2.buf) i)) set)
 
   -- where the first destination of a path misses a session, all of the path's sessions have lower numbers
-  pub none-missed : (path seq : ℕ) → IsFresh v (floors_of v) (Missed path 0 seq) → length (v.sessions path) ≤ seq
+  pub none-missed : (path seq : ℕ) → IsFresh v (floors_of groups v) (Missed 0 path 0 seq) → length (v.sessions path) ≤ seq
   none-missed path seq fresh = past-end (v.sessions path) seq (nothing (session_at v path seq) refl)
     where
       nothing : (found : Option Session) → session_at v path seq ≡ found → found ≡ None
       nothing None is = refl
-      nothing (Some s) is = absurd (omega (arith, hub.counts.some path seq s is, missed-exact v path 0 seq fresh s is))
+      nothing (Some s) is = absurd (omega (arith, hub.counts.some path seq s is, missed-exact groups v 0 path 0 seq fresh s is (session-group path seq s is)))
 
 -- the same, as a gateway asks it
-pub is-joint : (hub : PlainHub) → (count : ℕ) × (free : ℕ) × Joint hub.sizes.items count free (view_after hub.past.seat.me.0.deeds)
-is-joint hub = (hub.changes, hub.free, hub-joint hub)
+pub is-joint : (hub : PlainHub) → Joint (hub.sizes.items ∷ []) (view_after hub.past.seat.me.0.deeds)
+is-joint hub = hub-joint hub

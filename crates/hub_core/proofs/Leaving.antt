@@ -14,13 +14,15 @@ use Rattle.hub_core.proofs.Rows.{set-here, set-else, sum-set, freed-on, freed-st
 use Rattle.hub_core.proofs.Shown.{IsShown, session-call, reading-call, writer-stays, reader-session, reader-stays, row-sight, row-position}
 use Rattle.hub_core.proofs.Sure.{NotNot}
 use Rattle.hub_core.proofs.Taking.{free-pushed}
-use Rattle.hub_core.specs.Alone.{free_now}
+use Rattle.hub_core.specs.Plain.{free_now}
 use Rattle.gw_base.specs.declared.numbers.BufNo.{BufNo}
 use Rattle.hub_core.specs.Calls.{path_of, seq_of, buf_of, freed_by, left_of}
-use Rattle.hub_core.specs.Core.{HubState, IsLed, IsFreed, MayDo, Does, Frees, after}
+use Rattle.hub_core.specs.Core.{IsLed, MayDo, Does, Frees, after}
+use Rattle.hub_core.specs.Joint.{IsFreed}
 use Rattle.hub_core.specs.Groups.{group_of, place_of, journal_of}
-use Rattle.hub_core.specs.Joint.{AreInOrder, HasLeft, IsOver, ChangesBuf, numbered}
-use Rattle.hub_core.specs.Plain.{state_of, session_in, reserved, taken, sight_of, sight_in, standing, position_of, counts_one, readers_to, IsRowOf, IsEndOf, left_by}
+use Rattle.hub_core.specs.Journal.{AreInOrder, ChangesBuf, numbered}
+use Rattle.hub_core.specs.Joint.{HasLeft, IsOver}
+use Rattle.hub_core.specs.Plain.{session_in, reserved, taken, sight_of, sight_in, standing, position_of, counts_one, readers_to, IsRowOf, IsEndOf, left_by}
 use Rattle.hub_core.specs.Tokens.{Writes, Reads, TakesPart}
 use Rattle.hub_core.specs.View.{View, Change, Taken, Freed, Taking, Session, Reading, Event, session_at, reading_at, grow, Closed, Parted}
 use Rattle.hub_core.specs.declared.place.Place.{Place}
@@ -113,14 +115,14 @@ module _ (w : View) (buf path seq : ℕ) (row : Row) (s : Session) (shown : IsRo
       }
 
 -- the free of the buffer after the last party's leave may happen
-led-last : (sizes : List ℕ) (v : View) (event : Event) (number buf path seq : ℕ) (s t : Session) (w : View) → IsLed (sizes ∷ []) (state_of v) → MayDo v event → state_of w ≡ after (Frees number buf) (after (Does event) (state_of v)) →
+led-last : (sizes : List ℕ) (v : View) (event : Event) (number buf path seq : ℕ) (s t : Session) (w : View) → IsLed (sizes ∷ []) v → MayDo v event → w ≡ after (Frees number buf) (after (Does event) v) →
     (grow event v).changes ≡ v.changes → session_at v path seq ≡ Some s → (IsOver v path seq s → ⊥) → session_at (grow event v) path seq ≡ Some t → SameTake s t → s.buf ≡ buf → IsOver (grow event v) path seq t →
-    number ≡ length v.changes + 1 → IsLed (sizes ∷ []) (state_of w)
-led-last sizes v event number buf path seq s t w led may next same at stays there take own over new = led-twice (sizes ∷ []) (Does event) (Frees number buf) (state_of v) (state_of w) next (λ l. may) (λ l later.
+    number ≡ length v.changes + 1 → IsLed (sizes ∷ []) w
+led-last sizes v event number buf path seq s t w led may next same at stays there take own over new = led-twice (sizes ∷ []) (Does event) (Frees number buf) v w next (λ l. may) (λ l later.
     let its = in-group sizes s.buf s.size (l.owned.taken path seq s at).size_is in
     let first : group_of (sizes ∷ []) buf ≡ 0 = ap (group_of (sizes ∷ [])) (sym own) ∙ its.0 in
     let long : length (journal_of (sizes ∷ []) (group_of (sizes ∷ []) buf) (grow event v).changes) ≡ length v.changes =
-    ap (λ (x : ℕ × List Change). length (journal_of (sizes ∷ []) x.0 x.1)) (λ i. (first i, same i)) ∙ ap (λ (c : List Change). length c) (one-journal sizes v led l) in
+    ap (λ (x : ℕ × List Change). length (journal_of (sizes ∷ []) x.0 x.1)) (λ i. (first i, same i)) ∙ ap (λ (c : List Change). length c) (one-journal sizes v led) in
     record {
       next = omega (arith, new, long);
       path = path;
@@ -139,7 +141,7 @@ led-last sizes v event number buf path seq s t w led may next same at stays ther
     }) led
 
 -- after it the buffer is freed
-freed-now : (sizes : List ℕ) (v w : View) (number buf path seq : ℕ) (s t : Session) → IsLed (sizes ∷ []) (state_of v) → IsLed (sizes ∷ []) (state_of w) → session_at v path seq ≡ Some s → SameTake s t → s.buf ≡ buf →
+freed-now : (sizes : List ℕ) (v w : View) (number buf path seq : ℕ) (s t : Session) → IsLed (sizes ∷ []) v → IsLed (sizes ∷ []) w → session_at v path seq ≡ Some s → SameTake s t → s.buf ≡ buf →
     w.changes ≡ v.changes ++ Freed number buf ∷ [] → number ≡ length v.changes + 1 → NotNot (IsFreed (sizes ∷ []) w t)
 freed-now sizes v w number buf path seq s t led later at take own changes new not = lawful sizes v led (λ l. lawful sizes w later (λ m.
     let takes = l.owned.taken path seq s at in
@@ -147,19 +149,19 @@ freed-now sizes v w number buf path seq s t led later at take own changes new no
     let group : group_of (sizes ∷ []) t.buf ≡ 0 = ap (group_of (sizes ∷ [])) take.buf ∙ its.0 in
     let place : place_of (sizes ∷ []) t.buf ≡ buf = ap (place_of (sizes ∷ [])) take.buf ∙ its.1 ∙ own in
     let mine : numbered v.changes s.number ≡ Some (Taken s.number (place_of (sizes ∷ []) s.buf) takes.need) =
-    ap (λ (c : List Change). numbered c s.number) (sym (ap (λ (g : ℕ). journal_of (sizes ∷ []) g v.changes) its.0 ∙ one-journal sizes v led l)) ∙ takes.take in
+    ap (λ (c : List Change). numbered c s.number) (sym (ap (λ (g : ℕ). journal_of (sizes ∷ []) g v.changes) its.0 ∙ one-journal sizes v led)) ∙ takes.take in
     let low = (within v.changes s.number _ (order sizes v led) mine).1 in
     not (
       number,
       omega (arith, low, new, take.number),
-      ap (λ (g : ℕ). numbered (journal_of (sizes ∷ []) g w.changes) number) group ∙ ap (λ (c : List Change). numbered c number) (one-journal sizes w later m ∙ changes)
+      ap (λ (g : ℕ). numbered (journal_of (sizes ∷ []) g w.changes) number) group ∙ ap (λ (c : List Change). numbered c number) (one-journal sizes w later ∙ changes)
           ∙ numbered-new v.changes (Freed number buf) (order sizes v led) new ∙ ap (λ (p : ℕ). Some (Freed number p)) (sym place),
     )))
 
 -- after the last party's leave
 freed-call : (sizes : List ℕ) (places new : List Place) (words : List ℕ) (changes free takes : ℕ) (v w : View) (path seq buf number : ℕ) (row : Row) (s : Session) → IsShown sizes places words changes free takes v →
     slice_get places buf ≡ Some (Occupied row) → row.path ≡ path → row.seq ≡ seq → IsOnlyAt path seq v w → GoOn v w → w.held ≡ v.held → AreKept v w → ((p : ℕ) → length (w.sessions p) ≡ length (v.sessions p)) →
-    session_at v path seq ≡ Some s → s.buf ≡ buf → w.changes ≡ v.changes ++ Freed number buf ∷ [] → number ≡ changes + 1 → new ≡ slice_set places buf Free → IsLed (sizes ∷ []) (state_of w) →
+    session_at v path seq ≡ Some s → s.buf ≡ buf → w.changes ≡ v.changes ++ Freed number buf ∷ [] → number ≡ changes + 1 → new ≡ slice_set places buf Free → IsLed (sizes ∷ []) w →
     IsShown sizes new words number (free + 2 ^ buf) takes w
 freed-call sizes places new words changes free takes v w path seq buf number row s shown is path-is seq-is only on held kept lengths at own grown next set later = record {
   places_show = record {
@@ -273,7 +275,7 @@ module _ (sizes : List ℕ) (places : List Place) (words : List ℕ) (changes fr
         freed-call sizes places new words changes free takes v w t.path.0 t.seq t.buf.0 number row known.session shown is path-is seq-is (only-session t.path.0 t.seq leave v w refl refl) (on-session t.path.0 t.seq leave v w refl refl closed-take) refl
         (kept-session t.path.0 t.seq leave v w refl closed-take (λ s. refl)) (lengths-by t.path.0 v w (by-closed t.path.0 t.seq (Freed number t.buf.0 ∷ []) v w refl)) known.known known.says.buf refl is-next set
         (led-last sizes v (Closed t.path.0 t.seq []) number t.buf.0 t.path.0 t.seq known.session (leave known.session) w shown.led may
-        (ap (λ (l : List Change). let x : View = grow (Closed t.path.0 t.seq []) v in (let h : HubState = record { view = record x { changes = l ++ Freed number t.buf.0 ∷ [] }; refused = (state_of v).refused } in h)) (sym (append-nil v.changes)))
+        (ap (λ (l : List Change). let x : View = grow (Closed t.path.0 t.seq []) v in record x { changes = l ++ Freed number t.buf.0 ∷ [] }) (sym (append-nil v.changes)))
         (append-nil v.changes) known.known (writer-stays sizes places words changes free takes v shown t known) (closed-now []) (closed-take known.session) known.says.buf
         (is-over (grow (Closed t.path.0 t.seq []) v) t.buf.0 t.path.0 t.seq next (leave known.session) (closed-row []) (ap (λ (r : Row). r.path) left ∙ path-is) (ap (λ (r : Row). r.seq) left ∙ seq-is) (closed-now []) few none)
         (omega (arith, is-next, shown.counts.changes_are)))
@@ -338,7 +340,7 @@ module _ (sizes : List ℕ) (places : List Place) (words : List ℕ) (changes fr
         freed-call sizes places new words changes free takes v w t.path.0 t.seq t.buf.0 number row its.0 shown is path-is seq-is (only-reading t.path.0 t.dest.0 t.seq part v w refl refl) (on-reading t.path.0 t.dest.0 t.seq part known.reading v w refl refl known.known known.says.stands) refl
         (kept-sessions v w refl) (λ p. refl) its.1 own refl is-next set
         (led-last sizes v (Parted t.path.0 t.dest.0 t.seq []) number t.buf.0 t.path.0 t.seq its.0 its.0 w shown.led may
-        (ap (λ (l : List Change). let x : View = grow (Parted t.path.0 t.dest.0 t.seq []) v in (let h : HubState = record { view = record x { changes = l ++ Freed number t.buf.0 ∷ [] }; refused = (state_of v).refused } in h)) (sym (append-nil v.changes)))
+        (ap (λ (l : List Change). let x : View = grow (Parted t.path.0 t.dest.0 t.seq []) v in record x { changes = l ++ Freed number t.buf.0 ∷ [] }) (sym (append-nil v.changes)))
         (append-nil v.changes) its.1 (reader-stays sizes places words changes free takes v shown t known its.0 its.3) its.1 (same-take its.0) own
         (is-over (grow (Parted t.path.0 t.dest.0 t.seq []) v) t.buf.0 t.path.0 t.seq next its.0 (parted-row []) (ap (λ (r : Row). r.path) left ∙ path-is) (ap (λ (r : Row). r.seq) left ∙ seq-is) its.1 most none)
         (omega (arith, is-next, shown.counts.changes_are)))

@@ -4,54 +4,54 @@ use Rattle.std.proofs.lemmas.Bool.{cases_lt}
 use Rattle.std.specs.Prelude.{slice_get, if◌then◌else◌}
 use Rattle.gw_base.specs.Cell.{IsCell, count_of, counted}
 use Rattle.hub_core.proofs.EveryStep.{Lawful, lawful-of}
-use Rattle.hub_core.proofs.OneGroup.{law}
+use Rattle.hub_core.proofs.Quiet.{law}
 use Rattle.hub_core.proofs.Sure.{sure-joint}
 use Rattle.hub_core.specs.Alone.{IsRoomOf, IsSeenOf}
-use Rattle.hub_core.specs.Core.{HubState, opening, Step, after, May, MayDo, Leads, IsLed, LedLaw, LeadingLaw}
-use Rattle.hub_core.specs.Floors.{staying, has_left, floors_of}
+use Rattle.hub_core.specs.Core.{Step, after, May, MayDo, Leads, IsLed, LedLaw, LeadingLaw}
+use Rattle.hub_core.specs.Floors.{staying, has_left}
 use Rattle.hub_core.specs.Joint.{AreStreams}
 use Rattle.hub_core.specs.Tokens.{Holds, Writes, Reads}
-use Rattle.hub_core.specs.View.{View, Session, Reading, session_at, Entered, Asked, Put, Published, Saw, Read, Closed, Parted}
+use Rattle.hub_core.specs.View.{View, Session, Reading, session_at, reading_at, empty_view, Entered, Asked, Put, Published, Saw, Read, Closed, Parted}
 use Rattle.hub_core.specs.declared.port.Room.{Room}
 use Rattle.hub_core.specs.declared.port.Seen.{Seen}
 use Rattle.hub_core.specs.declared.token.Held.{Held}
 use Rattle.hub_core.specs.declared.token.Joined.{Joined}
 use Rattle.hub_core.specs.declared.token.Opened.{Opened}
 
-pub leads-more : (groups : List (List ℕ)) (steps : List Step) (step : Step) (h last : HubState) → Leads groups h steps last → May groups last step → Leads groups h (steps ++ step ∷ []) (after step last)
-leads-more groups [] step h last is may = subst (λ (x : HubState). Leads groups x (step ∷ []) (after step last)) is (inl (may, refl))
-leads-more groups (first ∷ steps) step h last led may = elim led [
-  | inl did ↦ inl (did.0, leads-more groups steps step (after first h) last did.1 may)
-  | inr stayed ↦ inr (stayed.0, leads-more groups steps step h last stayed.1 may)
+pub leads-more : (groups : List (List ℕ)) (steps : List Step) (step : Step) (v last : View) → Leads groups v steps last → May groups last step → Leads groups v (steps ++ step ∷ []) (after step last)
+leads-more groups [] step v last is may = subst (λ (x : View). Leads groups x (step ∷ []) (after step last)) is (inl (may, refl))
+leads-more groups (first ∷ steps) step v last led may = elim led [
+  | inl did ↦ inl (did.0, leads-more groups steps step (after first v) last did.1 may)
+  | inr stayed ↦ inr (stayed.0, leads-more groups steps step v last stayed.1 may)
 ]
 
 -- every list of steps leads to just one state
-leads-some : (groups : List (List ℕ)) (h : HubState) (steps : List Step) → ((last : HubState) → Leads groups h steps last → ⊥) → ⊥
-leads-some groups h [] none = none h refl
-leads-some groups h (step ∷ steps) none =
-    let may-not : May groups h step → ⊥ = λ may. leads-some groups (after step h) steps (λ last led. none last (inl (may, led))) in
-    leads-some groups h steps (λ last led. none last (inr (may-not, led)))
+leads-some : (groups : List (List ℕ)) (v : View) (steps : List Step) → ((last : View) → Leads groups v steps last → ⊥) → ⊥
+leads-some groups v [] none = none v refl
+leads-some groups v (step ∷ steps) none =
+    let may-not : May groups v step → ⊥ = λ may. leads-some groups (after step v) steps (λ last led. none last (inl (may, led))) in
+    leads-some groups v steps (λ last led. none last (inr (may-not, led)))
 
-leads-one : (groups : List (List ℕ)) (h : HubState) (steps : List Step) (last other : HubState) → Leads groups h steps last → Leads groups h steps other → last ≡ other
-leads-one groups h [] last other is too = is ∙ sym too
-leads-one groups h (step ∷ steps) last other led too = elim led [
-  | inl did ↦ elim too [ inl again ↦ leads-one groups (after step h) steps last other did.1 again.1 | inr not ↦ absurd (not.0 did.0) ]
-  | inr stayed ↦ elim too [ inl did ↦ absurd (stayed.0 did.0) | inr again ↦ leads-one groups h steps last other stayed.1 again.1 ]
+leads-one : (groups : List (List ℕ)) (v : View) (steps : List Step) (last other : View) → Leads groups v steps last → Leads groups v steps other → last ≡ other
+leads-one groups v [] last other is too = is ∙ sym too
+leads-one groups v (step ∷ steps) last other led too = elim led [
+  | inl did ↦ elim too [ inl again ↦ leads-one groups (after step v) steps last other did.1 again.1 | inr not ↦ absurd (not.0 did.0) ]
+  | inr stayed ↦ elim too [ inl did ↦ absurd (stayed.0 did.0) | inr again ↦ leads-one groups v steps last other stayed.1 again.1 ]
 ]
 
 pub leading : LeadingLaw
-leading groups h steps = record { some = leads-some groups h steps; one = leads-one groups h steps }
+leading groups v steps = record { some = leads-some groups v steps; one = leads-one groups v steps }
 
 -- at the opening, and after each step that may happen
-pub led-opening : (groups : List (List ℕ)) → IsLed groups opening
+pub led-opening : (groups : List (List ℕ)) → IsLed groups empty_view
 led-opening groups not = not [] refl
 
-pub led-by : (groups : List (List ℕ)) (step : Step) (h next : HubState) → next ≡ after step h → (Lawful groups h → May groups h step) → IsLed groups h → IsLed groups next
-led-by groups step h next is may led not =
-    led (λ steps leads. not (steps ++ step ∷ []) (subst (Leads groups opening (steps ++ step ∷ [])) (sym is) (leads-more groups steps step opening h leads (may (lawful-of groups steps h leads)))))
+pub led-by : (groups : List (List ℕ)) (step : Step) (v next : View) → next ≡ after step v → (Lawful groups v → May groups v step) → IsLed groups v → IsLed groups next
+led-by groups step v next is may led not =
+    led (λ steps leads. not (steps ++ step ∷ []) (subst (Leads groups empty_view (steps ++ step ∷ [])) (sym is) (leads-more groups steps step empty_view v leads (may (lawful-of groups steps v leads)))))
 
 pub led : LedLaw
-led sizes h is order quiet = sure-joint sizes (length h.view.changes) _ h.view order (λ not. is (λ steps leads. not (law sizes steps h leads quiet)))
+led groups v is quiet = sure-joint groups v quiet (λ not. is (λ steps leads. not (law groups steps v leads quiet)))
 
 -- a session is entered in a buffer that is held
 pub entered-may : (v : View) (held : Held) (path seq len readers : ℕ) → Holds v held → length (v.sessions path) ≡ seq → 0 < len → 0 < readers → MayDo v (Entered path seq held.buf.0 held.change held.cells len readers)
@@ -92,7 +92,7 @@ asked-may v t room known exact most = record {
   stands = (known.known, known.says.stands);
   most = omega (arith, known.says.size, most);
   room = (exact known.session known.known).each;
-  none = λ no-one dest below. left-now _ (none-stay (λ d. (floors_of v).parted t.path.0 d t.seq) known.session.dests dest (omega (arith, (exact known.session known.known).readers, no-one)) below);
+  none = λ no-one dest below. left-now _ (none-stay (λ d. has_left (λ r. r.stands) (reading_at v t.path.0 d t.seq)) known.session.dests dest (omega (arith, (exact known.session known.known).readers, no-one)) below);
 }
 
 pub saw-may : (v : View) (t : Joined) (seen : Seen) → AreStreams v → Reads v t → t.seen ≤ seen.cells → IsSeenOf v t.path.0 t.seq seen → MayDo v (Saw t.path.0 t.dest.0 t.seq seen.cells seen.bytes seen.writer)

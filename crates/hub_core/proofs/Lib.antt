@@ -6,9 +6,9 @@ mod Leaving
 mod Ledger
 mod Looks
 mod Merging
-mod OneGroup
 mod Owning
 mod Places
+pub mod Quiet
 mod Rows
 mod Scans
 mod Shown
@@ -26,3 +26,4 @@ pub mod Changed
 pub mod Sides
 pub mod Standing
 pub mod Hubs
+pub mod OneGroup

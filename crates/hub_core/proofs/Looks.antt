@@ -11,8 +11,8 @@ use Rattle.hub_core.proofs.Ledger.{streams, order, roomy, unfreed, session-size,
 use Rattle.hub_core.proofs.Led.{led}
 use Rattle.hub_core.proofs.Rows.{occupied, sighted}
 use Rattle.hub_core.proofs.Shown.{IsShown, reader-session, reader-stays, row-sight, row-position}
-use Rattle.hub_core.specs.Alone.{IsRoomOf, IsNextOf, IsSeenOf, free_now}
-use Rattle.hub_core.specs.Core.{IsQuiet}
+use Rattle.hub_core.specs.Alone.{IsRoomOf, IsNextOf, IsSeenOf}
+use Rattle.hub_core.specs.Joint.{IsQuiet}
 use Rattle.hub_core.specs.Floors.{IsFresh, floors_of, staying, has_left, number_in}
 use Rattle.hub_core.specs.Joint.{Joint, HasLeft, IsOver, position}
 use Rattle.hub_core.specs.Plain.{session_in, sight_of, sight_in, standing, position_of, counts_one, readers_to, IsRoomTo, AreWithin, IsPlaceOf, start_of}
@@ -105,7 +105,7 @@ module _ (sizes : List ℕ) (places : List Place) (words : List ℕ) (changes fr
             let shown-most = ((streams sizes v shown.led).written t.path.0 t.seq joined.0 joined.1).shown in
             omega (arith, at-is, ap position e, joined.2.read, joined.2.seen, shown-most, ap (λ (s : Session). length s.cells) it, known.says.put)
 
-    counted-low : (n : ℕ) → n ≤ known.session.dests → readers_to row.positions n ≡ staying (λ d. (floors_of v).parted t.path.0 d t.seq) n
+    counted-low : (n : ℕ) → n ≤ known.session.dests → readers_to row.positions n ≡ staying (λ d. has_left (λ r. r.stands) (reading_at v t.path.0 d t.seq)) n
     counted-low zero most = refl
     counted-low (suc n) most =
         let rest = counted-low n (omega (arith, most)) in
@@ -169,7 +169,7 @@ module _ (sizes : List ℕ) (places : List Place) (words : List ℕ) (changes fr
         let its = reader-session sizes places words changes free takes v shown t known in
         omega (arith, known.says.seen, its.2.seen, (seen-exact its.0 its.1).0)
 
-    pub seen-fresh : IsFresh v (floors_of v) (Saw t.path.0 t.dest.0 t.seq row.shown row.told row.writes)
+    pub seen-fresh : IsFresh v (floors_of (sizes ∷ []) v) (Saw t.path.0 t.dest.0 t.seq row.shown row.told row.writes)
     seen-fresh =
         let its = reader-session sizes places words changes free takes v shown t known in
         let exact = seen-exact its.0 its.1 in
@@ -223,8 +223,8 @@ module _ (sizes : List ℕ) (places : List Place) (words : List ℕ) (changes fr
       let none : None ≡ Some gone.0 = sym (slice_get_past (v.readings path dest) seq (omega (arith, next))) ∙ gone.1 in
       absurd cc
 
-  pub next-none : (path dest seq : ℕ) → length (v.readings path dest) ≡ seq → IsPlaceOf places path seq None → IsNextOf v path dest seq None
-  next-none path dest seq next none s at = elim (cases_lt dest s.dests) [
+  pub next-none : (path dest seq : ℕ) → length (v.readings path dest) ≡ seq → IsPlaceOf places path seq None → IsNextOf v (sizes ∷ []) 0 path dest seq None
+  next-none path dest seq next none s at its = elim (cases_lt dest s.dests) [
     | inl below ↦ absurd (none s.buf (shown.places_show.sessions path seq s at (unfreed sizes v shown.led path seq s at (unread path dest seq s next below))))
     | inr past ↦ past
   ]
@@ -241,8 +241,8 @@ module _ (sizes : List ℕ) (places : List Place) (words : List ℕ) (changes fr
         row-position sizes places words changes free takes v shown buf path seq dest row found.0 is path-is seq-is found.1 few
         ∙ ap (λ (o : Option Reading). Some (position_of (Some found.0) dest o)) (slice_get_past (v.readings path dest) seq (omega (arith, next)))
 
-    pub next-apart : (slice_get row.positions dest ≡ Some (Some 0) → ⊥) → IsNextOf v path dest seq None
-    next-apart none s at = elim (cases_lt dest s.dests) [
+    pub next-apart : (slice_get row.positions dest ≡ Some (Some 0) → ⊥) → IsNextOf v (sizes ∷ []) 0 path dest seq None
+    next-apart none s at its = elim (cases_lt dest s.dests) [
       | inl below ↦ absurd (
           let it : found.0 ≡ s = same_Some found.0 s (sym found.1 ∙ at) in
           let low : dest < found.0.dests = omega (arith, below, ap (λ (x : Session). x.dests) it) in
@@ -264,5 +264,5 @@ module _ (sizes : List ℕ) (places : List Place) (words : List ℕ) (changes fr
       let place = occupied (slice_get places s.buf) path seq key in
       shown.places_show.party s.buf place.0 s place.1 (ap (λ (x : ℕ × ℕ). session_at v x.0 x.1) (λ i. (place.2 i, place.3 i)) ∙ at) (subst (λ (x : ℕ × ℕ). IsOver v x.0 x.1 s) (λ i. (sym place.2 i, sym place.3 i)) over))
 
-  pub joint-now : Joint sizes changes free v
-  joint-now = subst (λ (x : ℕ × ℕ). Joint sizes x.0 x.1 v) (λ i. (sym shown.counts.changes_are i, sym shown.counts.free_is i)) (led sizes (Rattle.hub_core.specs.Plain.state_of v) shown.led (order sizes v shown.led) quiet)
+  pub joint-now : Joint (sizes ∷ []) v
+  joint-now = led (sizes ∷ []) v shown.led quiet

@@ -4,7 +4,7 @@ use Rattle.std.proofs.lemmas.Bool.{cases_lt, ne_eqb}
 use Rattle.std.proofs.lemmas.Bool.Decides.{eqb_tells}
 use Rattle.std.proofs.lemmas.List.Elements.{All-nil, All-cons, All-head, All-tail, All-weaker}
 use Rattle.std.specs.Prelude.{◌==◌, if◌then◌else◌, IsBitSet}
-use Rattle.hub_core.specs.Joint.{CountsFrom, AreInOrder, number_of, numbered, moved, replay, IsLawful, IsOverflow, IsJournal, changed_buf, ChangesBuf}
+use Rattle.hub_core.specs.Journal.{CountsFrom, AreInOrder, number_of, numbered, moved, replay, IsLawful, IsOverflow, changed_buf, ChangesBuf}
 use Rattle.hub_core.specs.View.{View, Change, Taken, Freed, Refusal}
 use Rattle.hub_core.proofs.Bits.{take-clears, take-leaves, free-leaves}
 
@@ -115,12 +115,12 @@ lawful-pushed sizes changes c order next new lawful number below = elim (cases_l
       )
 ]
 
-pub overflow-pushed : (sizes : List ℕ) (changes : List Change) (c : Change) (refused : List Refusal) → AreInOrder changes → All (IsOverflow sizes changes) refused → All (IsOverflow sizes (changes ++ c ∷ [])) refused
-overflow-pushed sizes changes c refused order all = All-weaker (IsOverflow sizes changes) (IsOverflow sizes (changes ++ c ∷ [])) (λ r is. record {
+pub overflow-pushed : (sizes : List ℕ) (changes : List Change) (c : Change) (r : Refusal) → AreInOrder changes → IsOverflow sizes changes r → IsOverflow sizes (changes ++ c ∷ []) r
+overflow-pushed sizes changes c r order is = record {
   there = omega (arith, is.there, length-append changes (c ∷ []));
   set = is.set ∙ sym (replay-old sizes changes c r.number order is.there);
   none_fits = is.none_fits;
-}) refused all
+}
 
 -- a buffer whose last change is a take isn't free
 replay-next : (sizes : List ℕ) (changes : List Change) (number : ℕ) (c : Change) → numbered changes (suc number) ≡ Some c → replay sizes changes (suc number) ≡ moved (Some c) (replay sizes changes number)
@@ -159,55 +159,3 @@ taken-clear sizes changes (suc number) buf need order lawful is last set =
     let more : ℕ = length changes - suc number in
     let all : suc number + more ≡ length changes = omega (arith, most) in
     taken-until sizes changes number buf need lawful is last more (omega (arith, all)) (subst (λ (n : ℕ). IsBitSet (replay sizes changes n) buf) (sym all) set)
-
--- a list without the first change of a number
-abbrev without : ℕ → List Change → List Change
-without n [] = []
-without n (c ∷ changes) = if number_of c == n then changes else c ∷ without n changes
-
-shorter : (n : ℕ) (changes : List Change) (d : Change) → numbered changes n ≡ Some d → length changes ≡ suc (length (without n changes))
-shorter n [] d is = absurd cc
-shorter n (c ∷ changes) d is = elim (eqb_tells (number_of c) n) [
-  | inl same ↦ sym (ap (λ (b : Bool). suc (length (if b then changes else c ∷ without n changes))) same.0)
-  | inr other ↦ ap suc (shorter n changes d (sym (ap (λ (b : Bool). if b then Some c else numbered changes n) other.0) ∙ is)) ∙ sym (ap (λ (b : Bool). suc (length (if b then changes else c ∷ without n changes))) other.0)
-]
-
-others-found : (n m : ℕ) (changes : List Change) → m ≢ n → numbered (without n changes) m ≡ numbered changes m
-others-found n m [] ne = refl
-others-found n m (c ∷ changes) ne = elim (eqb_tells (number_of c) n) [
-  | inl same ↦ ap (λ (b : Bool). numbered (if b then changes else c ∷ without n changes) m) same.0 ∙ sym (ap (λ (b : Bool). if b then Some c else numbered changes m) (ne_eqb (number_of c) m (λ e. ne (sym e ∙ same.1))))
-  | inr other ↦ ap (λ (b : Bool). numbered (if b then changes else c ∷ without n changes) m) other.0 ∙ ap (λ (l : Option Change). if number_of c == m then Some c else l) (others-found n m changes ne)
-]
-
-all-back : (P : Change → Type 0) (n : ℕ) (changes : List Change) (d : Change) → numbered changes n ≡ Some d → P d → All P (without n changes) → All P changes
-all-back P n [] d is holds all = absurd cc
-all-back P n (c ∷ changes) d is holds all = elim (eqb_tells (number_of c) n) [
-  | inl same ↦
-      let both : Some c ≡ Some d = sym (ap (λ (b : Bool). if b then Some c else numbered changes n) same.0) ∙ is in
-      let it : c ≡ d = cc in
-      All-cons P c changes (subst P (sym it) holds) (subst (λ (b : Bool). All P (if b then changes else c ∷ without n changes)) same.0 all)
-  | inr other ↦
-      let rest : All P (c ∷ without n changes) = subst (λ (b : Bool). All P (if b then changes else c ∷ without n changes)) other.0 all in
-      All-cons P c changes (All-head P c (without n changes) rest)
-      (all-back P n changes d (sym (ap (λ (b : Bool). if b then Some c else numbered changes n) other.0) ∙ is) holds (All-tail P c (without n changes) rest))
-]
-
--- as many changes as numbers, of which each is found: then each change is found by its number
-all-found : (count : ℕ) (changes : List Change) → length changes ≡ count → ((k : ℕ) → k < count → (d : Change) × (numbered changes (k + 1) ≡ Some d)) →
-    All (λ change. (number_of change ≤ count) × (numbered changes (number_of change) ≡ Some change)) changes
-all-found zero [] long each = All-nil (λ change. (number_of change ≤ 0) × (numbered [] (number_of change) ≡ Some change))
-all-found zero (c ∷ changes) long each = absurd (omega (arith, long))
-all-found (suc count) changes long each =
-    let last = each count (omega arith) in
-    let top : number_of last.0 ≡ count + 1 = numbered-number changes (count + 1) last.0 last.1 in
-    let rest = all-found count (without (count + 1) changes) (omega (arith, shorter (count + 1) changes last.0 last.1, long))
-    (λ k below. let found = each k (omega (arith, below)) in (found.0, others-found (count + 1) (k + 1) changes (λ e. absurd (omega (arith, e, below))) ∙ found.1)) in
-    all-back (λ change. (number_of change ≤ suc count) × (numbered changes (number_of change) ≡ Some change)) (count + 1) changes last.0 last.1 (omega (arith, top), ap (numbered changes) top ∙ last.1)
-    (All-weaker (λ change. (number_of change ≤ count) × (numbered (without (count + 1) changes) (number_of change) ≡ Some change)) (λ change. (number_of change ≤ suc count) × (numbered changes (number_of change) ≡ Some change))
-    (λ c is. (omega (arith, is.0), sym (others-found (count + 1) (number_of c) changes (λ e. absurd (omega (arith, e, is.0)))) ∙ is.1)) (without (count + 1) changes) rest)
-
--- each change of a journal is found by its number
-pub own-changes : (sizes : List ℕ) (count free : ℕ) (v : View) → IsJournal sizes count free v → All (λ change. numbered v.changes (number_of change) ≡ Some change) v.changes
-own-changes sizes count free v journal =
-    All-weaker (λ change. (number_of change ≤ count) × (numbered v.changes (number_of change) ≡ Some change)) (λ change. numbered v.changes (number_of change) ≡ Some change) (λ c is. is.1) v.changes
-    (all-found count v.changes (sym journal.count_is) (λ k below. let found = journal.each k below in (found.0, found.1)))

@@ -1,49 +1,20 @@
--- With one group its journal is that of all changes, and the law speaks in the words of a port.
-use Rattle.std.proofs.Common.{◌≡◌, ℕ, ◌+◌, ◌<◌, inl, inr, List, [], ◌∷◌, ◌++◌, length, Some, None, All, refl, ap, sym, ◌∙◌, subst, arith}
+-- With one group its journal is that of all changes, so a joint view says the same of all changes and of the buffers' own numbers.
+use Rattle.std.proofs.Common.{◌≡◌, ◌≢◌, ℕ, ◌+◌, ◌<◌, ◌≤◌, inl, inr, List, [], ◌∷◌, length, Some, None, All, refl, ap, sym, ◌∙◌, subst, arith}
 use Rattle.std.proofs.lemmas.Bool.{cases_lt}
+use Rattle.std.proofs.lemmas.List.Elements.{All-weaker}
 use Rattle.std.specs.Prelude.{◌==◌, slice_get, if◌then◌else◌}
-use Rattle.hub_core.proofs.EveryStep.{core}
 use Rattle.hub_core.proofs.Grouped.{first-group, later-group}
-use Rattle.hub_core.specs.Core.{HubState, opening, Step, Takes, Refuses, Does, Frees, after, May, Leads, AreJoint, IsQuiet, OneGroupLaw}
 use Rattle.hub_core.specs.Groups.{group_of, place_of, sizes_of, in_group, journal_of}
-use Rattle.hub_core.specs.Joint.{numbered, replay, IsLawful, IsOverflow, IsJournal, AreOwned, ChangesBuf, IsNextChange, changed_buf}
-use Rattle.hub_core.specs.View.{View, Change, Taken, Freed, Session, session_at, grow}
-use Rattle.hub_core.specs.View.{Took, Refused, Entered, Asked, Put, Published, Joining, Missed, Saw, Read, Closed, Parted}
-
--- with one group its overflows are all there are
-refused-one : (sizes : List ℕ) (h : HubState) (step : Step) → May (sizes ∷ []) h step → h.view.refused ≡ h.refused 0 → (after step h).view.refused ≡ (after step h).refused 0
-unfolding grow
-refused-one sizes h (Takes group number buf size need) may all = all
-refused-one sizes h (Refuses group number free need) may all =
-    let first : group ≡ 0 = omega (arith, may.there) in
-    subst (λ (g : ℕ). (after (Refuses g number free need) h).view.refused ≡ (after (Refuses g number free need) h).refused 0) (sym first) (ap (λ l. l ++ record { number = number; free = free; need = need } ∷ []) all)
-refused-one sizes h (Frees number buf) may all = all
-refused-one sizes h (Does (Took number buf size need)) may all = absurd may
-refused-one sizes h (Does (Refused number free need)) may all = absurd may
-refused-one sizes h (Does (Entered path seq buf number size len readers)) may all = all
-refused-one sizes h (Does (Asked path seq cells readers)) may all = all
-refused-one sizes h (Does (Put path seq cell)) may all = all
-refused-one sizes h (Does (Published path seq bytes)) may all = all
-refused-one sizes h (Does (Joining path dest seq buf len)) may all = all
-refused-one sizes h (Does (Missed path dest seq)) may all = all
-refused-one sizes h (Does (Saw path dest seq cells bytes writer)) may all = all
-refused-one sizes h (Does (Read path dest seq cell)) may all = all
-refused-one sizes h (Does (Closed path seq freed)) may all = all
-refused-one sizes h (Does (Parted path dest seq freed)) may all = all
-
-refused-all : (sizes : List ℕ) (steps : List Step) (h last : HubState) → Leads (sizes ∷ []) h steps last → h.view.refused ≡ h.refused 0 → last.view.refused ≡ last.refused 0
-refused-all sizes [] h last is all = subst (λ (x : HubState). x.view.refused ≡ x.refused 0) (sym is) all
-refused-all sizes (step ∷ steps) h last led all = elim led [
-  | inl did ↦ refused-all sizes steps (after step h) last did.1 (refused-one sizes h step did.0 all)
-  | inr stayed ↦ refused-all sizes steps h last stayed.1 all
-]
+use Rattle.hub_core.specs.Journal.{numbered, replay, IsLawful, IsOverflow, ChangesBuf, IsNextChange, changed_buf}
+use Rattle.hub_core.specs.Joint.{HasLeftWriter, IsOver, IsOverflowIn, AreStreams, Joint}
+use Rattle.hub_core.specs.View.{View, Change, Taken, Freed, Refusal, Session, Reading, session_at, reading_at}
 
 -- a change of the one group is as it is in the group
 in-one : (sizes : List ℕ) (c : Change) → changed_buf c < length sizes → in_group (sizes ∷ []) c ≡ c
 in-one sizes (Taken number buf need) below = ap (λ b. Taken number b need) (first-group sizes [] buf below).1
 in-one sizes (Freed number buf) below = ap (Freed number) (first-group sizes [] buf below).1
 
-all-one : (sizes : List ℕ) (changes : List Change) → journal_of (sizes ∷ []) 1 changes ≡ [] → journal_of (sizes ∷ []) 0 changes ≡ changes
+pub all-one : (sizes : List ℕ) (changes : List Change) → journal_of (sizes ∷ []) 1 changes ≡ [] → journal_of (sizes ∷ []) 0 changes ≡ changes
 all-one sizes [] none = refl
 all-one sizes (c ∷ changes) none = elim (cases_lt (changed_buf c) (length sizes)) [
   | inl below ↦
@@ -57,16 +28,45 @@ all-one sizes (c ∷ changes) none = elim (cases_lt (changed_buf c) (length size
 ]
 
 -- past the last group there is no buffer, so no lawful change
-no-buffer : (free : ℕ) (c : Change) → IsLawful [] free c → ⊥
+pub no-buffer : (free : ℕ) (c : Change) → IsLawful [] free c → ⊥
 no-buffer free (Taken number buf need) lawful = absurd (omega (arith, lawful.fits.there))
 no-buffer free (Freed number buf) lawful = absurd (omega (arith, lawful.0))
 
-module _ (sizes : List ℕ) (h : HubState) (joint : AreJoint (sizes ∷ []) h) where
+-- the changes, with their number and the free set after them
+pub record IsJournal (sizes : List ℕ) (count free : ℕ) (v : View) : Type 0 where
+  pub count_is : count ≡ length v.changes
+  pub free_is : free ≡ replay sizes v.changes count
+  pub each : (number : ℕ) → number < count → (change : Change) × (numbered v.changes (number + 1) ≡ Some change) × IsLawful sizes (replay sizes v.changes number) change
+  pub overflows : All (IsOverflow sizes v.changes) v.refused
+
+-- a session's buffer was taken for it
+pub record IsTakenAlone (sizes : List ℕ) (v : View) (s : Session) : Type 0 where
+  pub need : ℕ
+  pub take : numbered v.changes s.number ≡ Some (Taken s.number s.buf need)
+  pub size : slice_get sizes s.buf ≡ Some s.size
+
+-- each buffer is taken for one session, and freed once that session's parties have left
+pub record AreOwnedAlone (sizes : List ℕ) (v : View) : Type 0 where
+  pub taken : (path seq : ℕ) (s : Session) → session_at v path seq ≡ Some s → IsTakenAlone sizes v s
+  pub own : (path seq other_path other_seq : ℕ) (s other : Session) → session_at v path seq ≡ Some s → session_at v other_path other_seq ≡ Some other → s.number ≡ other.number →
+      (path ≡ other_path) × (seq ≡ other_seq)
+  pub unused : (number buf need later : ℕ) → numbered v.changes number ≡ Some (Taken number buf need) → ((path seq : ℕ) (s : Session) → session_at v path seq ≡ Some s → s.number ≢ number) →
+      ChangesBuf v.changes buf later → later ≤ number
+  pub next : (number buf need next : ℕ) → numbered v.changes number ≡ Some (Taken number buf need) → IsNextChange v.changes buf number next → numbered v.changes next ≡ Some (Freed next buf)
+  pub kept : (path seq later : ℕ) (s : Session) → session_at v path seq ≡ Some s → ChangesBuf v.changes s.buf later → s.number < later → IsOver v path seq s
+  pub freed : (path seq : ℕ) (s : Session) → session_at v path seq ≡ Some s → IsOver v path seq s → (later : ℕ) × (s.number < later) × (numbered v.changes later ≡ Some (Freed later s.buf))
+  pub joined : (path dest seq : ℕ) (s : Session) (r : Reading) → session_at v path seq ≡ Some s → reading_at v path dest seq ≡ Some r → dest < s.dests
+  pub no_readers : (path seq : ℕ) (s : Session) → session_at v path seq ≡ Some s → s.readers ≡ 0 → (dest : ℕ) → dest < s.dests → HasLeftWriter v path dest seq
+
+-- a joint view of one group, in the words of all changes
+pub record IsJointAlone (sizes : List ℕ) (count free : ℕ) (v : View) : Type 0 where
+  pub journal : IsJournal sizes count free v
+  pub streams : AreStreams v
+  pub owned : AreOwnedAlone sizes v
+
+module _ (sizes : List ℕ) (v : View) (joint : Joint (sizes ∷ []) v) where
   abbrev groups : List (List ℕ)
   groups = sizes ∷ []
-
-  abbrev v : View
-  v = h.view
 
   no-other : journal_of groups 1 v.changes ≡ []
   no-other = nothing (journal_of groups 1 v.changes) (λ below. let one = (joint.journal 1).each 0 below in no-buffer (replay [] (journal_of groups 1 v.changes) 0) one.0 one.2)
@@ -91,16 +91,21 @@ module _ (sizes : List ℕ) (h : HubState) (joint : AreJoint (sizes ∷ []) h) w
   journal-is : (path seq : ℕ) (s : Session) → session_at v path seq ≡ Some s → journal_of groups (group_of groups s.buf) v.changes ≡ v.changes
   journal-is path seq s at = ap (λ (g : ℕ). journal_of groups g v.changes) (its path seq s at).0 ∙ same
 
-  one-journal : h.view.refused ≡ h.refused 0 → IsJournal sizes (length v.changes) (replay sizes v.changes (length v.changes)) v
-  one-journal all = let mine = joint.journal 0 in record {
+  overflow-alone : (r : Refusal) → IsOverflowIn groups v r → IsOverflow sizes v.changes r
+  overflow-alone r is =
+      let first : r.group ≡ 0 = omega (arith, is.there) in
+      subst (λ (l : List Change). IsOverflow sizes l r) same (subst (λ (g : ℕ). IsOverflow (sizes_of groups g) (journal_of groups g v.changes) r) first is.its)
+
+  journal-alone : IsJournal sizes (length v.changes) (replay sizes v.changes (length v.changes)) v
+  journal-alone = record {
     count_is = refl;
     free_is = refl;
-    each = subst (λ (l : List Change). (number : ℕ) → number < length l → (change : Change) × (numbered l (number + 1) ≡ Some change) × IsLawful sizes (replay sizes l number) change) same mine.each;
-    overflows = subst (All (IsOverflow sizes v.changes)) (sym all) (subst (λ (l : List Change). All (IsOverflow sizes l) (h.refused 0)) same mine.overflows);
+    each = subst (λ (l : List Change). (number : ℕ) → number < length l → (change : Change) × (numbered l (number + 1) ≡ Some change) × IsLawful sizes (replay sizes l number) change) same (joint.journal 0).each;
+    overflows = All-weaker (IsOverflowIn groups v) (IsOverflow sizes v.changes) overflow-alone v.refused joint.overflows;
   }
 
-  one-owned : IsQuiet groups v → AreOwned sizes v
-  one-owned quiet = record {
+  owned-alone : AreOwnedAlone sizes v
+  owned-alone = record {
     taken = λ path seq s at. let mine = joint.owned.taken path seq s at in record {
       need = mine.need;
       take = subst (λ (x : List Change × ℕ). numbered x.0 s.number ≡ Some (Taken s.number x.1 mine.need)) (λ i. (journal-is path seq s at i, (its path seq s at).1 i)) mine.take;
@@ -113,17 +118,16 @@ module _ (sizes : List ℕ) (h : HubState) (joint : AreJoint (sizes ∷ []) h) w
         (joint.owned.next 0 number buf need next (subst (λ (l : List Change). numbered l number ≡ Some (Taken number buf need)) (sym same) take) (subst (λ (l : List Change). IsNextChange l buf number next) (sym same) is));
     kept = λ path seq later s at changed. joint.owned.kept path seq later s at
         (subst (λ (x : List Change × ℕ). ChangesBuf x.0 x.1 later) (λ i. (sym (journal-is path seq s at) i, sym (its path seq s at).1 i)) changed);
-    freed = λ path seq s at over. let free = quiet path seq s at over in
+    freed = λ path seq s at over. let free = joint.owned.freed path seq s at over in
         (free.0, free.1, subst (λ (x : List Change × ℕ). numbered x.0 free.0 ≡ Some (Freed free.0 x.1)) (λ i. (journal-is path seq s at i, (its path seq s at).1 i)) free.2);
     joined = joint.owned.joined;
     no_readers = joint.owned.no_readers;
   }
 
-pub law : OneGroupLaw
-law sizes steps h led quiet =
-    let joint = core (sizes ∷ []) steps h led in
-    record {
-      journal = one-journal sizes h joint (refused-all sizes steps opening h led refl);
-      streams = joint.streams;
-      owned = one-owned sizes h joint quiet;
-    }
+  pub alone : IsJointAlone sizes (length v.changes) (replay sizes v.changes (length v.changes)) v
+  alone = record { journal = journal-alone; streams = joint.streams; owned = owned-alone }
+
+  -- the number and the free set of the group's word are those of all changes
+  pub alone-with : (count free : ℕ) → count ≡ length (journal_of groups 0 v.changes) → free ≡ replay sizes (journal_of groups 0 v.changes) (length (journal_of groups 0 v.changes)) → IsJointAlone sizes count free v
+  alone-with count free counts sets = subst (λ (x : ℕ × ℕ). IsJointAlone sizes x.0 x.1 v)
+      (λ i. (sym (counts ∙ ap (λ (l : List Change). length l) same) i, sym (sets ∙ ap (λ (l : List Change). replay sizes l (length l)) same) i)) alone

@@ -7,9 +7,10 @@ use Rattle.std.specs.Prelude.{◌==◌, slice_get, option_map, if◌then◌else�
 use Rattle.hub_core.proofs.Grouped.{Journals, IsNext, same-buffer, found-old, found-back, found-new, found-below, buffer-old, buffer-back}
 use Rattle.hub_core.proofs.Numbered.{taken-clear}
 use Rattle.hub_core.proofs.Places.{mapped, session-now, session-pushed, reading-now, reading-pushed}
-use Rattle.hub_core.specs.Core.{IsSessionOf}
+use Rattle.hub_core.specs.Joint.{IsSessionOf}
 use Rattle.hub_core.specs.Groups.{group_of, place_of, sizes_of, journal_of}
-use Rattle.hub_core.specs.Joint.{numbered, replay, changed_buf, ChangesBuf, IsNextChange, HasLeft, IsOver}
+use Rattle.hub_core.specs.Journal.{numbered, replay, changed_buf, ChangesBuf, IsNextChange}
+use Rattle.hub_core.specs.Joint.{HasLeft, IsOver}
 use Rattle.hub_core.specs.View.{View, Change, Taken, Freed, Taking, Session, Reading, at_one, at_two, change_at, session_at, reading_at, session_new}
 
 -- the change of that number took the buffer, which has so many cells

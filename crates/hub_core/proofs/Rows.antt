@@ -10,11 +10,12 @@ use Rattle.hub_core.proofs.Growing.{session-changed}
 use Rattle.hub_core.proofs.Numbered.{numbered-old}
 use Rattle.hub_core.proofs.Owning.{GoOn, SameTake, same-take}
 use Rattle.hub_core.proofs.Places.{mapped, session-now, reading-now, reading-pushed}
-use Rattle.hub_core.specs.Alone.{free_now}
+use Rattle.hub_core.specs.Plain.{free_now}
 use Rattle.hub_core.specs.Calls.{ByWriter}
-use Rattle.hub_core.specs.Core.{IsFreed}
+use Rattle.hub_core.specs.Joint.{IsFreed}
 use Rattle.hub_core.specs.Groups.{group_of, place_of, journal_of}
-use Rattle.hub_core.specs.Joint.{numbered, changed_buf, IsOver}
+use Rattle.hub_core.specs.Journal.{numbered, changed_buf}
+use Rattle.hub_core.specs.Joint.{IsOver}
 use Rattle.hub_core.specs.Plain.{session_in, reserved, taken, sight_of, sight_in, standing, position_of, IsRowOf, ShowPlaces, ShowWords, AreCounts, start_of}
 use Rattle.hub_core.specs.View.{View, Change, Freed, Taking, Session, Reading, at_one, at_two, change_at, session_at, reading_at}
 use Rattle.hub_core.specs.declared.place.Place.{Place}

@@ -8,11 +8,11 @@ use Rattle.hub_core.proofs.Ledger.{streams, unfreed, joined-below, led-asked, le
 use Rattle.hub_core.proofs.Owning.{GoOn, SameTake, on-session, on-reading, on-joining}
 use Rattle.hub_core.proofs.Places.{reading-now, reading-pushed}
 use Rattle.hub_core.proofs.Rows.{set-here, set-else, freed-on, IsOnlyAt, only-session, only-reading, only-joining, IsSwapped, not-swapped, swapped, show-row, row-on-session, row-on-reading, kept-session, kept-sessions, words-on, counts-on, lengths-by}
-use Rattle.hub_core.specs.Alone.{free_now}
+use Rattle.hub_core.specs.Plain.{free_now}
 use Rattle.hub_core.specs.Calls.{ByWriter}
 use Rattle.hub_core.specs.Core.{IsLed, MayDo}
 use Rattle.hub_core.specs.Joint.{IsStream, IsOver}
-use Rattle.hub_core.specs.Plain.{state_of, session_in, sight_of, sight_in, standing, position_of, ShowPlaces, ShowWords, AreCounts, advance}
+use Rattle.hub_core.specs.Plain.{session_in, sight_of, sight_in, standing, position_of, ShowPlaces, ShowWords, AreCounts, advance}
 use Rattle.hub_core.specs.Tokens.{Writes, Reads}
 use Rattle.hub_core.specs.View.{View, Session, Reading, at_one, change_at, session_at, reading_at, reading_new, grow}
 use Rattle.hub_core.specs.View.{Refused, Asked, Put, Published, Joining, Saw, Read}
@@ -29,14 +29,14 @@ pub record IsShown (sizes : List ℕ) (places : List Place) (words : List ℕ) (
   pub places_show : ShowPlaces sizes places v
   pub words_show : ShowWords sizes words v
   pub counts : AreCounts sizes places changes free takes v
-  pub led : IsLed (sizes ∷ []) (state_of v)
+  pub led : IsLed (sizes ∷ []) v
 
 -- after a call on a session
 pub session-call : (sizes : List ℕ) (places new : List Place) (words more : List ℕ) (changes free takes : ℕ) (v w : View) (path seq buf : ℕ) (f : Session → Session) (row next : Row) (s : Session) →
     IsShown sizes places words changes free takes v → IsSwapped places new buf row next → row.path ≡ path → row.seq ≡ seq →
     w.sessions ≡ at_one path (change_at seq f (v.sessions path)) v.sessions → w.readings ≡ v.readings → w.held ≡ v.held → w.changes ≡ v.changes → ByWriter path 0 v w → ((x : Session) → SameTake x (f x)) →
     next.positions ≡ row.positions → session_at v path seq ≡ Some s → sight_of (f s) ≡ sight_in buf next → ((t : Session) → session_at w path seq ≡ Some t → IsOver w path seq t → ⊥) → ShowWords sizes more w →
-    IsLed (sizes ∷ []) (state_of w) → IsShown sizes new more changes free takes w
+    IsLed (sizes ∷ []) w → IsShown sizes new more changes free takes w
 session-call sizes places new words more changes free takes v w path seq buf f row next s shown swap path-is seq-is sessions readings held same by take positions at sight party words-show led =
     let on = on-session path seq f v w sessions readings take in
     record {
@@ -52,7 +52,7 @@ pub reading-call : (sizes : List ℕ) (places new : List Place) (words : List �
     IsShown sizes places words changes free takes v → IsSwapped places new buf row next → row.path ≡ path → row.seq ≡ seq → w.sessions ≡ v.sessions → GoOn v w → IsOnlyAt path seq v w → w.held ≡ v.held → w.changes ≡ v.changes →
     ((d : ℕ) → d ≢ dest → reading_at w path d seq ≡ reading_at v path d seq) → reading_at w path dest seq ≡ Some r → sight_in buf next ≡ sight_in buf row →
     ((d : ℕ) → d ≢ dest → slice_get next.positions d ≡ slice_get row.positions d) → session_at v path seq ≡ Some s → slice_get next.positions dest ≡ Some (position_of (Some s) dest (Some r)) →
-    ((t : Session) → session_at w path seq ≡ Some t → IsOver w path seq t → ⊥) → IsLed (sizes ∷ []) (state_of w) → IsShown sizes new words changes free takes w
+    ((t : Session) → session_at w path seq ≡ Some t → IsOver w path seq t → ⊥) → IsLed (sizes ∷ []) w → IsShown sizes new words changes free takes w
 reading-call sizes places new words changes free takes v w path dest seq buf row next s r shown swap path-is seq-is sessions on only held same beside own sight others at mine party led = record {
   places_show = show-row sizes places new v w buf path seq row next shown.places_show swap path-is seq-is only on held same
       (row-on-reading path dest seq v w buf row next s r sessions beside own (shown.places_show.rows buf row swap.was) path-is seq-is swap.path swap.seq sight others at mine) party;
@@ -231,10 +231,10 @@ module _ (sizes : List ℕ) (places : List Place) (words : List ℕ) (changes fr
       not-there (x ∷ xs) (suc k) none = let h = not-there xs k none in omega (arith, h)
 
   -- after a take that found no buffer
-  pub after-refused : (number free need fewer : ℕ) → takes ≡ fewer + 1 → IsLed (sizes ∷ []) (state_of (grow (Refused number free need) v)) → IsShown sizes places words changes (free_now sizes v) fewer (grow (Refused number free need) v)
+  pub after-refused : (number free need fewer : ℕ) → takes ≡ fewer + 1 → IsLed (sizes ∷ []) (grow (Refused 0 number free need) v) → IsShown sizes places words changes (free_now sizes v) fewer (grow (Refused 0 number free need) v)
   unfolding grow
   after-refused number set need fewer left led =
-      let w : View = grow (Refused number set need) v in
+      let w : View = grow (Refused 0 number set need) v in
       record {
         places_show = record {
           rows = λ b r at. let old = shown.places_show.rows b r at in record { session = old.session; positions = old.positions };

@@ -5,9 +5,10 @@ use Rattle.std.proofs.lemmas.Bool.Decides.{eqb_tells}
 use Rattle.std.proofs.lemmas.List.Elements.{All-nil, All-cons, All-head, All-tail}
 use Rattle.std.specs.Prelude.{slice_get}
 use Rattle.gw_base.specs.Fit.{IsSmallest}
-use Rattle.hub_core.proofs.Numbered.{within}
-use Rattle.hub_core.specs.Joint.{AreInOrder, CountsFrom, number_of, numbered, replay, IsLawful, IsOverflow, IsJournal, IsStream, AreStreams, changed_buf, IsOver, AreOwned, Joint}
-use Rattle.hub_core.specs.View.{View, Change, Taken, Freed, Session, Reading, session_at, reading_at}
+use Rattle.hub_core.specs.Groups.{group_of, place_of, sizes_of, changes_in}
+use Rattle.hub_core.specs.Journal.{CountsFrom, number_of, numbered, replay, IsLawful, changed_buf}
+use Rattle.hub_core.specs.Joint.{IsStream, AreStreams, IsOver, IsQuiet, IsOverflowIn, IsJournalIn, AreOwned, Joint}
+use Rattle.hub_core.specs.View.{View, Change, Taken, Freed, Refusal, Session, Reading, session_at, reading_at}
 
 abbrev pub NotNot : Type 0 → Type 0
 NotNot A = (A → ⊥) → ⊥
@@ -105,13 +106,32 @@ sure-lawful : (sizes : List ℕ) (free : ℕ) (c : Change) → NotNot (IsLawful 
 sure-lawful sizes free (Taken number buf need) nn = sure-smallest sizes free need buf nn
 sure-lawful sizes free (Freed number buf) nn = (sure-lt _ _ (from (λ x. x.0) nn), λ set. nn (λ x. x.1 set))
 
-sure-journal : (sizes : List ℕ) (count free : ℕ) (v : View) → NotNot (IsJournal sizes count free v) → IsJournal sizes count free v
-sure-journal sizes count free v nn = record {
-  count_is = sure-ℕ _ _ (from (λ x. x.count_is) nn);
-  free_is = sure-ℕ _ _ (from (λ x. x.free_is) nn);
-  each = λ number below. sure-item (numbered v.changes (number + 1)) (IsLawful sizes (replay sizes v.changes number)) (sure-lawful sizes (replay sizes v.changes number)) (from (λ x. x.each number below) nn);
-  overflows = sure-all (IsOverflow sizes v.changes) (λ r is. record { there = sure-le _ _ (from (λ x. x.there) is); set = sure-ℕ _ _ (from (λ x. x.set) is); none_fits = λ buf fits. is (λ x. x.none_fits buf fits) }) v.refused (from (λ x. x.overflows) nn);
+sure-overflow : (groups : List (List ℕ)) (v : View) (r : Refusal) → NotNot (IsOverflowIn groups v r) → IsOverflowIn groups v r
+sure-overflow groups v r nn = record {
+  there = sure-lt _ _ (from (λ x. x.there) nn);
+  its = record {
+    there = sure-le _ _ (from (λ x. x.its.there) nn);
+    set = sure-ℕ _ _ (from (λ x. x.its.set) nn);
+    none_fits = λ buf fits. nn (λ x. x.its.none_fits buf fits);
+  };
 }
+
+sure-change : (found : Option Change) (c : Change) → NotNot (found ≡ Some c) → found ≡ Some c
+sure-change found (Taken number buf need) nn =
+    let take = sure-take found number buf (from (λ is. (need, is)) nn) in
+    let same : take.0 ≡ need = sure-ℕ take.0 need (from (λ is. (let both : Some (Taken number buf take.0) ≡ Some (Taken number buf need) = sym take.1 ∙ is in cc)) nn) in
+    take.1 ∙ ap (λ n. Some (Taken number buf n)) same
+sure-change found (Freed number buf) nn = sure-free found number buf nn
+
+sure-journal : (groups : List (List ℕ)) (v : View) (group : ℕ) → NotNot (IsJournalIn groups v group) → IsJournalIn groups v group
+sure-journal groups v group nn =
+    let changes = changes_in groups group v in
+    record {
+      count_is = refl;
+      free_is = refl;
+      own = sure-all (λ change. numbered changes (number_of change) ≡ Some change) (λ c. sure-change (numbered changes (number_of c)) c) changes (from (λ x. x.own) nn);
+      each = λ number below. sure-item (numbered changes (number + 1)) (IsLawful (sizes_of groups group) (replay (sizes_of groups group) changes number)) (sure-lawful (sizes_of groups group) (replay (sizes_of groups group) changes number)) (from (λ x. x.each number below) nn);
+    }
 
 sure-stream : (s : Session) (r : Reading) → NotNot (IsStream s r) → IsStream s r
 sure-stream s r nn = record {
@@ -152,19 +172,16 @@ sure-over v path seq s nn = record {
   dests = λ dest below. sure-item (reading_at v path dest seq) (λ r. r.stands ≡ false) (λ r. sure-Bool r.stands false) (from (λ x. x.dests dest below) nn);
 }
 
-sure-owned : (sizes : List ℕ) (v : View) → AreInOrder v.changes → NotNot (AreOwned sizes v) → AreOwned sizes v
-sure-owned sizes v order nn = record {
+sure-owned : (groups : List (List ℕ)) (v : View) → IsQuiet groups v → NotNot (AreOwned groups v) → AreOwned groups v
+sure-owned groups v quiet nn = record {
   taken = λ path seq s at.
-      let take = sure-take (numbered v.changes s.number) s.number s.buf (from (λ x. let t = x.taken path seq s at in (t.need, t.take)) nn) in
-      record { need = take.0; take = take.1; size = size-of path seq s at };
+      let take = sure-take (numbered (changes_in groups (group_of groups s.buf) v) s.number) s.number (place_of groups s.buf) (from (λ x. let t = x.taken path seq s at in (t.need, t.take)) nn) in
+      record { need = take.0; take = take.1; size = sure-some _ s.size (from (λ x. (x.taken path seq s at).size) nn) };
   own = λ path seq p k s t at there same. (sure-ℕ _ _ (from (λ x. (x.own path seq p k s t at there same).0) nn), sure-ℕ _ _ (from (λ x. (x.own path seq p k s t at there same).1) nn));
-  unused = λ number buf need later take none changed. sure-le _ _ (from (λ x. x.unused number buf need later take none changed) nn);
-  next = λ number buf need next take is. sure-free (numbered v.changes next) next buf (from (λ x. x.next number buf need next take is) nn);
+  unused = λ group number place need later take none changed. sure-le _ _ (from (λ x. x.unused group number place need later take none changed) nn);
+  next = λ group number place need next take is. sure-free (numbered (changes_in groups group v) next) next place (from (λ x. x.next group number place need next take is) nn);
   kept = λ path seq later s at changed past. sure-over v path seq s (from (λ x. x.kept path seq later s at changed past) nn);
-  freed = λ path seq s at over. elim (search-free v.changes s.buf s.number (length v.changes)) [
-    | inl found ↦ found
-    | inr none ↦ absurd (nn (λ x. let f = x.freed path seq s at over in none f.0 (within v.changes f.0 (Freed f.0 s.buf) order f.2).1 f.1 f.2))
-  ];
+  freed = quiet;
   joined = λ path dest seq s r at there. sure-lt _ _ (from (λ x. x.joined path dest seq s r at there) nn);
   no_readers = λ path seq s at none dest below. sure-left (reading_at v path dest seq) (from (λ x. x.no_readers path seq s at none dest below) nn);
 }
@@ -175,12 +192,10 @@ sure-owned sizes v order nn = record {
         let is : (x : (r : Reading) × (Some a ≡ Some r) × (r.stands ≡ false) × (r.writer ≡ true)) → a ≡ x.0 = λ x. let e = x.1 in cc in
         (a, refl, sure-Bool a.stands false (from (λ x. ap (λ (r : Reading). r.stands) (is x) ∙ x.2) nn), sure-Bool a.writer true (from (λ x. ap (λ (r : Reading). r.writer) (is x) ∙ x.3) nn))
 
-    size-of : (path seq : ℕ) (s : Session) → session_at v path seq ≡ Some s → slice_get sizes s.buf ≡ Some s.size
-    size-of path seq s at = sure-some _ s.size (from (λ x. (x.taken path seq s at).size) nn)
-
-pub sure-joint : (sizes : List ℕ) (count free : ℕ) (v : View) → AreInOrder v.changes → NotNot (Joint sizes count free v) → Joint sizes count free v
-sure-joint sizes count free v order nn = record {
-  journal = sure-journal sizes count free v (from (λ x. x.journal) nn);
+pub sure-joint : (groups : List (List ℕ)) (v : View) → IsQuiet groups v → NotNot (Joint groups v) → Joint groups v
+sure-joint groups v quiet nn = record {
+  journal = λ group. sure-journal groups v group (from (λ x. x.journal group) nn);
+  overflows = sure-all (IsOverflowIn groups v) (sure-overflow groups v) v.refused (from (λ x. x.overflows) nn);
   streams = sure-streams v (from (λ x. x.streams) nn);
-  owned = sure-owned sizes v order (from (λ x. x.owned) nn);
+  owned = sure-owned groups v quiet (from (λ x. x.owned) nn);
 }

@@ -13,9 +13,10 @@ use Rattle.hub_core.proofs.Numbered.{numbered-new, replay-old}
 use Rattle.hub_core.proofs.Places.{session-pushed}
 use Rattle.hub_core.proofs.Rows.{set-here, set-else, sum-set, occupied, sighted, freed-still}
 use Rattle.hub_core.proofs.Shown.{IsShown}
-use Rattle.hub_core.specs.Alone.{free_now}
-use Rattle.hub_core.specs.Core.{IsFreed, MayDo}
-use Rattle.hub_core.specs.Joint.{AreInOrder, number_of, replay, moved, numbered}
+use Rattle.hub_core.specs.Plain.{free_now}
+use Rattle.hub_core.specs.Core.{MayDo}
+use Rattle.hub_core.specs.Joint.{IsFreed}
+use Rattle.hub_core.specs.Journal.{AreInOrder, number_of, replay, moved, numbered}
 use Rattle.hub_core.specs.Plain.{session_in, reserved, taken, sight_of, sight_in, standing, position_of, AreFirst}
 use Rattle.hub_core.specs.View.{View, Change, Taken, Taking, Session, Reading, at_one, session_at, reading_at, session_new, grow, Took, Entered}
 use Rattle.hub_core.specs.declared.place.Place.{Place}
@@ -32,9 +33,9 @@ free-pushed sizes changes c order next =
     ∙ ap (moved (Some c)) (replay-old sizes changes c (length changes) order (omega arith))
 
 -- the buffer is held then
-pub held-took : (number buf size need : ℕ) (v w : View) → w ≡ grow (Took number buf size need) v → w.held buf ≡ Some (record { number = number; size = size })
+pub held-took : (group number buf size need : ℕ) (v w : View) → w ≡ grow (Took group number buf size need) v → w.held buf ≡ Some (record { number = number; size = size })
 unfolding grow
-held-took number buf size need v w grown = ap (λ (x : View). x.held buf) grown ∙ at_one-same buf (Some (record { number = number; size = size })) v.held
+held-took group number buf size need v w grown = ap (λ (x : View). x.held buf) grown ∙ at_one-same buf (Some (record { number = number; size = size })) v.held
 
 reserved-is : (found : Option Place) → option_map reserved found ≡ Some 1 → found ≡ Some Reserved
 reserved-is None is = absurd cc
@@ -45,7 +46,7 @@ reserved-is (Some (Occupied row)) is = absurd cc
 module _ (sizes : List ℕ) (places : List Place) (words : List ℕ) (changes free takes : ℕ) (v : View) (shown : IsShown sizes places words changes free takes v) where
   -- after a take of the smallest free buffer that fits
   pub after-took : (number buf size need fewer : ℕ) (new : List Place) → takes ≡ fewer + 1 → number ≡ changes + 1 → IsSmallest sizes free need buf → slice_get sizes buf ≡ Some size → buf < length places → new ≡ slice_set places buf Reserved →
-      IsShown sizes new words number (free - 2 ^ buf) fewer (grow (Took number buf size need) v)
+      IsShown sizes new words number (free - 2 ^ buf) fewer (grow (Took 0 number buf size need) v)
   unfolding grow
   after-took number buf size need fewer new left next smallest size-is there set = record {
     places_show = record {
@@ -84,7 +85,7 @@ module _ (sizes : List ℕ) (places : List Place) (words : List ℕ) (changes fr
   }
     where
       w : View
-      w = grow (Took number buf size need) v
+      w = grow (Took 0 number buf size need) v
 
       c : Change
       c = Taken number buf need

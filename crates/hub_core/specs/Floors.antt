@@ -1,14 +1,15 @@
 -- How old a look may be: what no look of a port falls behind, and when an answer is as fresh as that.
-use Rattle.std.specs.Prelude.{◌≡◌, ℕ, ◌+◌, ◌<◌, ◌≤◌, if◌then◌else◌, nat_lt, zero, suc, Bool, true, false, List, [], ◌∷◌, length, Option, Some, None}
+use Rattle.std.specs.Prelude.{◌≡◌, ℕ, ◌+◌, ◌<◌, ◌≤◌, ◌==◌, ◌&&◌, if◌then◌else◌, nat_lt, zero, suc, Bool, true, false, List, [], ◌∷◌, length, Option, Some, None}
+use Rattle.hub_core.specs.Groups.{group_of, changes_in}
 use Rattle.hub_core.specs.View.{View, Event, Session, session_at, reading_at, grow}
 use Rattle.hub_core.specs.View.{Took, Refused, Entered, Asked, Put, Published, Joining, Missed, Saw, Read, Closed, Parted}
 
 -- numbers and facts of the whole hub that no look of the port falls behind
 pub record Floors : Type 0 where
-  -- the pool's changes
-  pub changes : ℕ
-  -- by path, destination and session: whether the session was entered, and is for that destination
-  pub entered : ℕ → ℕ → ℕ → Bool
+  -- by group: the changes of its buffers
+  pub changes : ℕ → ℕ
+  -- by group, path, destination and session: whether the session was entered in the group, and is for that destination
+  pub entered : ℕ → ℕ → ℕ → ℕ → Bool
   -- by path and session: the cells published, and whether the writer left
   pub shown : ℕ → ℕ → ℕ
   pub closed : ℕ → ℕ → Bool
@@ -18,8 +19,8 @@ pub record Floors : Type 0 where
 
 -- no number falls, and no fact is taken back
 pub record Rise (old new : Floors) : Type 0 where
-  pub changes : old.changes ≤ new.changes
-  pub entered : (path dest seq : ℕ) → old.entered path dest seq ≡ true → new.entered path dest seq ≡ true
+  pub changes : (group : ℕ) → old.changes group ≤ new.changes group
+  pub entered : (group path dest seq : ℕ) → old.entered group path dest seq ≡ true → new.entered group path dest seq ≡ true
   pub shown : (path seq : ℕ) → old.shown path seq ≤ new.shown path seq
   pub closed : (path seq : ℕ) → old.closed path seq ≡ true → new.closed path seq ≡ true
   pub read : (path dest seq : ℕ) → old.read path dest seq ≤ new.read path dest seq
@@ -39,11 +40,16 @@ abbrev pub is_for : ℕ → Option Session → Bool
 is_for dest None = false
 is_for dest (Some s) = nat_lt dest s.dests
 
--- the present numbers and facts of a view
-abbrev pub floors_of : View → Floors
-floors_of v = record {
-  changes = length v.changes;
-  entered = λ path dest seq. is_for dest (session_at v path seq);
+-- whether a session is there, is in the group, and is for the destination
+abbrev pub is_for_in : List (List ℕ) → (group dest : ℕ) → Option Session → Bool
+is_for_in groups group dest None = false
+is_for_in groups group dest (Some s) = (group_of groups s.buf == group) && nat_lt dest s.dests
+
+-- the present numbers and facts of a view, over groups of buffers of so many cells
+abbrev pub floors_of : List (List ℕ) → View → Floors
+floors_of groups v = record {
+  changes = λ group. length (changes_in groups group v);
+  entered = λ group path dest seq. is_for_in groups group dest (session_at v path seq);
   shown = λ path seq. number_in (λ s. s.shown) (session_at v path seq);
   closed = λ path seq. has_left (λ s. s.stands) (session_at v path seq);
   read = λ path dest seq. number_in (λ r. length r.cells) (reading_at v path dest seq);
@@ -66,14 +72,14 @@ pub record IsRoomFresh (f : Floors) (path seq : ℕ) (s : Session) (cells reader
 
 -- what an event at a view says of the other parties isn't older than the floors
 abbrev pub IsFresh : View → Floors → Event → Type 0
-IsFresh v f (Took number buf size need) = f.changes < number
-IsFresh v f (Refused number free need) = f.changes ≤ number
+IsFresh v f (Took group number buf size need) = f.changes group < number
+IsFresh v f (Refused group number free need) = f.changes group ≤ number
 IsFresh v f (Entered path seq buf number size len readers) = Unit {0}
 IsFresh v f (Asked path seq cells readers) = (s : Session) → session_at v path seq ≡ Some s → IsRoomFresh f path seq s cells readers
 IsFresh v f (Put path seq cell) = Unit {0}
 IsFresh v f (Published path seq bytes) = Unit {0}
 IsFresh v f (Joining path dest seq buf len) = Unit {0}
-IsFresh v f (Missed path dest seq) = f.entered path dest seq ≡ false
+IsFresh v f (Missed group path dest seq) = f.entered group path dest seq ≡ false
 IsFresh v f (Saw path dest seq cells bytes writer) = (f.shown path seq ≤ cells) × (writer ≡ true → f.closed path seq ≡ false)
 IsFresh v f (Read path dest seq cell) = Unit {0}
 IsFresh v f (Closed path seq freed) = Unit {0}

@@ -1,6 +1,6 @@
 -- Groups of buffers: buffers are numbered through the groups, and each group has a journal and a free set of its own.
-use Rattle.std.specs.Prelude.{ℕ, ◌-◌, ◌==◌, nat_lt, if◌then◌else◌, suc, List, [], ◌∷◌, length, get_or}
-use Rattle.hub_core.specs.Joint.{changed_buf, replay}
+use Rattle.std.specs.Prelude.{◌≡◌, ℕ, ◌-◌, ◌==◌, nat_lt, if◌then◌else◌, suc, List, [], ◌∷◌, length, get_or}
+use Rattle.hub_core.specs.Journal.{changed_buf, replay}
 use Rattle.hub_core.specs.View.{View, Change, Taken, Freed}
 
 -- the group of a buffer, where the cells of the buffers are given group by group
@@ -34,3 +34,8 @@ changes_in groups group v = journal_of groups group v.changes
 -- a group's free set after all its changes
 abbrev pub free_in : List (List ℕ) → ℕ → View → ℕ
 free_in groups group v = replay (sizes_of groups group) (changes_in groups group v) (length (changes_in groups group v))
+
+-- the pool word of a group: the number of its changes, and its free set after them
+pub record IsWordOf (groups : List (List ℕ)) (group : ℕ) (v : View) (number free : ℕ) : Type 0 where
+  pub number_is : number ≡ length (changes_in groups group v)
+  pub free_is : free ≡ free_in groups group v

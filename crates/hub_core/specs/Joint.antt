@@ -1,55 +1,9 @@
 -- What the views of all ports of one hub say together, where each party stands in one of them.
-use Rattle.std.specs.Prelude.{◌≡◌, ◌≢◌, ℕ, ◌+◌, ◌-◌, ◌^◌, ◌<◌, ◌≤◌, ◌==◌, zero, suc, true, false, List, [], ◌∷◌, length, map, take, find, slice_get, All, Option, Some, None, IsBitSet}
+use Rattle.std.specs.Prelude.{◌≡◌, ℕ, ◌+◌, ◌<◌, ◌≤◌, true, false, length, take, slice_get, List, All, Option, Some, None}
 use Rattle.gw_base.specs.Cell.{counted}
-use Rattle.gw_base.specs.Fit.{IsSmallest, NoneFits}
-use Rattle.hub_core.specs.View.{View, Change, Taken, Freed, Refusal, Session, Reading, session_at, reading_at}
-
--- a change's number
-abbrev pub number_of : Change → ℕ
-number_of (Taken number buf need) = number
-number_of (Freed number buf) = number
-
--- the numbers from one on, each once and in order
-abbrev pub CountsFrom : ℕ → List ℕ → Type 0
-CountsFrom first [] = Unit {0}
-CountsFrom first (number ∷ numbers) = (number ≡ first) × CountsFrom (first + 1) numbers
-
--- the changes stand in the order of their numbers, from 1
-abbrev pub AreInOrder : List Change → Type 0
-AreInOrder changes = CountsFrom 1 (map number_of changes)
-
--- the change of a number, where there is one
-abbrev pub numbered : List Change → ℕ → Option Change
-numbered changes number = find (λ change. number_of change == number) changes
-
--- the free set after a change: a taken buffer's bit goes, a freed one's comes back
-abbrev pub moved : Option Change → ℕ → ℕ
-moved None free = free
-moved (Some (Taken number buf need)) free = free - 2 ^ buf
-moved (Some (Freed number buf)) free = free + 2 ^ buf
-
--- the free set after the changes up to a number; at first all buffers are free
-abbrev pub replay : List ℕ → List Change → ℕ → ℕ
-replay sizes changes zero = 2 ^ length sizes - 1
-replay sizes changes (suc number) = moved (numbered changes (suc number)) (replay sizes changes number)
-
--- a lawful change of a free set: the smallest fitting buffer is taken, and what is freed wasn't free
-abbrev pub IsLawful : List ℕ → ℕ → Change → Type 0
-IsLawful sizes free (Taken number buf need) = IsSmallest sizes free need buf
-IsLawful sizes free (Freed number buf) = (buf < length sizes) × (IsBitSet free buf → ⊥)
-
--- the word of an overflow: a number of changes there were, their free set, and no buffer in it that fits
-pub record IsOverflow (sizes : List ℕ) (changes : List Change) (refusal : Refusal) : Type 0 where
-  pub there : refusal.number ≤ length changes
-  pub set : refusal.free ≡ replay sizes changes refusal.number
-  pub none_fits : NoneFits sizes refusal.free refusal.need
-
--- the changes, with their number and the free set after them: each number once, each change lawful
-pub record IsJournal (sizes : List ℕ) (count free : ℕ) (v : View) : Type 0 where
-  pub count_is : count ≡ length v.changes
-  pub free_is : free ≡ replay sizes v.changes count
-  pub each : (number : ℕ) → number < count → (change : Change) × (numbered v.changes (number + 1) ≡ Some change) × IsLawful sizes (replay sizes v.changes number) change
-  pub overflows : All (IsOverflow sizes v.changes) v.refused
+use Rattle.hub_core.specs.Groups.{group_of, place_of, sizes_of, changes_in, free_in}
+use Rattle.hub_core.specs.Journal.{numbered, IsGroupJournal, IsOverflow, ChangesBuf, IsNextChange}
+use Rattle.hub_core.specs.View.{View, Taken, Freed, Refusal, Session, Reading, session_at, reading_at}
 
 -- a session is in order: no more is published than was put, and no more was put than its unit's length
 pub record IsWritten (s : Session) : Type 0 where
@@ -76,21 +30,6 @@ pub record IsStream (s : Session) (r : Reading) : Type 0 where
 pub record AreStreams (v : View) : Type 0 where
   pub written : (path seq : ℕ) (s : Session) → session_at v path seq ≡ Some s → IsWritten s
   pub joined : (path dest seq : ℕ) (r : Reading) → reading_at v path dest seq ≡ Some r → (s : Session) × (session_at v path seq ≡ Some s) × IsStream s r
-
--- the buffer that a change takes or frees
-abbrev pub changed_buf : Change → ℕ
-changed_buf (Taken number buf need) = buf
-changed_buf (Freed number buf) = buf
-
--- the change of a number takes or frees the buffer
-abbrev pub ChangesBuf : List Change → (buf number : ℕ) → Type 0
-ChangesBuf changes buf number = (change : Change) × (numbered changes number ≡ Some change) × (changed_buf change ≡ buf)
-
--- the first number after another whose change takes or frees the buffer
-pub record IsNextChange (changes : List Change) (buf number next : ℕ) : Type 0 where
-  pub changes_buf : ChangesBuf changes buf next
-  pub after : number < next
-  pub first : (other : ℕ) → ChangesBuf changes buf other → number < other → next ≤ other
 
 -- a destination joined the session with that path and number, and left it
 abbrev pub HasLeft : View → (path dest seq : ℕ) → Type 0
@@ -119,32 +58,59 @@ pub record IsOver (v : View) (path seq : ℕ) (s : Session) : Type 0 where
   pub dests : HasNoReaders v path seq s
 
 -- a session's buffer was taken for it, and has the cells that the session may use
-pub record IsTaken (sizes : List ℕ) (v : View) (s : Session) : Type 0 where
+pub record IsTaken (groups : List (List ℕ)) (v : View) (s : Session) : Type 0 where
   pub need : ℕ
-  pub take : numbered v.changes s.number ≡ Some (Taken s.number s.buf need)
-  pub size : slice_get sizes s.buf ≡ Some s.size
+  pub take : numbered (changes_in groups (group_of groups s.buf) v) s.number ≡ Some (Taken s.number (place_of groups s.buf) need)
+  pub size : slice_get (sizes_of groups (group_of groups s.buf)) (place_of groups s.buf) ≡ Some s.size
+
+-- a change of the group's number, and one of a session's buffer
+abbrev pub IsSessionOf : List (List ℕ) → (group number : ℕ) → Session → Type 0
+IsSessionOf groups group number s = (group_of groups s.buf ≡ group) × (s.number ≡ number)
+
+abbrev pub ChangesOwn : List (List ℕ) → View → Session → (later : ℕ) → Type 0
+ChangesOwn groups v s later = ChangesBuf (changes_in groups (group_of groups s.buf) v) (place_of groups s.buf) later
+
+-- its buffer was freed after it
+abbrev pub IsFreed : List (List ℕ) → View → Session → Type 0
+IsFreed groups v s = (later : ℕ) × (s.number < later) × (numbered (changes_in groups (group_of groups s.buf) v) later ≡ Some (Freed later (place_of groups s.buf)))
+
+-- no buffer waits for its free: where all parties of a session left, the free has come
+abbrev pub IsQuiet : List (List ℕ) → View → Type 0
+IsQuiet groups v = (path seq : ℕ) (s : Session) → session_at v path seq ≡ Some s → IsOver v path seq s → IsFreed groups v s
 
 -- each buffer is taken for one session, and freed once that session's parties have left
-pub record AreOwned (sizes : List ℕ) (v : View) : Type 0 where
+pub record AreOwned (groups : List (List ℕ)) (v : View) : Type 0 where
   -- each session has a take, and no two have the same
-  pub taken : (path seq : ℕ) (s : Session) → session_at v path seq ≡ Some s → IsTaken sizes v s
-  pub own : (path seq other_path other_seq : ℕ) (s other : Session) → session_at v path seq ≡ Some s → session_at v other_path other_seq ≡ Some other → s.number ≡ other.number →
-      (path ≡ other_path) × (seq ≡ other_seq)
+  pub taken : (path seq : ℕ) (s : Session) → session_at v path seq ≡ Some s → IsTaken groups v s
+  pub own : (path seq other_path other_seq : ℕ) (s other : Session) → session_at v path seq ≡ Some s → session_at v other_path other_seq ≡ Some other →
+      IsSessionOf groups (group_of groups s.buf) s.number other → (path ≡ other_path) × (seq ≡ other_seq)
   -- a take without a session is the last change of its buffer
-  pub unused : (number buf need later : ℕ) → numbered v.changes number ≡ Some (Taken number buf need) → ((path seq : ℕ) (s : Session) → session_at v path seq ≡ Some s → s.number ≢ number) →
-      ChangesBuf v.changes buf later → later ≤ number
+  pub unused : (group number place need later : ℕ) → numbered (changes_in groups group v) number ≡ Some (Taken number place need) →
+      ((path seq : ℕ) (s : Session) → session_at v path seq ≡ Some s → IsSessionOf groups group number s → ⊥) → ChangesBuf (changes_in groups group v) place later → later ≤ number
   -- the next change of a taken buffer is its free
-  pub next : (number buf need next : ℕ) → numbered v.changes number ≡ Some (Taken number buf need) → IsNextChange v.changes buf number next → numbered v.changes next ≡ Some (Freed next buf)
-  -- a session's buffer changes only after all its parties have left, and where they have, it is freed
-  pub kept : (path seq later : ℕ) (s : Session) → session_at v path seq ≡ Some s → ChangesBuf v.changes s.buf later → s.number < later → IsOver v path seq s
-  pub freed : (path seq : ℕ) (s : Session) → session_at v path seq ≡ Some s → IsOver v path seq s → (later : ℕ) × (s.number < later) × (numbered v.changes later ≡ Some (Freed later s.buf))
+  pub next : (group number place need next : ℕ) → numbered (changes_in groups group v) number ≡ Some (Taken number place need) → IsNextChange (changes_in groups group v) place number next →
+      numbered (changes_in groups group v) next ≡ Some (Freed next place)
+  -- a session's buffer changes only after all its parties have left
+  pub kept : (path seq later : ℕ) (s : Session) → session_at v path seq ≡ Some s → ChangesOwn groups v s later → s.number < later → IsOver v path seq s
+  -- and where they have, it is freed
+  pub freed : IsQuiet groups v
   -- only its own destinations join a session
   pub joined : (path dest seq : ℕ) (s : Session) (r : Reading) → session_at v path seq ≡ Some s → reading_at v path dest seq ≡ Some r → dest < s.dests
   -- a session whose writer saw no destination has none, and none of them saw the writer gone
   pub no_readers : (path seq : ℕ) (s : Session) → session_at v path seq ≡ Some s → s.readers ≡ 0 → (dest : ℕ) → dest < s.dests → HasLeftWriter v path dest seq
 
--- the views of all ports, joined, with the number of changes and the free set of the pool word
-pub record Joint (sizes : List ℕ) (count free : ℕ) (v : View) : Type 0 where
-  pub journal : IsJournal sizes count free v
+-- an overflow of one of the groups
+pub record IsOverflowIn (groups : List (List ℕ)) (v : View) (refusal : Refusal) : Type 0 where
+  pub there : refusal.group < length groups
+  pub its : IsOverflow (sizes_of groups refusal.group) (changes_in groups refusal.group v) refusal
+
+-- a group's changes are a journal, with their number and its free set
+abbrev pub IsJournalIn : List (List ℕ) → View → (group : ℕ) → Type 0
+IsJournalIn groups v group = IsGroupJournal (sizes_of groups group) (length (changes_in groups group v)) (free_in groups group v) (changes_in groups group v)
+
+-- the views of all ports of a hub, joined, over groups of buffers of so many cells
+pub record Joint (groups : List (List ℕ)) (v : View) : Type 0 where
+  pub journal : (group : ℕ) → IsJournalIn groups v group
+  pub overflows : All (IsOverflowIn groups v) v.refused
   pub streams : AreStreams v
-  pub owned : AreOwned sizes v
+  pub owned : AreOwned groups v

@@ -4,11 +4,13 @@ pub mod Core
 pub mod Floors
 pub mod Groups
 pub mod Joint
+pub mod Journal
 pub mod Moves
 pub mod Parts
 pub mod Past
 pub mod Plain
 pub mod Records
+pub mod Stays
 pub mod Tokens
 pub mod Turns
 pub mod View

@@ -11,16 +11,16 @@ move_of (Freed number buf) = record { change = number; took = false; buf = recor
 
 -- the moves of the pool that a call made
 abbrev pub moves_of : Event → List Move
-moves_of (Took number buf size need) = record { change = number; took = true; buf = record { 0 = buf } } ∷ []
+moves_of (Took group number buf size need) = record { change = number; took = true; buf = record { 0 = buf } } ∷ []
 moves_of (Closed path seq freed) = map move_of freed
 moves_of (Parted path dest seq freed) = map move_of freed
-moves_of (Refused number free need) = []
+moves_of (Refused group number free need) = []
 moves_of (Entered path seq buf number size len readers) = []
 moves_of (Asked path seq cells readers) = []
 moves_of (Put path seq cell) = []
 moves_of (Published path seq bytes) = []
 moves_of (Joining path dest seq buf len) = []
-moves_of (Missed path dest seq) = []
+moves_of (Missed group path dest seq) = []
 moves_of (Saw path dest seq cells bytes writer) = []
 moves_of (Read path dest seq cell) = []
 

@@ -9,14 +9,14 @@ pub record Part : Type 0 where
 
 -- the event is of one of these parties, or a take or an overflow
 abbrev pub IsOf : Part → Event → Type 0
-IsOf part (Took number buf size need) = Unit {0}
-IsOf part (Refused number free need) = Unit {0}
+IsOf part (Took group number buf size need) = Unit {0}
+IsOf part (Refused group number free need) = Unit {0}
 IsOf part (Entered path seq buf number size len readers) = part.writes path ≡ true
 IsOf part (Asked path seq cells readers) = part.writes path ≡ true
 IsOf part (Put path seq cell) = part.writes path ≡ true
 IsOf part (Published path seq bytes) = part.writes path ≡ true
 IsOf part (Joining path dest seq buf len) = part.reads path dest ≡ true
-IsOf part (Missed path dest seq) = part.reads path dest ≡ true
+IsOf part (Missed group path dest seq) = part.reads path dest ≡ true
 IsOf part (Saw path dest seq cells bytes writer) = part.reads path dest ≡ true
 IsOf part (Read path dest seq cell) = part.reads path dest ≡ true
 IsOf part (Closed path seq freed) = part.writes path ≡ true

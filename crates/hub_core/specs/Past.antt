@@ -15,8 +15,8 @@ IsNoted step before found after = (deed : Deed) → step.said ≡ some deed → 
 
 -- the event that a deed is
 abbrev pub event_of : Deed → Event
-event_of (Took change buf size need) = TookEvent change buf size need
-event_of (Refused change free need) = RefusedEvent change free need
+event_of (Took group change buf size need) = TookEvent group change buf size need
+event_of (Refused group change free need) = RefusedEvent group change free need
 event_of (Entered path seq buf change size len readers) = EnteredEvent path seq buf change size len readers
 event_of (Asked path seq cells readers) = AskedEvent path seq cells readers
 event_of (Put path seq cell) = PutEvent path seq cell

@@ -1,10 +1,11 @@
 -- The plain hub: how its words, places and numbers show what was done with it.
 use Rattle.std.specs.Prelude.{◌≡◌, ℕ, ◌+◌, ◌*◌, ◌<◌, ◌≤◌, ◌%◌, ◌==◌, ◌&&◌, nat_lt, if◌then◌else◌, zero, suc, Bool, true, false, List, [], ◌∷◌, length, take, sum, sum_by, Option, Some, None, All, slice_get, slice_set, slice_index, option_map}
 use Rattle.gw_base.specs.Cell.{IsCell}
-use Rattle.hub_core.specs.Alone.{free_now}
 use Rattle.hub_core.specs.Calls.{Means}
-use Rattle.hub_core.specs.Core.{HubState, IsFreed}
-use Rattle.hub_core.specs.Floors.{is_for}
+use Rattle.hub_core.specs.Joint.{IsFreed}
+use Rattle.hub_core.specs.Floors.{is_for, floors_of}
+use Rattle.hub_core.specs.Journal.{replay}
+use Rattle.hub_core.specs.Stays.{PortState}
 use Rattle.hub_core.specs.Joint.{IsOver}
 use Rattle.hub_core.specs.View.{View, Session, Reading, Taking, session_at, reading_at}
 use Rattle.hub_core.specs.declared.port.Room.{Room}
@@ -14,13 +15,17 @@ use Rattle.hub_core.specs.declared.place.Row.{Row}
 use Rattle.hub_core.specs.declared.token.End.{End}
 use Rattle.hub_core.specs.declared.token.End.TheVariants.{Write, Read}
 
--- the hub's state in the words of the law: all buffers are one group
-abbrev pub state_of : View → HubState
-state_of v = record { view = v; refused = λ group. if group == 0 then v.refused else [] }
+-- the plain hub may act for 64 paths, and for 8 destinations of each; its buffers are one group
+abbrev pub hub_means : (groups : List (List ℕ)) (takes : ℕ) → Means
+hub_means groups takes = record { groups = groups; takes = takes; spare = 9000000; writes = λ path. nat_lt path 64; reads = λ path dest. nat_lt path 64 && nat_lt dest 8; most = 8 }
 
--- the plain hub may act for 64 paths, and for 8 destinations of each
-abbrev pub hub_means : (sizes : List ℕ) (takes : ℕ) → Means
-hub_means sizes takes = record { sizes = sizes; takes = takes; spare = 9000000; writes = λ path. nat_lt path 64; reads = λ path dest. nat_lt path 64 && nat_lt dest 8; most = 8 }
+-- a plain hub as a port, over groups of buffers of so many cells: its floors are its present numbers
+abbrev pub port_of : (groups : List (List ℕ)) (takes : ℕ) → View → PortState (Unit {0})
+port_of groups takes v = record { view = v; means = hub_means groups takes; floors = floors_of groups v; home = tt }
+
+-- the free set after all changes of the one group
+abbrev pub free_now : List ℕ → View → ℕ
+free_now sizes v = replay sizes v.changes (length v.changes)
 
 -- where a buffer's ring begins among the words
 abbrev pub start_of : List ℕ → ℕ → ℕ

@@ -2,6 +2,7 @@
 use Rattle.std.specs.Prelude.{◌≡◌, ℕ, ◌+◌, ◌≤◌, List, [], ◌∷◌, ◌++◌}
 use Rattle.hub_core.specs.Floors.{Floors, AreFresh}
 use Rattle.hub_core.specs.Moves.{moves_in}
+use Rattle.hub_core.specs.Stays.{PortState}
 use Rattle.hub_core.specs.View.{View, Event, grows}
 use Rattle.hub_core.specs.declared.record.Move.{Move}
 
@@ -67,3 +68,7 @@ pub record Over (floors : Floors) (old new : View) (moves : List Move) (Row : Li
   pub fresh : AreFresh floors old calls
   pub moves_are : moves ≡ moves_in calls
   pub row : Row calls
+
+-- the same over a port
+abbrev pub OverPort : {Home : Type 0} → (old new : PortState Home) → List Move → (List Event → Type 0) → Type 0
+OverPort old new moves Row = Over old.floors old.view new.view moves Row

@@ -1,13 +1,14 @@
 -- What one port did and saw: the moves, overflows, sessions and readings of its own calls, and how each call adds to them.
 use Rattle.std.specs.Prelude.{ℕ, ◌+◌, ◌-◌, ◌==◌, if◌then◌else◌, zero, suc, Bool, true, false, List, [], ◌∷◌, ◌++◌, length, Option, Some, None, slice_get}
 
--- a change of the pool's free set, by its number from 1: a take of a buffer for a need in cells, or its free
+-- a change of a group's free set, by its number from 1 in the group of its buffer: a take of a buffer for a need in cells, or its free
 pub data Change : Type 0 where
   Taken : (number buf need : ℕ) → Change
   Freed : (number buf : ℕ) → Change
 
--- an overflow: the number of changes and the free set of the pool word that had no fitting buffer, and the need in cells
+-- an overflow: its group, the number of changes and the free set of the group's pool word that had no fitting buffer, and the need in cells
 pub record Refusal : Type 0 where
+  pub group : ℕ
   pub number : ℕ
   pub free : ℕ
   pub need : ℕ
@@ -67,14 +68,14 @@ empty_view = record { changes = []; refused = []; held = λ buf. None; sessions 
 
 -- what one call of a port did
 pub data Event : Type 0 where
-  Took : (number buf size need : ℕ) → Event
-  Refused : (number free need : ℕ) → Event
+  Took : (group number buf size need : ℕ) → Event
+  Refused : (group number free need : ℕ) → Event
   Entered : (path seq buf number size len readers : ℕ) → Event
   Asked : (path seq cells readers : ℕ) → Event
   Put : (path seq cell : ℕ) → Event
   Published : (path seq bytes : ℕ) → Event
   Joining : (path dest seq buf len : ℕ) → Event
-  Missed : (path dest seq : ℕ) → Event
+  Missed : (group path dest seq : ℕ) → Event
   Saw : (path dest seq cells bytes : ℕ) → (writer : Bool) → Event
   Read : (path dest seq cell : ℕ) → Event
   Closed : (path seq : ℕ) → (freed : List Change) → Event
@@ -112,14 +113,14 @@ reading_new buf len = record { buf = buf; len = len; cells = []; seen = 0; bytes
 
 -- what each event adds
 unfoldable pub grow : Event → View → View
-grow (Took number buf size need) v = record v { changes = v.changes ++ Taken number buf need ∷ []; held = at_one buf (Some (record { number = number; size = size })) v.held }
-grow (Refused number free need) v = record v { refused = v.refused ++ record { number = number; free = free; need = need } ∷ [] }
+grow (Took group number buf size need) v = record v { changes = v.changes ++ Taken number buf need ∷ []; held = at_one buf (Some (record { number = number; size = size })) v.held }
+grow (Refused group number free need) v = record v { refused = v.refused ++ record { group = group; number = number; free = free; need = need } ∷ [] }
 grow (Entered path seq buf number size len readers) v = record v { held = at_one buf None v.held; sessions = at_one path (v.sessions path ++ session_new buf number size len readers ∷ []) v.sessions }
 grow (Asked path seq cells readers) v = with_session path seq (λ s. record s { room = cells; readers = readers }) v
 grow (Put path seq cell) v = with_session path seq (λ s. record s { cells = s.cells ++ cell ∷ []; room = s.room - 1 }) v
 grow (Published path seq bytes) v = with_session path seq (λ s. record s { shown = length s.cells; told = s.told + bytes }) v
 grow (Joining path dest seq buf len) v = record v { readings = at_two path dest (v.readings path dest ++ reading_new buf len ∷ []) v.readings }
-grow (Missed path dest seq) v = v
+grow (Missed group path dest seq) v = v
 grow (Saw path dest seq cells bytes writer) v = with_reading path dest seq (λ r. record r { seen = cells; bytes = bytes; writer = writer }) v
 grow (Read path dest seq cell) v = with_reading path dest seq (λ r. record r { cells = r.cells ++ cell ∷ [] }) v
 grow (Closed path seq freed) v = record (with_session path seq (λ s. record s { stands = false }) v) { changes = v.changes ++ freed }

@@ -11,12 +11,14 @@ use std::collections::LinkedList;
 #[derive(Clone, Copy, Debug)]
 pub enum Deed {
     Took {
+        group: u8,
         change: u32,
         buf: u8,
         size: u32,
         need: u64,
     },
     Refused {
+        group: u8,
         change: u32,
         free: u32,
         need: u64,

@@ -1,5 +1,5 @@
 //! The laws of all hubs: functions that do nothing, whose contracts are what they are for.
-ghost use Rattle.hub_core.specs.Core.{CoreLaw, LeadingLaw, LedLaw, OneGroupLaw};
+ghost use Rattle.hub_core.specs.Core.{CoreLaw, LeadingLaw, LedLaw, QuietLaw};
 ghost use Rattle.hub_core.specs.Parts.{AgainLaw, JoinLaw, MergingLaw};
 
 /// After every list of steps, by any parties in any order, over any groups of buffers, paths and destinations, the views
@@ -15,15 +15,14 @@ pub fn leading_law()
     ensures { LeadingLaw }
 {}
 
-/// Over one group, where no buffer waits for its free, the law says that the view of all ports is joint.
-#[tactic(auto, using(crate::proofs::OneGroup::law))]
-pub fn one_group_law()
-    ensures { OneGroupLaw }
+/// Where no buffer waits for its free, the law says that the view of all ports is joint.
+#[tactic(auto, using(crate::proofs::Quiet::law))]
+pub fn quiet_law()
+    ensures { QuietLaw }
 {}
 
 /// A hub that keeps of itself that it can't be that no list of steps leads to its state has a joint view, where no buffer
 /// waits for its free.
-#[tactic(auto, using(crate::proofs::Led::led))]
 pub fn led_law()
     ensures { LedLaw }
 {}

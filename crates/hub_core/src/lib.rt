@@ -13,7 +13,7 @@ mod rings;
 mod row;
 mod token;
 
-pub use law::{again_law, core_law, join_law, leading_law, led_law, merging_law, one_group_law};
+pub use law::{again_law, core_law, join_law, leading_law, led_law, merging_law, quiet_law};
 pub use plain::PlainHub;
 pub use port::{Left, Port, Room, Seen, Take};
 pub use record::{

@@ -1,11 +1,11 @@
 //! A hub on one thread.
-ghost use Rattle.std.specs.Prelude.{◌≡◌, ◌+◌, ◌/◌, ◌%◌, ◌^◌, ◌≤◌, [], ◌∷◌, length, vec_capacity, All, IfOk};
+ghost use Rattle.std.specs.Prelude.{◌≡◌, ◌+◌, ◌/◌, ◌%◌, ◌^◌, ◌<◌, ◌≤◌, [], ◌∷◌, length, vec_capacity, All, IfOk};
 ghost use Rattle.gw_base.specs.Cell.{count_of};
 ghost use Rattle.hub_core.specs.Core.{IsLed};
 ghost use Rattle.hub_core.specs.View.{empty_view};
 ghost use Rattle.hub_core.specs.Calls.{buf_of, left_of};
 ghost use Rattle.hub_core.specs.Past.{event_of, view_after};
-ghost use Rattle.hub_core.specs.Plain.{AreLaid, ShowPlaces, ShowWords, AreCounts, state_of, hub_means};
+ghost use Rattle.hub_core.specs.Plain.{AreLaid, ShowPlaces, ShowWords, AreCounts, hub_means};
 
 use crate::fit::smallest_fitting;
 use crate::history::{Deed, History};
@@ -13,7 +13,7 @@ use crate::place::{Place, Row};
 use crate::rings::{all_free, ring_starts};
 use crate::row::{advanced, find_session, first_positions, has_party, room_left, without};
 use crate::{End, Held, Joined, Left, Opened, Port, Room, Seen, Take};
-use gw_base::{BufNo, DestNo, Memory, PathNo};
+use gw_base::{BufNo, DestNo, GroupNo, Memory, PathNo};
 use std::alloc::Global;
 
 /// The takes of a plain hub: one for each frame that a run may have.
@@ -77,7 +77,7 @@ pub struct PlainHub {
     ghost places_show: { ShowPlaces sizes.items places.items (view_after past.seat.me.0.deeds) },
     ghost words_show: { ShowWords sizes.items words.items (view_after past.seat.me.0.deeds) },
     ghost counts: { AreCounts sizes.items places.items changes free takes (view_after past.seat.me.0.deeds) },
-    ghost led: { IsLed (sizes.items ∷ []) (state_of (view_after past.seat.me.0.deeds)) },
+    ghost led: { IsLed (sizes.items ∷ []) (view_after past.seat.me.0.deeds) },
 }
 
 impl PlainHub {
@@ -86,8 +86,8 @@ impl PlainHub {
     pub fn new(alloc: Global, cells: &[u32]) -> Result<PlainHub, Memory>
         requires few { (1 ≤ length cells.now) × (length cells.now ≤ 32) }
         requires cells { All (λ size. (1 ≤ size) × (size ≤ 8192)) cells.now }
-        ensures view { IfOk result (λ hub. ⟦<PlainHub as Port>⟧.view hub ≡ empty_view) }
-        ensures means { IfOk result (λ hub. ⟦<PlainHub as Port>⟧.means hub ≡ hub_means cells.now 1000000) }
+        ensures view { IfOk result (λ hub. (⟦<PlainHub as Port>⟧.state hub).view ≡ empty_view) }
+        ensures means { IfOk result (λ hub. (⟦<PlainHub as Port>⟧.state hub).means ≡ hub_means (cells.now ∷ []) 1000000) }
     {
         let sizes = Vec::from_slice(alloc, cells)?;
         let (starts, total) = ring_starts(alloc, cells)?;
@@ -107,13 +107,18 @@ impl PlainHub {
 }
 
 impl PlainHub {
-    ghost use Rattle.hub_core.specs.Joint.{AreInOrder, Joint};
+    ghost use Rattle.hub_core.specs.Groups.{changes_in, IsWordOf};
+    ghost use Rattle.hub_core.specs.Joint.{Joint};
+    ghost use Rattle.hub_core.specs.Journal.{AreInOrder};
 
-    /// The pool word: the number of changes in its upper 32 bits, the free set in its lower 32.
-    pub fn word(&self) -> u64
-        ensures joint { Joint (⟦<PlainHub as Port>⟧.means self.now).sizes (result / 2 ^ 32) (result % 2 ^ 32) (⟦<PlainHub as Port>⟧.view self.now) }
-        ensures in_order { AreInOrder (⟦<PlainHub as Port>⟧.view self.now).changes }
+    /// The pool word of the group: the number of its changes in its upper 32 bits, its free set in its lower 32.
+    pub fn word(&self, group: GroupNo) -> u64
+        requires { group.0 < length (⟦<PlainHub as Port>⟧.state self.now).means.groups }
+        ensures word { IsWordOf (⟦<PlainHub as Port>⟧.state self.now).means.groups group.0 (⟦<PlainHub as Port>⟧.state self.now).view (result / 2 ^ 32) (result % 2 ^ 32) }
+        ensures joint { Joint (⟦<PlainHub as Port>⟧.state self.now).means.groups (⟦<PlainHub as Port>⟧.state self.now).view }
+        ensures in_order { AreInOrder (changes_in (⟦<PlainHub as Port>⟧.state self.now).means.groups group.0 (⟦<PlainHub as Port>⟧.state self.now).view) }
     {
+        let _one = group;
         (u64::from(self.changes) << 32) + u64::from(self.free_set())
     }
 
@@ -128,34 +133,35 @@ impl PlainHub {
 impl Port for PlainHub {
     ghost use Rattle.std.specs.Prelude.{◌≡◌, ◌<◌, ◌≤◌, true, length};
     ghost use Rattle.hub_core.specs.Alone.{IsTakeOf, IsRoomOf, IsNextOf, IsSeenOf, IsLeavingOf};
-    ghost use Rattle.hub_core.specs.Calls.{SameMeans, TakeUsed, SameParties, ByWriter, ByReader, ByEnd, took_of, Answers, next_of, joins, Joins, left_of, FreesOwn};
-    ghost use Rattle.hub_core.specs.Floors.{Rise, IsFresh, floors_of};
-    ghost use Rattle.hub_core.specs.Tokens.{Writes, Reads, TakesPart, asked, saw, SameOpened, SameJoined};
-    ghost use Rattle.hub_core.specs.View.{grow, Asked, Saw};
+    ghost use Rattle.hub_core.specs.Calls.{SameMeans, TakeUsed, SameParties, ByWriter, ByReader, ByEnd};
+    ghost use Rattle.hub_core.specs.Calls.{took_of, asked_of, next_of, saw_of, left_of, Answers, joins, Joins, FreesOwn};
+    ghost use Rattle.hub_core.specs.Floors.{IsFresh};
     ghost use Rattle.hub_core.specs.Past.{view_after};
+    ghost use Rattle.hub_core.specs.Plain.{port_of};
+    ghost use Rattle.hub_core.specs.Stays.{Stays};
+    ghost use Rattle.hub_core.specs.Tokens.{Writes, Reads, TakesPart, asked, saw, SameOpened, SameJoined};
+    ghost use Rattle.hub_core.specs.View.{grow};
 
-    ghost view = { λ hub. view_after hub.past.seat.me.0.deeds };
+    ghost Home = { Unit {0} };
 
-    ghost means = { λ hub. hub_means hub.sizes.items hub.takes };
-
-    ghost floors = { λ hub. floors_of (view_after hub.past.seat.me.0.deeds) };
+    ghost state = { λ hub. port_of (hub.sizes.items ∷ []) hub.takes (view_after hub.past.seat.me.0.deeds) };
 
     /// As for any port; the answer has the pool word of this call.
-    fn take(&mut self, need: u64) -> Take
-        requires { 0 < (⟦<PlainHub as Port>⟧.means self.old).takes }
-        ensures view { ⟦<PlainHub as Port>⟧.view self.new ≡ grow (took_of need result) (⟦<PlainHub as Port>⟧.view self.old) }
-        ensures by { SameParties (⟦<PlainHub as Port>⟧.view self.old) (⟦<PlainHub as Port>⟧.view self.new) }
-        ensures answers { Answers (⟦<PlainHub as Port>⟧.view self.new) (⟦<PlainHub as Port>⟧.means self.old).sizes need result }
-        ensures means { TakeUsed (⟦<PlainHub as Port>⟧.means self.old) (⟦<PlainHub as Port>⟧.means self.new) }
-        ensures fresh { IsFresh (⟦<PlainHub as Port>⟧.view self.old) (⟦<PlainHub as Port>⟧.floors self.old) (took_of need result) }
-        ensures rise { Rise (⟦<PlainHub as Port>⟧.floors self.old) (⟦<PlainHub as Port>⟧.floors self.new) }
+    fn take(&mut self, group: GroupNo, need: u64) -> Take
+        requires group { group.0 < length (⟦<PlainHub as Port>⟧.state self.old).means.groups }
+        requires takes { 0 < (⟦<PlainHub as Port>⟧.state self.old).means.takes }
+        ensures view { (⟦<PlainHub as Port>⟧.state self.new).view ≡ grow (took_of group.0 need result) (⟦<PlainHub as Port>⟧.state self.old).view }
+        ensures answers { Answers (⟦<PlainHub as Port>⟧.state self.new).view (⟦<PlainHub as Port>⟧.state self.old).means.groups group.0 need result }
+        ensures fresh { IsFresh (⟦<PlainHub as Port>⟧.state self.old).view (⟦<PlainHub as Port>⟧.state self.old).floors (took_of group.0 need result) }
+        ensures stays { Stays SameParties TakeUsed (⟦<PlainHub as Port>⟧.state self.old) (⟦<PlainHub as Port>⟧.state self.new) }
 
         // Beside the port's: a buffer that fits is taken by the next change, and an overflow's word is the present one.
-        ensures exact { IsTakeOf (⟦<PlainHub as Port>⟧.view self.old) (⟦<PlainHub as Port>⟧.means self.old).sizes need result }
+        ensures exact { IsTakeOf (⟦<PlainHub as Port>⟧.state self.old).view (⟦<PlainHub as Port>⟧.state self.old).means.groups group.0 need result }
     {
         self.takes -= 1;
         let Some(at) = smallest_fitting(&self.sizes, self.free, need) else {
             self.past.note(Deed::Refused {
+                group: group.0,
                 change: self.changes,
                 free: self.free,
                 need,
@@ -174,6 +180,7 @@ impl Port for PlainHub {
             change: self.changes,
         };
         self.past.note(Deed::Took {
+            group: group.0,
             change: held.change,
             buf: held.buf.0,
             size: held.cells,
@@ -221,19 +228,16 @@ impl Port for PlainHub {
 
     /// As for any port; the room is that of the present position.
     fn room(&mut self, at: &mut Opened) -> Room
-        requires { Writes (⟦<PlainHub as Port>⟧.view self.old) at.old }
-        ensures view { ⟦<PlainHub as Port>⟧.view self.new ≡ grow (Asked at.old.path.0 at.old.seq result.cells result.readers) (⟦<PlainHub as Port>⟧.view self.old) }
-        ensures by { ByWriter at.old.path.0 0 (⟦<PlainHub as Port>⟧.view self.old) (⟦<PlainHub as Port>⟧.view self.new) }
-        ensures token { at.new ≡ asked result at.old }
-        ensures fields { SameOpened at.new (asked result at.old) }
+        requires { Writes (⟦<PlainHub as Port>⟧.state self.old).view at.old }
+        ensures view { (⟦<PlainHub as Port>⟧.state self.new).view ≡ grow (asked_of at.old result) (⟦<PlainHub as Port>⟧.state self.old).view }
+        ensures token { SameOpened at.new (asked result at.old) }
         ensures cells { (at.old.room ≤ result.cells) × (result.cells ≤ at.old.cells) }
-        ensures writes { Writes (⟦<PlainHub as Port>⟧.view self.new) at.new }
-        ensures means { SameMeans (⟦<PlainHub as Port>⟧.means self.old) (⟦<PlainHub as Port>⟧.means self.new) }
-        ensures fresh { IsFresh (⟦<PlainHub as Port>⟧.view self.old) (⟦<PlainHub as Port>⟧.floors self.old) (Asked at.old.path.0 at.old.seq result.cells result.readers) }
-        ensures rise { Rise (⟦<PlainHub as Port>⟧.floors self.old) (⟦<PlainHub as Port>⟧.floors self.new) }
+        ensures writes { Writes (⟦<PlainHub as Port>⟧.state self.new).view at.new }
+        ensures fresh { IsFresh (⟦<PlainHub as Port>⟧.state self.old).view (⟦<PlainHub as Port>⟧.state self.old).floors (asked_of at.old result) }
+        ensures stays { Stays (ByWriter at.old.path.0 0) SameMeans (⟦<PlainHub as Port>⟧.state self.old) (⟦<PlainHub as Port>⟧.state self.new) }
 
         // Beside the port's: the look is exact.
-        ensures exact { IsRoomOf (⟦<PlainHub as Port>⟧.view self.old) at.old.path.0 at.old.seq result }
+        ensures exact { IsRoomOf (⟦<PlainHub as Port>⟧.state self.old).view at.old.path.0 at.old.seq result }
     {
         let Place::Occupied(row) = self.places[usize::from(at.buf.0)] else {
             unreachable!();
@@ -282,18 +286,17 @@ impl Port for PlainHub {
     }
 
     /// As for any port; `None` exactly where the path has no session of that number for the destination.
-    fn next(&mut self, path: PathNo, dest: DestNo, seq: u32) -> Option<Joined>
-        requires acts { (⟦<PlainHub as Port>⟧.means self.old).reads path.0 dest.0 ≡ true }
-        requires seq { length ((⟦<PlainHub as Port>⟧.view self.old).readings path.0 dest.0) ≡ seq }
-        ensures view { ⟦<PlainHub as Port>⟧.view self.new ≡ grow (next_of path.0 dest.0 seq result) (⟦<PlainHub as Port>⟧.view self.old) }
-        ensures by { ByReader path.0 dest.0 (joins result) (⟦<PlainHub as Port>⟧.view self.old) (⟦<PlainHub as Port>⟧.view self.new) }
-        ensures joins { Joins (⟦<PlainHub as Port>⟧.view self.new) path dest seq result }
-        ensures means { SameMeans (⟦<PlainHub as Port>⟧.means self.old) (⟦<PlainHub as Port>⟧.means self.new) }
-        ensures fresh { IsFresh (⟦<PlainHub as Port>⟧.view self.old) (⟦<PlainHub as Port>⟧.floors self.old) (next_of path.0 dest.0 seq result) }
-        ensures rise { Rise (⟦<PlainHub as Port>⟧.floors self.old) (⟦<PlainHub as Port>⟧.floors self.new) }
+    fn next(&mut self, group: GroupNo, path: PathNo, dest: DestNo, seq: u32) -> Option<Joined>
+        requires group { group.0 < length (⟦<PlainHub as Port>⟧.state self.old).means.groups }
+        requires acts { (⟦<PlainHub as Port>⟧.state self.old).means.reads path.0 dest.0 ≡ true }
+        requires seq { length ((⟦<PlainHub as Port>⟧.state self.old).view.readings path.0 dest.0) ≡ seq }
+        ensures view { (⟦<PlainHub as Port>⟧.state self.new).view ≡ grow (next_of group.0 path.0 dest.0 seq result) (⟦<PlainHub as Port>⟧.state self.old).view }
+        ensures joins { Joins (⟦<PlainHub as Port>⟧.state self.new).view path dest seq result }
+        ensures fresh { IsFresh (⟦<PlainHub as Port>⟧.state self.old).view (⟦<PlainHub as Port>⟧.state self.old).floors (next_of group.0 path.0 dest.0 seq result) }
+        ensures stays { Stays (ByReader path.0 dest.0 (joins result)) SameMeans (⟦<PlainHub as Port>⟧.state self.old) (⟦<PlainHub as Port>⟧.state self.new) }
 
         // Beside the port's: the look is exact.
-        ensures exact { IsNextOf (⟦<PlainHub as Port>⟧.view self.old) path.0 dest.0 seq result }
+        ensures exact { IsNextOf (⟦<PlainHub as Port>⟧.state self.old).view (⟦<PlainHub as Port>⟧.state self.old).means.groups group.0 path.0 dest.0 seq result }
     {
         let (buf, row) = find_session(&self.places, path.0, seq)?;
         row.positions[usize::from(dest.0)]?;
@@ -319,19 +322,16 @@ impl Port for PlainHub {
 
     /// As for any port; all that is published is seen.
     fn seen(&mut self, at: &mut Joined) -> Seen
-        requires { Reads (⟦<PlainHub as Port>⟧.view self.old) at.old }
-        ensures view { ⟦<PlainHub as Port>⟧.view self.new ≡ grow (Saw at.old.path.0 at.old.dest.0 at.old.seq result.cells result.bytes result.writer) (⟦<PlainHub as Port>⟧.view self.old) }
-        ensures by { ByReader at.old.path.0 at.old.dest.0 0 (⟦<PlainHub as Port>⟧.view self.old) (⟦<PlainHub as Port>⟧.view self.new) }
-        ensures token { at.new ≡ saw result at.old }
-        ensures fields { SameJoined at.new (saw result at.old) }
+        requires { Reads (⟦<PlainHub as Port>⟧.state self.old).view at.old }
+        ensures view { (⟦<PlainHub as Port>⟧.state self.new).view ≡ grow (saw_of at.old result) (⟦<PlainHub as Port>⟧.state self.old).view }
+        ensures token { SameJoined at.new (saw result at.old) }
         ensures cells { at.old.seen ≤ result.cells }
-        ensures reads { Reads (⟦<PlainHub as Port>⟧.view self.new) at.new }
-        ensures means { SameMeans (⟦<PlainHub as Port>⟧.means self.old) (⟦<PlainHub as Port>⟧.means self.new) }
-        ensures fresh { IsFresh (⟦<PlainHub as Port>⟧.view self.old) (⟦<PlainHub as Port>⟧.floors self.old) (Saw at.old.path.0 at.old.dest.0 at.old.seq result.cells result.bytes result.writer) }
-        ensures rise { Rise (⟦<PlainHub as Port>⟧.floors self.old) (⟦<PlainHub as Port>⟧.floors self.new) }
+        ensures reads { Reads (⟦<PlainHub as Port>⟧.state self.new).view at.new }
+        ensures fresh { IsFresh (⟦<PlainHub as Port>⟧.state self.old).view (⟦<PlainHub as Port>⟧.state self.old).floors (saw_of at.old result) }
+        ensures stays { Stays (ByReader at.old.path.0 at.old.dest.0 0) SameMeans (⟦<PlainHub as Port>⟧.state self.old) (⟦<PlainHub as Port>⟧.state self.new) }
 
         // Beside the port's: the look is exact.
-        ensures exact { IsSeenOf (⟦<PlainHub as Port>⟧.view self.old) at.old.path.0 at.old.seq result }
+        ensures exact { IsSeenOf (⟦<PlainHub as Port>⟧.state self.old).view at.old.path.0 at.old.seq result }
     {
         let Place::Occupied(row) = self.places[usize::from(at.buf.0)] else {
             unreachable!();
@@ -372,15 +372,13 @@ impl Port for PlainHub {
 
     /// As for any port; `Last` exactly where no other party takes part.
     fn leave(&mut self, end: End) -> Left
-        requires { TakesPart (⟦<PlainHub as Port>⟧.view self.old) end }
-        ensures view { ⟦<PlainHub as Port>⟧.view self.new ≡ grow (left_of end result) (⟦<PlainHub as Port>⟧.view self.old) }
-        ensures by { ByEnd end (⟦<PlainHub as Port>⟧.view self.old) (⟦<PlainHub as Port>⟧.view self.new) }
+        requires { TakesPart (⟦<PlainHub as Port>⟧.state self.old).view end }
+        ensures view { (⟦<PlainHub as Port>⟧.state self.new).view ≡ grow (left_of end result) (⟦<PlainHub as Port>⟧.state self.old).view }
         ensures frees { FreesOwn end result }
-        ensures means { SameMeans (⟦<PlainHub as Port>⟧.means self.old) (⟦<PlainHub as Port>⟧.means self.new) }
-        ensures rise { Rise (⟦<PlainHub as Port>⟧.floors self.old) (⟦<PlainHub as Port>⟧.floors self.new) }
+        ensures stays { Stays (ByEnd end) SameMeans (⟦<PlainHub as Port>⟧.state self.old) (⟦<PlainHub as Port>⟧.state self.new) }
 
         // Beside the port's: the last one is told so, and no other.
-        ensures exact { IsLeavingOf (⟦<PlainHub as Port>⟧.view self.new) end result }
+        ensures exact { IsLeavingOf (⟦<PlainHub as Port>⟧.state self.new).view end result }
     {
         let buf = session_buf(&end);
         let at = usize::from(buf.0);

@@ -6,28 +6,29 @@ use Rattle.std.proofs.lemmas.Option.{slice_get_within}
 use Rattle.std.specs.Prelude.{if◌then◌else◌, slice_index, IsBitSet}
 use Rattle.gw_base.specs.Cell.{IsCell}
 use Rattle.gw_base.specs.Fit.{Fits, IsSmallest}
-use Rattle.hub_core.specs.Core.{HubState, opening, Step, Takes, Does, Frees, after, May, MayFree, Leads, CoreLaw}
-use Rattle.hub_core.specs.Joint.{ChangesBuf, HasLeft}
+use Rattle.hub_core.specs.Core.{Step, Takes, Does, Frees, after, May, MayFree, Leads, CoreLaw}
+use Rattle.hub_core.specs.Journal.{ChangesBuf}
+use Rattle.hub_core.specs.Joint.{HasLeft}
 use Rattle.hub_core.specs.View.{Session, Taken, Asked, Put, Joining, Closed, Parted, session_at, grow}
 use Rattle.hub_core_tests.specs.Examples.{done, two_groups, first_path, second_path, end_of_first, standing, ended, TwoPathsOverTwoGroups, Stays, one_group, two_sessions, filling, full, MistakesAreRefused}
 
 -- each step of a list may happen, one after another
-abbrev AllMay : List (List ℕ) → HubState → List Step → Type 0
+abbrev AllMay : List (List ℕ) → View → List Step → Type 0
 AllMay groups h [] = Unit {0}
 AllMay groups h (step ∷ steps) = May groups h step × AllMay groups (after step h) steps
 
-all-may : (groups : List (List ℕ)) (h : HubState) (steps : List Step) → AllMay groups h steps → Leads groups h steps (done steps h)
+all-may : (groups : List (List ℕ)) (h : View) (steps : List Step) → AllMay groups h steps → Leads groups h steps (done steps h)
 all-may groups h [] may = refl
 all-may groups h (step ∷ steps) may = inl (may.0, all-may groups (after step h) steps may.1)
 
-leads-on : (groups : List (List ℕ)) (h m last : HubState) (steps more : List Step) → Leads groups h steps m → Leads groups m more last → Leads groups h (steps ++ more) last
-leads-on groups h m last [] more first later = subst (λ (x : HubState). Leads groups x more last) first later
+leads-on : (groups : List (List ℕ)) (h m last : View) (steps more : List Step) → Leads groups h steps m → Leads groups m more last → Leads groups h (steps ++ more) last
+leads-on groups h m last [] more first later = subst (λ (x : View). Leads groups x more last) first later
 leads-on groups h m last (step ∷ steps) more first later = elim first [
   | inl did ↦ inl (did.0, leads-on groups (after step h) m last steps more did.1 later)
   | inr stayed ↦ inr (stayed.0, leads-on groups h m last steps more stayed.1 later)
 ]
 
-stays : (groups : List (List ℕ)) (h : HubState) (step : Step) → (May groups h step → ⊥) → Stays groups h step
+stays : (groups : List (List ℕ)) (h : View) (step : Step) → (May groups h step → ⊥) → Stays groups h step
 stays groups h step not = (not, inr (not, refl))
 
 -- a cell of seven bytes, all zero
@@ -42,7 +43,7 @@ alone size need enough = record {
   first = λ other fits same. omega arith;
 }
 
-first-may : AllMay two_groups opening first_path
+first-may : AllMay two_groups empty_view first_path
 unfolding grow
 first-may = (
   record { its = refl; next = refl; smallest = alone 4 3 (omega arith); size_is = refl },
@@ -55,7 +56,7 @@ first-may = (
   ),
 )
 
-second-may : AllMay two_groups (done first_path opening) second_path
+second-may : AllMay two_groups (done first_path empty_view) second_path
 unfolding grow
 second-may = (
   record { its = refl; next = refl; smallest = alone 2 2 (omega arith); size_is = refl },
@@ -126,8 +127,8 @@ third-may = (
 pub two-paths : CoreLaw → TwoPathsOverTwoGroups
 unfolding grow
 two-paths law =
-    let first : Leads two_groups opening first_path (done first_path opening) = all-may two_groups opening first_path first-may in
-    let second : Leads two_groups (done first_path opening) second_path standing = all-may two_groups (done first_path opening) second_path second-may in
+    let first : Leads two_groups empty_view first_path (done first_path empty_view) = all-may two_groups empty_view first_path first-may in
+    let second : Leads two_groups (done first_path empty_view) second_path standing = all-may two_groups (done first_path empty_view) second_path second-may in
     let third : Leads two_groups standing end_of_first ended = all-may two_groups standing end_of_first third-may in
     record {
       first = first;
@@ -138,7 +139,7 @@ two-paths law =
       other = refl;
       never = refl;
       joint = law two_groups (first_path ++ (second_path ++ end_of_first)) ended
-          (leads-on two_groups opening (done first_path opening) ended first_path (second_path ++ end_of_first) first (leads-on two_groups (done first_path opening) standing ended second_path end_of_first second third));
+          (leads-on two_groups empty_view (done first_path empty_view) ended first_path (second_path ++ end_of_first) first (leads-on two_groups (done first_path empty_view) standing ended second_path end_of_first second third));
     }
 
 -- a larger one than the smallest
@@ -158,7 +159,7 @@ sizes-two = record {
     first zero below same = absurd (omega (arith, same))
     first (suc other) below same = omega arith
 
-sessions-may : AllMay one_group opening two_sessions
+sessions-may : AllMay one_group empty_view two_sessions
 unfolding grow
 sessions-may = (
   record { its = refl; next = refl; smallest = sizes-two; size_is = refl },
@@ -186,7 +187,7 @@ sessions-may = (
       first = λ other fits same. omega arith;
     }
 
-filling-may : AllMay two_groups opening filling
+filling-may : AllMay two_groups empty_view filling
 unfolding grow
 filling-may = (
   record { its = refl; next = refl; smallest = alone 2 2 (omega arith); size_is = refl },
@@ -207,12 +208,12 @@ pub mistakes : MistakesAreRefused
 unfolding grow
 mistakes = record {
   every_leaver_frees = stays two_groups standing (Frees 2 1) not-over;
-  larger_is_taken = stays one_group opening (Takes 0 1 0 8 3) (λ may. absurd (let least = may.smallest.fewest 1 sizes-two.fits in omega (arith, least)));
-  newest_is_joined = (all-may one_group opening two_sessions sessions-may, stays one_group (done two_sessions opening) (Does (Joining 0 0 1 0 7)) (λ may. absurd (omega (arith, may.next))));
-  is_full = all-may two_groups opening filling filling-may;
-  put_over_unread = stays two_groups full (Does (Put 0 0 7)) (λ may. absurd (let same : Some may.0 ≡ session_at full.view 0 0 = sym may.1.0 in omega (arith, may.2, ap room-of same)));
+  larger_is_taken = stays one_group empty_view (Takes 0 1 0 8 3) (λ may. absurd (let least = may.smallest.fewest 1 sizes-two.fits in omega (arith, least)));
+  newest_is_joined = (all-may one_group empty_view two_sessions sessions-may, stays one_group (done two_sessions empty_view) (Does (Joining 0 0 1 0 7)) (λ may. absurd (omega (arith, may.next))));
+  is_full = all-may two_groups empty_view filling filling-may;
+  put_over_unread = stays two_groups full (Does (Put 0 0 7)) (λ may. absurd (let same : Some may.0 ≡ session_at full 0 0 = sym may.1.0 in omega (arith, may.2, ap room-of same)));
   room_over_unread = stays two_groups full (Does (Asked 0 0 1 1)) (λ may.
-      absurd (let same : Some may.session ≡ session_at full.view 0 0 = sym may.stands.0 in
+      absurd (let same : Some may.session ≡ session_at full 0 0 = sym may.stands.0 in
       let room = may.room 0 (omega (arith, ap dests-of same)) (λ left. let none : None ≡ Some left.0 = left.1 in absurd cc) in
       omega (arith, room, ap put-of same, ap size-of same)));
 }
@@ -233,18 +234,18 @@ mistakes = record {
     size-of None = 0
     size-of (Some s) = s.size
 
-    not-over : MayFree two_groups standing.view 2 1 → ⊥
+    not-over : MayFree two_groups standing 2 1 → ⊥
     not-over may = at may.path may.seq may.session may.known may.its may.over.dests
       where
         buf-of : Option Session → ℕ
         buf-of None = 0
         buf-of (Some s) = s.buf
 
-        at : (path seq : ℕ) (s : Session) → session_at standing.view path seq ≡ Some s → s.buf ≡ 1 → ((dest : ℕ) → dest < s.dests → HasLeft standing.view path dest seq) → ⊥
+        at : (path seq : ℕ) (s : Session) → session_at standing path seq ≡ Some s → s.buf ≡ 1 → ((dest : ℕ) → dest < s.dests → HasLeft standing path dest seq) → ⊥
         at zero zero s known its left = absurd (omega (arith, ap buf-of known, its))
-        at zero (suc seq) s known its left = absurd (let below : suc seq < 1 = slice_get_within (standing.view.sessions 0) (suc seq) s known in omega (arith, below))
+        at zero (suc seq) s known its left = absurd (let below : suc seq < 1 = slice_get_within (standing.sessions 0) (suc seq) s known in omega (arith, below))
         at (suc zero) zero s known its left = absurd (let gone = left 1 (omega (arith, ap dests-of known)) in let none : None ≡ Some gone.0 = gone.1 in cc)
-        at (suc zero) (suc seq) s known its left = absurd (let below : suc seq < 1 = slice_get_within (standing.view.sessions 1) (suc seq) s known in omega (arith, below))
+        at (suc zero) (suc seq) s known its left = absurd (let below : suc seq < 1 = slice_get_within (standing.sessions 1) (suc seq) s known in omega (arith, below))
         at (suc (suc path)) seq s known its left =
-            let empty : standing.view.sessions (suc (suc path)) ≡ [] = rw (ne_eqb (suc (suc path)) 1 (λ e. absurd (omega (arith, e))), ne_eqb (suc (suc path)) 0 (λ e. absurd (omega (arith, e)))) refl in
-            absurd (let below = slice_get_within (standing.view.sessions (suc (suc path))) seq s known in omega (arith, below, ap length empty))
+            let empty : standing.sessions (suc (suc path)) ≡ [] = rw (ne_eqb (suc (suc path)) 1 (λ e. absurd (omega (arith, e))), ne_eqb (suc (suc path)) 0 (λ e. absurd (omega (arith, e)))) refl in
+            absurd (let below = slice_get_within (standing.sessions (suc (suc path))) seq s known in omega (arith, below, ap length empty))

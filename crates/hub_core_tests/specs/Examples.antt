@@ -1,10 +1,10 @@
 -- Lists of steps of the plain machine: two paths over two groups of buffers, and steps that mistakes would make.
 use Rattle.std.specs.Prelude.{◌≡◌, ℕ, true, List, [], ◌∷◌, None}
-use Rattle.hub_core.specs.Core.{HubState, opening, Step, Takes, Refuses, Does, Frees, after, May, Leads, AreJoint}
-use Rattle.hub_core.specs.View.{Taken, Freed, Entered, Asked, Put, Published, Joining, Saw, Read, Closed, Parted, reading_at}
+use Rattle.hub_core.specs.Core.{Step, Takes, Refuses, Does, Frees, after, May, Leads, AreJoint}
+use Rattle.hub_core.specs.View.{View, empty_view, Taken, Freed, Entered, Asked, Put, Published, Joining, Saw, Read, Closed, Parted, reading_at}
 
 -- what steps leave, where each may happen
-abbrev pub done : List Step → HubState → HubState
+abbrev pub done : List Step → View → View
 done [] h = h
 done (step ∷ steps) h = done steps (after step h)
 
@@ -27,25 +27,24 @@ abbrev pub end_of_first : List Step
 end_of_first = Does (Joining 0 0 0 0 7) ∷ Does (Closed 0 0 []) ∷ Does (Parted 0 0 0 []) ∷ Frees 2 0 ∷ []
 
 -- the state after the two paths' steps, and after the first path's end
-abbrev pub standing : HubState
-standing = done second_path (done first_path opening)
+abbrev pub standing : View
+standing = done second_path (done first_path empty_view)
 
-abbrev pub ended : HubState
+abbrev pub ended : View
 ended = done end_of_first standing
 
 -- all of it happens: each group numbers its own changes, and the second group's buffer waits for the destination that never joined
 pub record TwoPathsOverTwoGroups : Type 0 where
-  pub first : Leads two_groups opening first_path (done first_path opening)
-  pub second : Leads two_groups (done first_path opening) second_path standing
+  pub first : Leads two_groups empty_view first_path (done first_path empty_view)
+  pub second : Leads two_groups (done first_path empty_view) second_path standing
   pub third : Leads two_groups standing end_of_first ended
-  pub changes : ended.view.changes ≡ Taken 1 0 3 ∷ Taken 1 1 2 ∷ Freed 2 0 ∷ []
-  pub refused : ended.refused 0 ≡ record { number = 1; free = 0; need = 1 } ∷ []
-  pub other : ended.refused 1 ≡ []
-  pub never : reading_at ended.view 1 1 0 ≡ None
+  pub changes : ended.changes ≡ Taken 1 0 3 ∷ Taken 1 1 2 ∷ Freed 2 0 ∷ []
+  pub refused : ended.refused ≡ record { group = 0; number = 1; free = 0; need = 1 } ∷ []
+  pub never : reading_at ended 1 1 0 ≡ None
   pub joint : AreJoint two_groups ended
 
 -- a step that may not happen leaves all as it is
-abbrev pub Stays : List (List ℕ) → HubState → Step → Type 0
+abbrev pub Stays : List (List ℕ) → View → Step → Type 0
 Stays groups h step = (May groups h step → ⊥) × Leads groups h (step ∷ []) h
 
 -- one group of a large buffer and a small one, of which the large one comes first; each is taken for a session of one path
@@ -59,18 +58,18 @@ two_sessions = Takes 0 1 1 4 3 ∷ Does (Entered 0 0 1 1 4 7 1) ∷ Takes 0 2 0 
 abbrev pub filling : List Step
 filling = Takes 1 1 1 2 2 ∷ Does (Entered 0 0 1 1 2 21 1) ∷ Does (Put 0 0 7) ∷ Does (Put 0 0 7) ∷ []
 
-abbrev pub full : HubState
-full = done filling opening
+abbrev pub full : View
+full = done filling empty_view
 
 -- steps that mistakes would make, none of which may happen
 pub record MistakesAreRefused : Type 0 where
   -- every leaver frees: the second group's buffer, when its writer left and a destination hasn't joined
   pub every_leaver_frees : Stays two_groups standing (Frees 2 1)
   -- a larger buffer is taken than the smallest that fits
-  pub larger_is_taken : Stays one_group opening (Takes 0 1 0 8 3)
+  pub larger_is_taken : Stays one_group empty_view (Takes 0 1 0 8 3)
   -- the newest session is joined before the one before it
-  pub newest_is_joined : Leads one_group opening two_sessions (done two_sessions opening) × Stays one_group (done two_sessions opening) (Does (Joining 0 0 1 0 7))
+  pub newest_is_joined : Leads one_group empty_view two_sessions (done two_sessions empty_view) × Stays one_group (done two_sessions empty_view) (Does (Joining 0 0 1 0 7))
   -- a third cell is put into a buffer of two, of which no destination has read one; and a look that would show room for it
-  pub is_full : Leads two_groups opening filling full
+  pub is_full : Leads two_groups empty_view filling full
   pub put_over_unread : Stays two_groups full (Does (Put 0 0 7))
   pub room_over_unread : Stays two_groups full (Does (Asked 0 0 1 1))

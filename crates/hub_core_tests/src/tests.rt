@@ -1,7 +1,7 @@
 ghost use Rattle.std.specs.Prelude.{◌≡◌, ◌<◌, ◌≤◌, [], true};
 ghost use Rattle.gw_base.specs.Cell.{IsCell};
 
-use gw_base::{BufNo, ChanNo, DestNo, PathNo, Tick};
+use gw_base::{BufNo, ChanNo, DestNo, GroupNo, PathNo, Tick};
 use hub_core::{
     DestRecord, DestResult, End, Left, Move, OpenedAt, PlainHub, Port, Room, Seen, SessionRecord,
     SessionResult, Take,
@@ -34,23 +34,24 @@ struct Carried {
 /// Carries four cells of seven bytes through a session of any port whose buffer has room for two of them at a time.
 #[tactic(auto, using(hub_core::proofs::Growing::writes_kept, hub_core::proofs::Growing::reads_kept))]
 fn carry_four<P: Port>(port: &mut P, cells: (u64, u64, u64, u64)) -> Option<Carried>
-    requires takes { 1 < (P.means port.old).takes }
-    requires spare { 3 < (P.means port.old).spare }
-    requires writes { (P.means port.old).writes 0 ≡ true }
-    requires reads { (P.means port.old).reads 0 0 ≡ true }
-    requires most { 1 ≤ (P.means port.old).most }
-    requires sessions { (P.view port.old).sessions 0 ≡ [] }
-    requires readings { (P.view port.old).readings 0 0 ≡ [] }
+    requires group { 0 < length (P.state port.old).means.groups }
+    requires takes { 1 < (P.state port.old).means.takes }
+    requires spare { 3 < (P.state port.old).means.spare }
+    requires writes { (P.state port.old).means.writes 0 ≡ true }
+    requires reads { (P.state port.old).means.reads 0 0 ≡ true }
+    requires most { 1 ≤ (P.state port.old).means.most }
+    requires sessions { (P.state port.old).view.sessions 0 ≡ [] }
+    requires readings { (P.state port.old).view.readings 0 0 ≡ [] }
     requires first { IsCell cells.0 }
     requires second { IsCell cells.1 }
     requires third { IsCell cells.2 }
     requires fourth { IsCell cells.3 }
 {
-    let Take::Granted { change: _, held } = port.take(2) else {
+    let Take::Granted { change: _, held } = port.take(GroupNo(0), 2) else {
         return None;
     };
     let mut writer = port.enter(held, PathNo(0), 0, 28, 1);
-    let Take::Overflow { change, free } = port.take(1) else {
+    let Take::Overflow { change, free } = port.take(GroupNo(0), 1) else {
         return None;
     };
     let begun = port.room(&mut writer);
@@ -59,7 +60,7 @@ fn carry_four<P: Port>(port: &mut P, cells: (u64, u64, u64, u64)) -> Option<Carr
     let full = port.room(&mut writer);
     let bytes = writer.given;
     port.publish(&mut writer, bytes);
-    let mut reader = port.next(PathNo(0), DestNo(0), 0)?;
+    let mut reader = port.next(GroupNo(0), PathNo(0), DestNo(0), 0)?;
     let early = port.seen(&mut reader);
     if early.cells < 2 {
         return None;
@@ -149,36 +150,37 @@ struct Shared {
 /// Shares one cell among three destinations over any port, beside a session of another path.
 #[tactic(auto, using(hub_core::proofs::Growing::writes_kept, hub_core::proofs::Growing::reads_kept))]
 fn share_one<P: Port>(port: &mut P, cell: u64) -> Option<Shared>
-    requires takes { 2 < (P.means port.old).takes }
-    requires spare { 0 < (P.means port.old).spare }
-    requires writes { ((P.means port.old).writes 0 ≡ true) × ((P.means port.old).writes 1 ≡ true) }
-    requires first { (P.means port.old).reads 1 0 ≡ true }
-    requires second { (P.means port.old).reads 1 1 ≡ true }
-    requires third { (P.means port.old).reads 1 2 ≡ true }
-    requires most { 3 ≤ (P.means port.old).most }
-    requires sessions { ((P.view port.old).sessions 0 ≡ []) × ((P.view port.old).sessions 1 ≡ []) }
-    requires first_none { (P.view port.old).readings 1 0 ≡ [] }
-    requires second_none { (P.view port.old).readings 1 1 ≡ [] }
-    requires third_none { (P.view port.old).readings 1 2 ≡ [] }
+    requires group { 0 < length (P.state port.old).means.groups }
+    requires takes { 2 < (P.state port.old).means.takes }
+    requires spare { 0 < (P.state port.old).means.spare }
+    requires writes { ((P.state port.old).means.writes 0 ≡ true) × ((P.state port.old).means.writes 1 ≡ true) }
+    requires first { (P.state port.old).means.reads 1 0 ≡ true }
+    requires second { (P.state port.old).means.reads 1 1 ≡ true }
+    requires third { (P.state port.old).means.reads 1 2 ≡ true }
+    requires most { 3 ≤ (P.state port.old).means.most }
+    requires sessions { ((P.state port.old).view.sessions 0 ≡ []) × ((P.state port.old).view.sessions 1 ≡ []) }
+    requires first_none { (P.state port.old).view.readings 1 0 ≡ [] }
+    requires second_none { (P.state port.old).view.readings 1 1 ≡ [] }
+    requires third_none { (P.state port.old).view.readings 1 2 ≡ [] }
     requires cell { IsCell cell }
 {
-    let Take::Granted { change: _, held } = port.take(3) else {
+    let Take::Granted { change: _, held } = port.take(GroupNo(0), 3) else {
         return None;
     };
     let small = held.buf;
     let mut writer = port.enter(held, PathNo(1), 0, 7, 3);
-    let Take::Granted { change: _, held } = port.take(4) else {
+    let Take::Granted { change: _, held } = port.take(GroupNo(0), 4) else {
         return None;
     };
     let equal = held.buf;
     let other = port.enter(held, PathNo(0), 0, 7, 1);
-    let Take::Overflow { change, free } = port.take(9) else {
+    let Take::Overflow { change, free } = port.take(GroupNo(0), 9) else {
         return None;
     };
     port.put(&mut writer, cell);
     let bytes = writer.given;
     port.publish(&mut writer, bytes);
-    let mut third = port.next(PathNo(1), DestNo(2), 0)?;
+    let mut third = port.next(GroupNo(0), PathNo(1), DestNo(2), 0)?;
     let seen = port.seen(&mut third);
     if seen.cells < 1 {
         return None;
@@ -188,9 +190,9 @@ fn share_one<P: Port>(port: &mut P, cell: u64) -> Option<Shared>
     let third_left = port.leave(End::Read(third));
     let after = port.room(&mut writer);
     let writer_left = port.leave(End::Write(writer));
-    let first = port.next(PathNo(1), DestNo(0), 0)?;
+    let first = port.next(GroupNo(0), PathNo(1), DestNo(0), 0)?;
     let first_left = port.leave(End::Read(first));
-    let second = port.next(PathNo(1), DestNo(1), 0)?;
+    let second = port.next(GroupNo(0), PathNo(1), DestNo(1), 0)?;
     let second_left = port.leave(End::Read(second));
     let other_left = port.leave(End::Write(other));
     Some(Shared {

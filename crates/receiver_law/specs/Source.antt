@@ -1,7 +1,7 @@
 -- What the records of a source channel say of the frames that came on it (ISO 15765-2, segmentation and reassembly).
 use Rattle.std.specs.Prelude.{◌≡◌, ℕ, ◌<◌, ◌≤◌, ◌↔◌, Bool, true, false, Some, option_map, option_to_list, is_some, not, List, [], ◌++◌, length, map, take}
 use Rattle.std.specs.List.{AllByRecursion, AllZip, flat_map}
-pub use Rattle.hub_core.specs.Joint.{CountsFrom}
+pub use Rattle.hub_core.specs.Journal.{CountsFrom}
 use Rattle.hub_core.specs.declared.record.OpenedAt.{OpenedAt}
 use Rattle.hub_core.specs.declared.record.SessionRecord.{SessionRecord}
 use Rattle.hub_core.specs.declared.record.SessionResult.{SessionResult}

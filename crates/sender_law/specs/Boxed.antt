@@ -1,5 +1,5 @@
 -- Where a session ends while its next frame waits for the bus, that frame lay in the box.
-use Rattle.std.specs.Prelude.{◌≡◌, ℕ, Option, Some, List, [], ◌∷◌, length}
+use Rattle.std.specs.Prelude.{◌≡◌, ℕ, Some, List, [], ◌∷◌, length}
 use Rattle.std.specs.List.{AllByRecursion}
 use Rattle.hub_core.specs.Turns.{state_after}
 use Rattle.hub_core.specs.declared.record.DestRecord.{DestRecord}

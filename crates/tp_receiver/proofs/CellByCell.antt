@@ -59,7 +59,7 @@ puts-next cells place old mid new before between after first now next inside so 
       kept = record {
         readings = by.readings ∙ so.kept.readings;
         others = λ other ne. by.others other (λ is. ne (is ∙ path)) ∙ so.kept.others other ne;
-        pool = record { sizes = used.pool.sizes ∙ so.kept.pool.sizes; writes = used.pool.writes ∙ so.kept.pool.writes; reads = used.pool.reads ∙ so.kept.pool.reads; most = used.pool.most ∙ so.kept.pool.most };
+        pool = record { groups = used.pool.groups ∙ so.kept.pool.groups; writes = used.pool.writes ∙ so.kept.pool.writes; reads = used.pool.reads ∙ so.kept.pool.reads; most = used.pool.most ∙ so.kept.pool.most };
         takes_used = omega (arith, used.takes, so.kept.takes_used);
         spare_used = omega (arith, used.spare, so.kept.spare_used);
       };

@@ -25,7 +25,7 @@ use Rattle.tp_receiver.specs.declared.reception.State.TheVariants.{Idle}
 use Rattle.tp_receiver.specs.declared.receiver.Receiver.{Receiver}
 use Rattle.tp_receiver.specs.declared.set.RxSet.{RxSet}
 use Rattle.tp_unit.specs.Unit.{Meaning, BoxMeaning, Keeps, Offers, Revokes}
-use Rattle.hub_core.proofs.Growing.{grows-append}
+use Rattle.hub_core.proofs.Growing.{grows-append, opened-is}
 
 pub moves_in-append : (xs ys : List Event) → moves_in (xs ++ ys) ≡ moves_in xs ++ moves_in ys
 moves_in-append xs ys = flat_map-append moves_of xs ys
@@ -65,13 +65,13 @@ over-after {low = low} {high = high} u v w before tick act records new first mov
 
 -- a look at the room, and then a part
 pub over-asked : {low high : Floors} (u v w : View) (set : RxSet) (r : HeldReception) (room : Room) (t : Opened) (tick : ℕ) (act : BoxMeaning) (records : List SessionRecord) (new : RxState) (moves : List Move) (Row : Reception → RxDid → Type 0) →
-    r.writer.path.0 ≡ set.path.0 → t ≡ asked room r.writer → v ≡ grow (Asked r.writer.path.0 r.writer.seq room.cells room.readers) u →
+    r.writer.path.0 ≡ set.path.0 → SameOpened t (asked room r.writer) → v ≡ grow (Asked r.writer.path.0 r.writer.seq room.cells room.readers) u →
     Rise low high → IsFresh u low (Asked r.writer.path.0 r.writer.seq room.cells room.readers) → Over high v w moves (λ calls. Row (reception_of (record r { writer = t })) (record { tick = tick; calls = calls; act = act; records = records; new = new })) →
     Over low u w moves (λ calls. After (asks set (reception_of r) room.cells room.readers) (record { tick = tick; calls = calls; act = act; records = records; new = new }) (Row (reception_of r)))
 over-asked {high = high} u v w set r room t tick act records new moves Row path is grown rise fresh over =
     let P : Opened → Type 0 = λ s. Over high v w moves (λ calls. Row (reception_of (record r { writer = s })) (record { tick = tick; calls = calls; act = act; records = records; new = new })) in
     over-after u v w (asks set (reception_of r) room.cells room.readers) tick act records new [] moves (Row (reception_of r))
-    (grown ∙ ap (λ p. grow (Asked p r.writer.seq room.cells room.readers) u) path) rise (rw (← path) fresh, tt) refl (subst P is over)
+    (grown ∙ ap (λ p. grow (Asked p r.writer.seq room.cells room.readers) u) path) rise (rw (← path) fresh, tt) refl (subst P (opened-is t (asked room r.writer) is) over)
 
 -- cells are put, and then a part
 pub over-put : {low high : Floors} (u v w : View) (set : RxSet) (r next : HeldReception) (t : Opened) (cells : List ℕ) (count tick : ℕ) (act : BoxMeaning) (records : List SessionRecord) (new : RxState) (moves : List Move) (Row : Reception → RxDid → Type 0) →
@@ -88,7 +88,7 @@ over-put {low = low} {high = high} u v w set r next t cells count tick act recor
 
 -- a session that is opened
 pub has-opened : {low : Floors} (set : RxSet) (next seq len size tick need change : ℕ) (bytes cells : List ℕ) (u v w x : View) (held : Held) (writer t : Opened) →
-    v ≡ grow (Took change held.buf.0 held.cells need) u → low.changes < change → held.change ≡ change → need ≤ held.cells → need ≡ cells_of (length bytes) →
+    v ≡ grow (Took set.group.0 change held.buf.0 held.cells need) u → low.changes set.group.0 < change → held.change ≡ change → need ≤ held.cells → need ≡ cells_of (length bytes) →
     w ≡ grow (Entered set.path.0 seq held.buf.0 held.change held.cells len set.readers) v → writer ≡ opened_new held set.path seq len set.readers →
     x ≡ grows (puts writer.path.0 writer.seq cells) w → SameOpened t (carried cells writer) → IsPacked bytes cells → counted cells ≡ length bytes → Writes x t →
     HasOpened set next seq len size tick bytes low u x (record { n = next; size = size; begin = record { 0 = tick }; number = 1; wait = Cf; since = record { 0 = tick }; change = change; writer = t })
@@ -100,10 +100,10 @@ has-opened {low = low} set next seq len size tick need change bytes cells u v w 
     let given : t.given ≡ length bytes = omega (arith, is.given, counts) in
     record {
       over = record {
-        calls = Took change t.buf.0 held.cells need ∷ Entered set.path.0 seq t.buf.0 change held.cells len set.readers ∷ puts set.path.0 seq cells;
+        calls = Took set.group.0 change t.buf.0 held.cells need ∷ Entered set.path.0 seq t.buf.0 change held.cells len set.readers ∷ puts set.path.0 seq cells;
         grown = all ∙ ap (grows (puts set.path.0 seq cells)) (entered ∙ ap (grow (Entered set.path.0 seq held.buf.0 held.change held.cells len set.readers)) took)
-            ∙ ap (λ n. grows (puts set.path.0 seq cells) (grow (Entered set.path.0 seq held.buf.0 n held.cells len set.readers) (grow (Took change held.buf.0 held.cells need) u))) same
-            ∙ ap (λ b. grows (puts set.path.0 seq cells) (grow (Entered set.path.0 seq b.0 change held.cells len set.readers) (grow (Took change b.0 held.cells need) u))) (sym is.buf);
+            ∙ ap (λ n. grows (puts set.path.0 seq cells) (grow (Entered set.path.0 seq held.buf.0 n held.cells len set.readers) (grow (Took set.group.0 change held.buf.0 held.cells need) u))) same
+            ∙ ap (λ b. grows (puts set.path.0 seq cells) (grow (Entered set.path.0 seq b.0 change held.cells len set.readers) (grow (Took set.group.0 change b.0 held.cells need) u))) (sym is.buf);
         fresh = (fresh, (tt, puts-fresh low _ set.path.0 seq cells (counted cells)));
         moves_are = ap (λ ms. record { change = change; took = true; buf = t.buf } ∷ ms) (sym (moves_in-puts set.path.0 seq cells (counted cells)));
         row = record { need = need; size = held.cells; cells = cells; seq_is = is.seq; need_is = need_is; fits = fits; packed = packed; calls_are = refl };

@@ -98,7 +98,7 @@ refuses set size meaning next seq act m start acts row =
       of = record { came = refl; start = start; unused = refl; idle = refl };
       number = row.number;
       free = row.free;
-      calls = row.calls ∙ ap (λ n. Refused row.number row.free n ∷ []) row.need_is;
+      calls = row.calls ∙ ap (λ n. Refused set.group.0 row.number row.free n ∷ []) row.need_is;
       act = row.act_is ∙ sym acts;
       records = row.records ∙ ap (λ n. refused set next (len_of meaning) m.tick row.number row.free n ∷ []) row.need_is;
       new = refl;

@@ -68,7 +68,7 @@ pub record IsRefusal (set : RxSet) (event : RxEvent) (tick : ℕ) (old : RxStage
   pub of : HasStart set event old size meaning
   pub number : ℕ
   pub free : ℕ
-  pub calls : done.calls ≡ Refused number free (cells_of (length (bytes_of meaning))) ∷ []
+  pub calls : done.calls ≡ Refused set.group.0 number free (cells_of (length (bytes_of meaning))) ∷ []
   pub act : done.act ≡ refusal_act meaning
   pub records : done.records ≡ refused set old.state.next (len_of meaning) tick number free (cells_of (length (bytes_of meaning))) ∷ []
   pub new : done.new ≡ at_stage (idle (old.state.next + 1) old.state.seq) None true
@@ -252,14 +252,14 @@ pub record IsMade (set : RxSet) (event : RxEvent) (old : RxStage) (m : RxDid) : 
 
 -- a call of a path's writer, or its use of the pool
 abbrev pub OfWriter : ℕ → Event → Type 0
-OfWriter path (Took number buf size need) = Unit {0}
-OfWriter path (Refused number free need) = Unit {0}
+OfWriter path (Took group number buf size need) = Unit {0}
+OfWriter path (Refused group number free need) = Unit {0}
 OfWriter path (Entered p seq buf number size len readers) = p ≡ path
 OfWriter path (Asked p seq cells readers) = p ≡ path
 OfWriter path (Put p seq cell) = p ≡ path
 OfWriter path (Published p seq bytes) = p ≡ path
 OfWriter path (Joining p dest seq buf len) = ⊥
-OfWriter path (Missed p dest seq) = ⊥
+OfWriter path (Missed group p dest seq) = ⊥
 OfWriter path (Saw p dest seq cells bytes writer) = ⊥
 OfWriter path (Read p dest seq cell) = ⊥
 OfWriter path (Closed p seq freed) = p ≡ path

@@ -20,10 +20,11 @@ use Rattle.tp_receiver.specs.Table.{Opens, begun, cells_of, refused}
 use Rattle.tp_unit.specs.Reading.{unit_of}
 use Rattle.tp_unit.specs.Unit.{Meaning, box_meaning_of}
 
--- the port acts for the path's writer, and sessions may have so many destinations
+-- the port acts for the path's writer, sessions may have so many destinations, and the set's group is one of its pool's
 pub record ActsFor (set : RxSet) (means : Means) : Type 0 where
   pub writes : means.writes set.path.0 ≡ true
   pub most : set.readers ≤ means.most
+  pub group : set.group.0 < length means.groups
 
 -- the port knows the reception's session as its token says, all that was put is published, and bytes remain
 pub record KnowsReception (view : View) (path : ℕ) (r : HeldReception) : Type 0 where
@@ -101,7 +102,7 @@ pub record Refuses (set : RxSet) (next len tick : ℕ) (bytes : List ℕ) (told 
   pub free : ℕ
   pub need : ℕ
   pub need_is : need ≡ cells_of (length bytes)
-  pub calls_are : calls ≡ Refused number free need ∷ []
+  pub calls_are : calls ≡ Refused set.group.0 number free need ∷ []
   pub told_is : told ≡ refused set next len tick number free need
 
 -- what a step in a tick comes to, over a port that did and saw these calls, by what the machine does and its state then

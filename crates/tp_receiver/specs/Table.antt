@@ -129,7 +129,7 @@ pub record Overflows (set : RxSet) (next seq len : ℕ) (bytes : List ℕ) (act 
   pub free : ℕ
   pub need : ℕ
   pub need_is : need ≡ cells_of (length bytes)
-  pub calls : m.calls ≡ Refused number free need ∷ []
+  pub calls : m.calls ≡ Refused set.group.0 number free need ∷ []
   pub act_is : m.act ≡ act
   pub records : m.records ≡ refused set next len m.tick number free need ∷ []
   pub new : m.new ≡ idle (next + 1) seq
@@ -143,7 +143,7 @@ pub record Opens (set : RxSet) (seq len : ℕ) (bytes : List ℕ) (opened : Open
   pub need_is : need ≡ cells_of (length bytes)
   pub fits : need ≤ size
   pub packed : IsPacked bytes cells
-  pub calls_are : calls ≡ Took opened.change opened.buf.0 size need ∷ Entered set.path.0 seq opened.buf.0 opened.change size len set.readers ∷ puts set.path.0 seq cells
+  pub calls_are : calls ≡ Took set.group.0 opened.change opened.buf.0 size need ∷ Entered set.path.0 seq opened.buf.0 opened.change size len set.readers ∷ puts set.path.0 seq cells
 
 -- a look at the room: what the port answered
 abbrev pub asks : RxSet → Reception → (room readers : ℕ) → List Event

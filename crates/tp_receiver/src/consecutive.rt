@@ -10,9 +10,9 @@ impl Receiver {
     ghost use Rattle.std.specs.Prelude.{◌≡◌, ◌+◌, ◌<◌, ◌≤◌, length};
     ghost use Rattle.tp_receiver.specs.Port.{Kept, Knows, KnowsReception, did_by};
     ghost use Rattle.tp_receiver.specs.State.{WaitsBy, reception_of, reception_in, state_of};
-    ghost use Rattle.hub_core.specs.Turns.{Over};
+    ghost use Rattle.hub_core.specs.Turns.{OverPort};
     ghost use Rattle.tp_receiver.specs.Table.{Continues, Carries, ConsecutiveRow};
-    ghost use Rattle.hub_core.specs.Floors.{Rise};
+    ghost use Rattle.hub_core.specs.Stays.{IsSamePort};
 
     /// A consecutive frame.
     pub(crate) fn consecutive_frame<P: Port>(
@@ -23,16 +23,16 @@ impl Receiver {
         tick: Tick,
         port: &mut P,
     ) -> RxActs
-        requires knows { Knows (P.view port.old) self.old }
-        requires spare { 9 ≤ (P.means port.old).spare }
+        requires knows { Knows (P.state port.old).view self.old }
+        requires spare { 9 ≤ (P.state port.old).means.spare }
         requires most { length bytes.now ≤ 63 }
-        ensures over { Over (P.floors port.old) (P.view port.old) (P.view port.new) result.moves.items (λ calls. ConsecutiveRow self.old.set (state_of self.old) size sn bytes.now (reception_in self.old.state) (did_by tick.0 calls result (state_of self.new))) }
+        ensures over { OverPort (P.state port.old) (P.state port.new) result.moves.items (λ calls. ConsecutiveRow self.old.set (state_of self.old) size sn bytes.now (reception_in self.old.state) (did_by tick.0 calls result (state_of self.new))) }
         ensures set { self.new.set ≡ self.old.set }
         ensures next_n { self.new.next_n ≡ self.old.next_n }
-        ensures knows { Knows (P.view port.new) self.new }
+        ensures knows { Knows (P.state port.new).view self.new }
         ensures tick { WaitsBy self.old.state tick.0 → WaitsBy self.new.state tick.0 }
-        ensures kept { Kept self.old.set.path.0 0 9 (P.view port.old) (P.view port.new) (P.means port.old) (P.means port.new) }
-        ensures rise { Rise (P.floors port.old) (P.floors port.new) }
+        ensures kept { Kept self.old.set.path.0 0 9 (P.state port.old).view (P.state port.new).view (P.state port.old).means (P.state port.new).means }
+        ensures home { IsSamePort (P.state port.old) (P.state port.new) }
     {
         match mem::replace(&mut self.state, State::Idle) {
             State::Idle => RxActs::nothing(),
@@ -51,17 +51,17 @@ impl Receiver {
         port: &mut P,
     ) -> RxActs
         requires state { self.old.state ≡ State.Idle }
-        requires number { length ((P.view port.old).sessions self.old.set.path.0) ≡ self.old.next_seq }
-        requires knows { KnowsReception (P.view port.old) self.old.set.path.0 reception }
-        requires spare { 9 ≤ (P.means port.old).spare }
+        requires number { length ((P.state port.old).view.sessions self.old.set.path.0) ≡ self.old.next_seq }
+        requires knows { KnowsReception (P.state port.old).view self.old.set.path.0 reception }
+        requires spare { 9 ≤ (P.state port.old).means.spare }
         requires most { length bytes.now ≤ 63 }
-        ensures over { Over (P.floors port.old) (P.view port.old) (P.view port.new) result.moves.items (λ calls. Continues self.old.set self.old.next_n self.old.next_seq (reception_of reception) size sn bytes.now (did_by tick.0 calls result (state_of self.new))) }
+        ensures over { OverPort (P.state port.old) (P.state port.new) result.moves.items (λ calls. Continues self.old.set self.old.next_n self.old.next_seq (reception_of reception) size sn bytes.now (did_by tick.0 calls result (state_of self.new))) }
         ensures set { self.new.set ≡ self.old.set }
         ensures next_n { self.new.next_n ≡ self.old.next_n }
-        ensures knows { Knows (P.view port.new) self.new }
+        ensures knows { Knows (P.state port.new).view self.new }
         ensures tick { reception.since.0 ≤ tick.0 → WaitsBy self.new.state tick.0 }
-        ensures kept { Kept self.old.set.path.0 0 9 (P.view port.old) (P.view port.new) (P.means port.old) (P.means port.new) }
-        ensures rise { Rise (P.floors port.old) (P.floors port.new) }
+        ensures kept { Kept self.old.set.path.0 0 9 (P.state port.old).view (P.state port.new).view (P.state port.old).means (P.state port.new).means }
+        ensures home { IsSamePort (P.state port.old) (P.state port.new) }
     {
         let due = reception.due(self.set.a);
         if size > reception.size {
@@ -91,18 +91,18 @@ impl Receiver {
         port: &mut P,
     ) -> RxActs
         requires state { self.old.state ≡ State.Idle }
-        requires number { length ((P.view port.old).sessions self.old.set.path.0) ≡ self.old.next_seq }
-        requires knows { KnowsReception (P.view port.old) self.old.set.path.0 reception }
-        requires spare { 9 ≤ (P.means port.old).spare }
+        requires number { length ((P.state port.old).view.sessions self.old.set.path.0) ≡ self.old.next_seq }
+        requires knows { KnowsReception (P.state port.old).view self.old.set.path.0 reception }
+        requires spare { 9 ≤ (P.state port.old).means.spare }
         requires most { length bytes.now ≤ 63 }
         requires within { reception.writer.given + length bytes.now ≤ reception.writer.len }
-        ensures over { Over (P.floors port.old) (P.view port.old) (P.view port.new) result.moves.items (λ calls. Carries self.old.set self.old.next_n self.old.next_seq (reception_of reception) bytes.now (did_by tick.0 calls result (state_of self.new))) }
+        ensures over { OverPort (P.state port.old) (P.state port.new) result.moves.items (λ calls. Carries self.old.set self.old.next_n self.old.next_seq (reception_of reception) bytes.now (did_by tick.0 calls result (state_of self.new))) }
         ensures set { self.new.set ≡ self.old.set }
         ensures next_n { self.new.next_n ≡ self.old.next_n }
-        ensures knows { Knows (P.view port.new) self.new }
+        ensures knows { Knows (P.state port.new).view self.new }
         ensures tick { reception.since.0 ≤ tick.0 → WaitsBy self.new.state tick.0 }
-        ensures kept { Kept self.old.set.path.0 0 9 (P.view port.old) (P.view port.new) (P.means port.old) (P.means port.new) }
-        ensures rise { Rise (P.floors port.old) (P.floors port.new) }
+        ensures kept { Kept self.old.set.path.0 0 9 (P.state port.old).view (P.state port.new).view (P.state port.old).means (P.state port.new).means }
+        ensures home { IsSamePort (P.state port.old) (P.state port.new) }
     {
         let room = port.room(&mut reception.writer);
         if room.readers == 0 {

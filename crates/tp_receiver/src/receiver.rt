@@ -24,9 +24,9 @@ impl Receiver {
     ghost use Rattle.std.specs.Prelude.{◌≡◌, ◌+◌, ◌<◌, ◌≤◌, is_some, take};
     ghost use Rattle.tp_receiver.specs.Port.{ActsFor, CanTake, IsRead, IsServed, Kept, Knows, cells_for, did_by, takes_for};
     ghost use Rattle.tp_receiver.specs.State.{WaitsBy, Came, idle, event_of, state_of};
-    ghost use Rattle.hub_core.specs.Turns.{Over};
+    ghost use Rattle.hub_core.specs.Turns.{OverPort};
     ghost use Rattle.tp_receiver.specs.Table.{RxStep};
-    ghost use Rattle.hub_core.specs.Floors.{Rise};
+    ghost use Rattle.hub_core.specs.Stays.{IsSamePort};
     ghost use Rattle.tp_unit.specs.Unit.{meaning_of};
 
     /// A receiver that is idle, and whose channel had no start yet. A path has 1 to 8 destinations, and a frame at most
@@ -57,17 +57,17 @@ impl Receiver {
     /// Ticks never fall. A unit is one that was read of a frame of `dl` bytes, and needs a take, nine cells that may be
     /// put, and a number below 1,000,000. `FcLeft` counts only where a flow control of this reception lay in its box.
     pub fn step<P: Port>(&mut self, event: RxEvent, tick: Tick, port: &mut P) -> RxActs
-        requires acts { ActsFor self.old.set (P.means port.old) }
-        requires knows { Knows (P.view port.old) self.old }
+        requires acts { ActsFor self.old.set (P.state port.old).means }
+        requires knows { Knows (P.state port.old).view self.old }
         requires tick { WaitsBy self.old.state tick.0 }
-        requires unit { CanTake self.old.set (P.means port.old) self.old.next_n (event_of event) }
-        ensures over { Over (P.floors port.old) (P.view port.old) (P.view port.new) result.moves.items (λ calls. RxStep self.old.set (state_of self.old) (event_of event) (did_by tick.0 calls result (state_of self.new))) }
+        requires unit { CanTake self.old.set (P.state port.old).means self.old.next_n (event_of event) }
+        ensures over { OverPort (P.state port.old) (P.state port.new) result.moves.items (λ calls. RxStep self.old.set (state_of self.old) (event_of event) (did_by tick.0 calls result (state_of self.new))) }
         ensures set { self.new.set ≡ self.old.set }
-        ensures knows { Knows (P.view port.new) self.new }
+        ensures knows { Knows (P.state port.new).view self.new }
         ensures tick { WaitsBy self.new.state tick.0 }
         ensures count { self.new.next_n ≤ self.old.next_n + takes_for (event_of event) }
-        ensures kept { Kept self.old.set.path.0 (takes_for (event_of event)) (cells_for (event_of event)) (P.view port.old) (P.view port.new) (P.means port.old) (P.means port.new) }
-        ensures rise { Rise (P.floors port.old) (P.floors port.new) }
+        ensures kept { Kept self.old.set.path.0 (takes_for (event_of event)) (cells_for (event_of event)) (P.state port.old).view (P.state port.new).view (P.state port.old).means (P.state port.new).means }
+        ensures home { IsSamePort (P.state port.old) (P.state port.new) }
     {
         match event {
             RxEvent::Unit { unit, dl } => self.unit(unit, dl, tick, port),
@@ -79,17 +79,17 @@ impl Receiver {
 
     /// A unit, by its kind.
     fn unit<P: Port>(&mut self, unit: Unit, size: u8, tick: Tick, port: &mut P) -> RxActs
-        requires acts { ActsFor self.old.set (P.means port.old) }
-        requires knows { Knows (P.view port.old) self.old }
-        requires served { IsServed (P.means port.old) self.old.next_n }
+        requires acts { ActsFor self.old.set (P.state port.old).means }
+        requires knows { Knows (P.state port.old).view self.old }
+        requires served { IsServed (P.state port.old).means self.old.next_n }
         requires read { IsRead self.old.set.a size (meaning_of unit) }
-        ensures over { Over (P.floors port.old) (P.view port.old) (P.view port.new) result.moves.items (λ calls. RxStep self.old.set (state_of self.old) (Came size (meaning_of unit)) (did_by tick.0 calls result (state_of self.new))) }
+        ensures over { OverPort (P.state port.old) (P.state port.new) result.moves.items (λ calls. RxStep self.old.set (state_of self.old) (Came size (meaning_of unit)) (did_by tick.0 calls result (state_of self.new))) }
         ensures set { self.new.set ≡ self.old.set }
-        ensures knows { Knows (P.view port.new) self.new }
+        ensures knows { Knows (P.state port.new).view self.new }
         ensures tick { WaitsBy self.old.state tick.0 → WaitsBy self.new.state tick.0 }
         ensures count { self.new.next_n ≤ self.old.next_n + 1 }
-        ensures kept { Kept self.old.set.path.0 1 9 (P.view port.old) (P.view port.new) (P.means port.old) (P.means port.new) }
-        ensures rise { Rise (P.floors port.old) (P.floors port.new) }
+        ensures kept { Kept self.old.set.path.0 1 9 (P.state port.old).view (P.state port.new).view (P.state port.old).means (P.state port.new).means }
+        ensures home { IsSamePort (P.state port.old) (P.state port.new) }
     {
         match unit {
             Unit::Sf { bytes } => self.single_frame(bytes.as_slice(), size, tick, port),

@@ -1,4 +1,4 @@
-use gw_base::{ChanNo, PathNo};
+use gw_base::{ChanNo, GroupNo, PathNo};
 use tp_unit::Unit;
 
 /// The configured numbers of a channel that is a source.
@@ -7,6 +7,8 @@ pub struct RxSet {
     pub chan: ChanNo,
     /// The path that its messages are put on.
     pub path: PathNo,
+    /// The group of buffers that its messages are stored in.
+    pub group: GroupNo,
     /// The destinations of the path, from 1 to 8.
     pub readers: u8,
     /// The address bytes of its frames: 0 or 1.

@@ -20,9 +20,9 @@ impl Receiver {
     ghost use Rattle.std.specs.Prelude.{◌≡◌, ◌+◌, ◌<◌, ◌≤◌, [], None, IfOk, IfErr, MatchResult, length, take};
     ghost use Rattle.tp_receiver.specs.Port.{ActsFor, HasOpened, IsServed, Kept, Knows, KnowsReception, did_by, Refuses};
     ghost use Rattle.tp_receiver.specs.State.{WaitsBy, reception_of, reception_in, idle, state_of};
-    ghost use Rattle.hub_core.specs.Turns.{Over};
+    ghost use Rattle.hub_core.specs.Turns.{OverPort};
     ghost use Rattle.tp_receiver.specs.Table.{Ends, Interrupts, Starts, Grants};
-    ghost use Rattle.hub_core.specs.Floors.{Rise};
+    ghost use Rattle.hub_core.specs.Stays.{IsSamePort};
     ghost use Rattle.tp_unit.specs.Unit.{SingleFrame, FirstFrame};
 
     /// A single frame.
@@ -33,18 +33,18 @@ impl Receiver {
         tick: Tick,
         port: &mut P,
     ) -> RxActs
-        requires acts { ActsFor self.old.set (P.means port.old) }
-        requires knows { Knows (P.view port.old) self.old }
-        requires served { IsServed (P.means port.old) self.old.next_n }
+        requires acts { ActsFor self.old.set (P.state port.old).means }
+        requires knows { Knows (P.state port.old).view self.old }
+        requires served { IsServed (P.state port.old).means self.old.next_n }
         requires some { 0 < length bytes.now }
         requires most { length bytes.now ≤ 62 }
-        ensures over { Over (P.floors port.old) (P.view port.old) (P.view port.new) result.moves.items (λ calls. Starts self.old.set (state_of self.old) size (SingleFrame bytes.now) (did_by tick.0 calls result (state_of self.new))) }
+        ensures over { OverPort (P.state port.old) (P.state port.new) result.moves.items (λ calls. Starts self.old.set (state_of self.old) size (SingleFrame bytes.now) (did_by tick.0 calls result (state_of self.new))) }
         ensures set { self.new.set ≡ self.old.set }
-        ensures knows { Knows (P.view port.new) self.new }
+        ensures knows { Knows (P.state port.new).view self.new }
         ensures state { self.new.state ≡ State.Idle }
         ensures count { self.new.next_n ≡ self.old.next_n + 1 }
-        ensures kept { Kept self.old.set.path.0 1 9 (P.view port.old) (P.view port.new) (P.means port.old) (P.means port.new) }
-        ensures rise { Rise (P.floors port.old) (P.floors port.new) }
+        ensures kept { Kept self.old.set.path.0 1 9 (P.state port.old).view (P.state port.new).view (P.state port.old).means (P.state port.new).means }
+        ensures home { IsSamePort (P.state port.old) (P.state port.new) }
     {
         let acts = self.interrupt(tick, port);
         match self.open(bytes.len() as u32, size, bytes, tick, port) {
@@ -70,18 +70,18 @@ impl Receiver {
         tick: Tick,
         port: &mut P,
     ) -> RxActs
-        requires acts { ActsFor self.old.set (P.means port.old) }
-        requires knows { Knows (P.view port.old) self.old }
-        requires served { IsServed (P.means port.old) self.old.next_n }
+        requires acts { ActsFor self.old.set (P.state port.old).means }
+        requires knows { Knows (P.state port.old).view self.old }
+        requires served { IsServed (P.state port.old).means self.old.next_n }
         requires more { length bytes.now < len }
         requires most { length bytes.now ≤ 62 }
-        ensures over { Over (P.floors port.old) (P.view port.old) (P.view port.new) result.moves.items (λ calls. Starts self.old.set (state_of self.old) size (FirstFrame len bytes.now) (did_by tick.0 calls result (state_of self.new))) }
+        ensures over { OverPort (P.state port.old) (P.state port.new) result.moves.items (λ calls. Starts self.old.set (state_of self.old) size (FirstFrame len bytes.now) (did_by tick.0 calls result (state_of self.new))) }
         ensures set { self.new.set ≡ self.old.set }
-        ensures knows { Knows (P.view port.new) self.new }
+        ensures knows { Knows (P.state port.new).view self.new }
         ensures tick { WaitsBy self.new.state tick.0 }
         ensures count { self.new.next_n ≡ self.old.next_n + 1 }
-        ensures kept { Kept self.old.set.path.0 1 9 (P.view port.old) (P.view port.new) (P.means port.old) (P.means port.new) }
-        ensures rise { Rise (P.floors port.old) (P.floors port.new) }
+        ensures kept { Kept self.old.set.path.0 1 9 (P.state port.old).view (P.state port.new).view (P.state port.old).means (P.state port.new).means }
+        ensures home { IsSamePort (P.state port.old) (P.state port.new) }
     {
         let acts = self.interrupt(tick, port);
         match self.open(len, size, bytes, tick, port) {
@@ -100,14 +100,14 @@ impl Receiver {
 
     /// Ends a reception that another start interrupts.
     fn interrupt<P: Port>(&mut self, tick: Tick, port: &mut P) -> RxActs
-        requires knows { Knows (P.view port.old) self.old }
-        ensures over { Over (P.floors port.old) (P.view port.old) (P.view port.new) result.moves.items (λ calls. Interrupts self.old.set self.old.next_n self.old.next_seq (reception_in self.old.state) (did_by tick.0 calls result (idle self.old.next_n self.old.next_seq))) }
+        requires knows { Knows (P.state port.old).view self.old }
+        ensures over { OverPort (P.state port.old) (P.state port.new) result.moves.items (λ calls. Interrupts self.old.set self.old.next_n self.old.next_seq (reception_in self.old.state) (did_by tick.0 calls result (idle self.old.next_n self.old.next_seq))) }
         ensures receiver { self.new ≡ record self.old { state = State.Idle } }
-        ensures number { length ((P.view port.new).sessions self.old.set.path.0) ≡ self.old.next_seq }
+        ensures number { length ((P.state port.new).view.sessions self.old.set.path.0) ≡ self.old.next_seq }
         ensures records { length result.records.items ≤ 1 }
         ensures moves { length result.moves.items ≤ 1 }
-        ensures kept { Kept self.old.set.path.0 0 0 (P.view port.old) (P.view port.new) (P.means port.old) (P.means port.new) }
-        ensures rise { Rise (P.floors port.old) (P.floors port.new) }
+        ensures kept { Kept self.old.set.path.0 0 0 (P.state port.old).view (P.state port.new).view (P.state port.old).means (P.state port.new).means }
+        ensures home { IsSamePort (P.state port.old) (P.state port.new) }
     {
         match mem::replace(&mut self.state, State::Idle) {
             State::Idle => RxActs::nothing(),
@@ -124,28 +124,28 @@ impl Receiver {
         tick: Tick,
         port: &mut P,
     ) -> Result<Reception, SessionRecord>
-        requires acts { ActsFor self.old.set (P.means port.old) }
+        requires acts { ActsFor self.old.set (P.state port.old).means }
         requires state { self.old.state ≡ State.Idle }
-        requires number { length ((P.view port.old).sessions self.old.set.path.0) ≡ self.old.next_seq }
-        requires served { IsServed (P.means port.old) self.old.next_n }
+        requires number { length ((P.state port.old).view.sessions self.old.set.path.0) ≡ self.old.next_seq }
+        requires served { IsServed (P.state port.old).means self.old.next_n }
         requires some { 0 < len }
         requires within { length bytes.now ≤ len }
         requires most { length bytes.now ≤ 62 }
-        ensures opened { IfOk result (λ r. HasOpened self.old.set self.old.next_n self.old.next_seq len size tick.0 bytes.now (P.floors port.old) (P.view port.old) (P.view port.new) r) }
-        ensures refused { IfErr result (λ told. Over (P.floors port.old) (P.view port.old) (P.view port.new) [] (Refuses self.old.set self.old.next_n len tick.0 bytes.now told)) }
+        ensures opened { IfOk result (λ r. HasOpened self.old.set self.old.next_n self.old.next_seq len size tick.0 bytes.now (P.state port.old).floors (P.state port.old).view (P.state port.new).view r) }
+        ensures refused { IfErr result (λ told. OverPort (P.state port.old) (P.state port.new) [] (Refuses self.old.set self.old.next_n len tick.0 bytes.now told)) }
         ensures set { self.new.set ≡ self.old.set }
         ensures state { self.new.state ≡ State.Idle }
         ensures next_n { self.new.next_n ≡ self.old.next_n + 1 }
         ensures next_seq { MatchResult result (λ r. self.new.next_seq ≡ self.old.next_seq + 1) (λ told. self.new.next_seq ≡ self.old.next_seq) }
-        ensures number { length ((P.view port.new).sessions self.new.set.path.0) ≡ self.new.next_seq }
-        ensures kept { Kept self.old.set.path.0 1 9 (P.view port.old) (P.view port.new) (P.means port.old) (P.means port.new) }
-        ensures rise { Rise (P.floors port.old) (P.floors port.new) }
+        ensures number { length ((P.state port.new).view.sessions self.new.set.path.0) ≡ self.new.next_seq }
+        ensures kept { Kept self.old.set.path.0 1 9 (P.state port.old).view (P.state port.new).view (P.state port.old).means (P.state port.new).means }
+        ensures home { IsSamePort (P.state port.old) (P.state port.new) }
     {
         let n = self.next_n;
         self.next_n += 1;
         let cells = pack(bytes);
         let need = cells.len() as u64;
-        match port.take(need) {
+        match port.take(self.set.group, need) {
             Take::Overflow { change, free } => Err(SessionRecord {
                 chan: self.set.chan,
                 n,
@@ -178,17 +178,17 @@ impl Receiver {
     /// Lets the sender go on, where the message still has readers.
     fn grant<P: Port>(&mut self, mut reception: Reception, tick: Tick, port: &mut P) -> RxActs
         requires state { self.old.state ≡ State.Idle }
-        requires number { length ((P.view port.old).sessions self.old.set.path.0) ≡ self.old.next_seq }
-        requires knows { KnowsReception (P.view port.old) self.old.set.path.0 reception }
-        ensures over { Over (P.floors port.old) (P.view port.old) (P.view port.new) result.moves.items (λ calls. Grants self.old.set self.old.next_n self.old.next_seq (reception_of reception) (did_by tick.0 calls result (state_of self.new))) }
+        requires number { length ((P.state port.old).view.sessions self.old.set.path.0) ≡ self.old.next_seq }
+        requires knows { KnowsReception (P.state port.old).view self.old.set.path.0 reception }
+        ensures over { OverPort (P.state port.old) (P.state port.new) result.moves.items (λ calls. Grants self.old.set self.old.next_n self.old.next_seq (reception_of reception) (did_by tick.0 calls result (state_of self.new))) }
         ensures set { self.new.set ≡ self.old.set }
         ensures next_n { self.new.next_n ≡ self.old.next_n }
-        ensures knows { Knows (P.view port.new) self.new }
+        ensures knows { Knows (P.state port.new).view self.new }
         ensures tick { WaitsBy self.new.state tick.0 }
         ensures records { length result.records.items ≤ 1 }
         ensures moves { length result.moves.items ≤ 1 }
-        ensures kept { Kept self.old.set.path.0 0 0 (P.view port.old) (P.view port.new) (P.means port.old) (P.means port.new) }
-        ensures rise { Rise (P.floors port.old) (P.floors port.new) }
+        ensures kept { Kept self.old.set.path.0 0 0 (P.state port.old).view (P.state port.new).view (P.state port.old).means (P.state port.new).means }
+        ensures home { IsSamePort (P.state port.old) (P.state port.new) }
     {
         let room = port.room(&mut reception.writer);
         if room.readers == 0 {

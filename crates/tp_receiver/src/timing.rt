@@ -8,22 +8,22 @@ impl Receiver {
     ghost use Rattle.std.specs.Prelude.{◌≡◌, ◌<◌, []};
     ghost use Rattle.tp_receiver.specs.Port.{Kept, Knows, did_by};
     ghost use Rattle.tp_receiver.specs.State.{WaitsBy, reception_in, state_of};
-    ghost use Rattle.hub_core.specs.Turns.{Over};
+    ghost use Rattle.hub_core.specs.Turns.{OverPort};
     ghost use Rattle.tp_receiver.specs.Table.{TimerRow, LeftRow};
-    ghost use Rattle.hub_core.specs.Floors.{Rise};
+    ghost use Rattle.hub_core.specs.Stays.{IsSamePort};
     ghost use Rattle.hub_core.specs.View.{View};
 
     /// A tick is over.
     pub(crate) fn timer<P: Port>(&mut self, tick: Tick, port: &mut P) -> RxActs
-        requires knows { Knows (P.view port.old) self.old }
+        requires knows { Knows (P.state port.old).view self.old }
         requires tick { WaitsBy self.old.state tick.0 }
-        ensures over { Over (P.floors port.old) (P.view port.old) (P.view port.new) result.moves.items (λ calls. TimerRow self.old.set (state_of self.old) (reception_in self.old.state) (did_by tick.0 calls result (state_of self.new))) }
+        ensures over { OverPort (P.state port.old) (P.state port.new) result.moves.items (λ calls. TimerRow self.old.set (state_of self.old) (reception_in self.old.state) (did_by tick.0 calls result (state_of self.new))) }
         ensures set { self.new.set ≡ self.old.set }
         ensures next_n { self.new.next_n ≡ self.old.next_n }
-        ensures knows { Knows (P.view port.new) self.new }
+        ensures knows { Knows (P.state port.new).view self.new }
         ensures tick { WaitsBy self.new.state tick.0 }
-        ensures kept { Kept self.old.set.path.0 0 0 (P.view port.old) (P.view port.new) (P.means port.old) (P.means port.new) }
-        ensures rise { Rise (P.floors port.old) (P.floors port.new) }
+        ensures kept { Kept self.old.set.path.0 0 0 (P.state port.old).view (P.state port.new).view (P.state port.old).means (P.state port.new).means }
+        ensures home { IsSamePort (P.state port.old) (P.state port.new) }
     {
         match mem::replace(&mut self.state, State::Idle) {
             State::Idle => RxActs::nothing(),

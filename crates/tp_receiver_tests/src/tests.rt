@@ -6,7 +6,7 @@ ghost use Rattle.tp_receiver.specs.Set.{IsRxSet};
 ghost use Rattle.tp_receiver.specs.declared.set.RxSet.{RxSet};
 
 use can_frame::{CanId, Frame, FrameFault};
-use gw_base::{BufNo, ChanNo, PathNo, Tick};
+use gw_base::{BufNo, ChanNo, GroupNo, PathNo, Tick};
 use hub_core::{OpenedAt, PlainHub, Port, RxLimit, RxWait, SessionRecord, SessionResult};
 use std::alloc::Global;
 use std::process::Abort;
@@ -18,6 +18,7 @@ use tp_unit::{BoxAct, Unit, read_unit};
 const SET: RxSet = RxSet {
     chan: ChanNo(0),
     path: PathNo(0),
+    group: GroupNo(0),
     readers: 1,
     a: 0,
     functional: false,
@@ -164,11 +165,12 @@ fn done_by(act: &BoxAct) -> Boxed {
 /// Plays the rows on a receiver and a port.
 fn play_on<P: Port>(rt: &impl Abort, port: &mut P, rows: &[Row]) -> Result<(), Fail>
     requires rows { length rows.now ≤ 16 }
-    requires takes { 16 ≤ (P.means port.old).takes }
-    requires spare { 144 ≤ (P.means port.old).spare }
-    requires writes { (P.means port.old).writes 0 ≡ true }
-    requires most { 1 ≤ (P.means port.old).most }
-    requires sessions { (P.view port.old).sessions 0 ≡ [] }
+    requires group { 0 < length (P.state port.old).means.groups }
+    requires takes { 16 ≤ (P.state port.old).means.takes }
+    requires spare { 144 ≤ (P.state port.old).means.spare }
+    requires writes { (P.state port.old).means.writes 0 ≡ true }
+    requires most { 1 ≤ (P.state port.old).means.most }
+    requires sessions { (P.state port.old).view.sessions 0 ≡ [] }
 {
     let mut receiver = Receiver::new(SET);
     let mut now = 0;

@@ -22,12 +22,12 @@ by-after path dest more u v w first second = record {
 }
 
 pub means-same : (m : Means) → SameMeans m m
-means-same m = record { pool = record { sizes = refl; writes = refl; reads = refl; most = refl }; takes = refl; spare = omega arith }
+means-same m = record { pool = record { groups = refl; writes = refl; reads = refl; most = refl }; takes = refl; spare = omega arith }
 
 pub means-after : (l m n : Means) → SameMeans l m → SameMeans m n → SameMeans l n
 means-after l m n first second = record {
   pool = record {
-    sizes = second.pool.sizes ∙ first.pool.sizes;
+    groups = second.pool.groups ∙ first.pool.groups;
     writes = second.pool.writes ∙ first.pool.writes;
     reads = second.pool.reads ∙ first.pool.reads;
     most = second.pool.most ∙ first.pool.most;

@@ -22,16 +22,16 @@ use Rattle.tp_sender.specs.Table.{NothingToSend, Joins, NothingStands, FindsOne}
 abbrev pub state_with : ℕ → Option HeldTransmission → TxState
 state_with next live = record { next = next; live = option_map transmission_of live }
 
-pub turn-none : {f : Floors} (set : TxSet) (next tick : ℕ) (live : Option HeldTransmission) (acts : TxActs) (u v : View) → live ≡ None → v ≡ grow (Missed set.path.0 set.dest.0 next) u → IsFresh u f (Missed set.path.0 set.dest.0 next) →
+pub turn-none : {f : Floors} (set : TxSet) (next tick : ℕ) (live : Option HeldTransmission) (acts : TxActs) (u v : View) → live ≡ None → v ≡ grow (Missed set.group.0 set.path.0 set.dest.0 next) u → IsFresh u f (Missed set.group.0 set.path.0 set.dest.0 next) →
     box_meaning_of acts.boxed ≡ Keeps → acts.ended ≡ None → acts.moved ≡ None → StepOver set (state_with next live) (state_with next live) Turn tick f u v acts
 turn-none set next tick None acts u v is grown fresh boxed ended moved =
-    record { calls = Missed set.path.0 set.dest.0 next ∷ []; grown = grown; fresh = (fresh, tt); moves_are = ap option_to_list moved; row = NothingToSend (record { calls_are = refl; act = boxed; records = ap option_to_list ended; live = refl; next_is = refl }) }
+    record { calls = Missed set.group.0 set.path.0 set.dest.0 next ∷ []; grown = grown; fresh = (fresh, tt); moves_are = ap option_to_list moved; row = NothingToSend (record { calls_are = refl; act = boxed; records = ap option_to_list ended; live = refl; next_is = refl }) }
 turn-none set next tick (Some live) acts u v is grown fresh boxed ended moved = cc
 
-pub end-none : {f : Floors} (set : TxSet) (next tick : ℕ) (live : Option HeldTransmission) (acts : TxActs) (u v : View) → live ≡ None → v ≡ grow (Missed set.path.0 set.dest.0 next) u → IsFresh u f (Missed set.path.0 set.dest.0 next) →
+pub end-none : {f : Floors} (set : TxSet) (next tick : ℕ) (live : Option HeldTransmission) (acts : TxActs) (u v : View) → live ≡ None → v ≡ grow (Missed set.group.0 set.path.0 set.dest.0 next) u → IsFresh u f (Missed set.group.0 set.path.0 set.dest.0 next) →
     box_meaning_of acts.boxed ≡ Keeps → acts.ended ≡ None → acts.moved ≡ None → StepOver set (state_with next live) (state_with next live) RunEnd tick f u v acts
 end-none set next tick None acts u v is grown fresh boxed ended moved =
-    record { calls = Missed set.path.0 set.dest.0 next ∷ []; grown = grown; fresh = (fresh, tt); moves_are = ap option_to_list moved; row = NothingStands (record { calls_are = refl; act = boxed; records = ap option_to_list ended; live = refl; next_is = refl }) }
+    record { calls = Missed set.group.0 set.path.0 set.dest.0 next ∷ []; grown = grown; fresh = (fresh, tt); moves_are = ap option_to_list moved; row = NothingStands (record { calls_are = refl; act = boxed; records = ap option_to_list ended; live = refl; next_is = refl }) }
 end-none set next tick (Some live) acts u v is grown fresh boxed ended moved = cc
 
 pub turn-joined : {low high : Floors} (set : TxSet) (next tick : ℕ) (old : Option HeldTransmission) (live : HeldTransmission) (outcome : Outcome) (u v w : View) → old ≡ None → JoinsLive set next tick u v live → Rise low high →

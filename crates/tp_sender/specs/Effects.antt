@@ -99,7 +99,7 @@ nothing_at tick p = record { tick = tick; calls = []; act = Keeps; records = [];
 
 -- what one effect comes to
 abbrev pub done_by : TxSet → (tick : ℕ) → TxStage → TxEffect → TxDone
-done_by set tick p Misses = record (nothing_at tick (record p { event = None })) { calls = Missed set.path.0 set.dest.0 p.next ∷ [] }
+done_by set tick p Misses = record (nothing_at tick (record p { event = None })) { calls = Missed set.group.0 set.path.0 set.dest.0 p.next ∷ [] }
 done_by set tick p (Joins buf len) =
     record (nothing_at tick (record p { look = None; next = p.next + 1; live = Some (joined_in tick p.next len) })) { calls = Joining set.path.0 set.dest.0 p.next buf len ∷ [] }
 done_by set tick p (Looks s look) = record (nothing_at tick (record p { look = Some look; live = Some s })) { calls = look_at set s look ∷ [] }

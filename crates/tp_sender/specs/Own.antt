@@ -11,14 +11,14 @@ use Rattle.tp_sender.specs.State.{TxDid, TxState}
 
 -- a call of a path's destination
 abbrev pub OfDest : (path dest : ℕ) → Event → Type 0
-OfDest path dest (Took number buf size need) = ⊥
-OfDest path dest (Refused number free need) = ⊥
+OfDest path dest (Took group number buf size need) = ⊥
+OfDest path dest (Refused group number free need) = ⊥
 OfDest path dest (Entered p seq buf number size len readers) = ⊥
 OfDest path dest (Asked p seq cells readers) = ⊥
 OfDest path dest (Put p seq cell) = ⊥
 OfDest path dest (Published p seq bytes) = ⊥
 OfDest path dest (Joining p d seq buf len) = (p ≡ path) × (d ≡ dest)
-OfDest path dest (Missed p d seq) = (p ≡ path) × (d ≡ dest)
+OfDest path dest (Missed group p d seq) = (p ≡ path) × (d ≡ dest)
 OfDest path dest (Saw p d seq cells bytes writer) = (p ≡ path) × (d ≡ dest)
 OfDest path dest (Read p d seq cell) = (p ≡ path) × (d ≡ dest)
 OfDest path dest (Closed p seq freed) = ⊥

@@ -5,6 +5,7 @@ use Rattle.gw_base.specs.Cell.{IsCell}
 use Rattle.hub_core.specs.Calls.{Means, SameMeans, ByReader}
 use Rattle.hub_core.specs.Floors.{Floors, IsFresh}
 use Rattle.hub_core.specs.Tokens.{Reads}
+use Rattle.hub_core.specs.Stays.{PortState}
 use Rattle.hub_core.specs.Turns.{Over}
 use Rattle.hub_core.specs.declared.port.Left.{Left}
 use Rattle.hub_core.specs.declared.port.Left.TheVariants.{Others, Last}
@@ -36,9 +37,13 @@ pub record Knows (v : View) (sender : Sender) : Type 0 where
   pub next : length (v.readings sender.set.path.0 sender.set.dest.0) ≡ sender.next
   pub live : KnowsLive v sender.set sender.next sender.live
 
--- the port acts for the sender's destination
+-- the port acts for the set's destination, and the set's group is one of its pool's
+pub record ActsForSet (means : Means) (set : TxSet) : Type 0 where
+  pub reads : means.reads set.path.0 set.dest.0 ≡ true
+  pub group : set.group.0 < length means.groups
+
 abbrev pub ActsFor : Means → Sender → Type 0
-ActsFor means sender = means.reads sender.set.path.0 sender.set.dest.0 ≡ true
+ActsFor means sender = ActsForSet means sender.set
 
 -- all other parties' sessions and readings are as before
 pub record OthersStay (path dest : ℕ) (old new : View) : Type 0 where
@@ -66,9 +71,17 @@ IsFree (Some move) = move.took ≡ false
 abbrev pub OverRow : (List Event → TxDid → Type 0) → Floors → (before after : View) → (tick next : ℕ) → Outcome → Type 0
 OverRow Row floors before after tick next outcome = Over floors before after (option_to_list outcome.acts.moved) (λ calls. (all : List Event) → Row calls (did_of tick next all outcome))
 
+-- the same over a port
+abbrev pub RowOver : {Home : Type 0} → (List Event → TxDid → Type 0) → (old new : PortState Home) → (tick next : ℕ) → Outcome → Type 0
+RowOver Row old new tick next outcome = OverRow Row old.floors old.view new.view tick next outcome
+
 -- a step of the sender over its port
 abbrev pub StepOver : TxSet → (old new : TxState) → TxEvent → ℕ → Floors → (before after : View) → TxActs → Type 0
 StepOver set old new event tick floors before after acts = Over floors before after (option_to_list acts.moved) (λ calls. TxStep set old event (did_by tick calls acts new))
+
+-- the same over a port
+abbrev pub StepOverPort : {Home : Type 0} → TxSet → (was now : TxState) → TxEvent → ℕ → (old new : PortState Home) → TxActs → Type 0
+StepOverPort set was now event tick old new acts = StepOver set was now event tick old.floors old.view new.view acts
 
 -- after calls of this destination: its number of sessions and all other parties are as before, what the port may do stays,
 -- and the port knows the session that goes on
@@ -113,5 +126,5 @@ pub record JoinsLive (set : TxSet) (next tick : ℕ) (before after : View) (live
 -- the next session is joined, or none stands
 abbrev pub JoinsOver : TxSet → (next tick : ℕ) → Floors → (before after : View) → Option HeldTransmission → Type 0
 JoinsOver set next tick floors before after None =
-    (after ≡ grow (Missed set.path.0 set.dest.0 next) before) × ByReader set.path.0 set.dest.0 0 before after × IsFresh before floors (Missed set.path.0 set.dest.0 next)
+    (after ≡ grow (Missed set.group.0 set.path.0 set.dest.0 next) before) × ByReader set.path.0 set.dest.0 0 before after × IsFresh before floors (Missed set.group.0 set.path.0 set.dest.0 next)
 JoinsOver set next tick floors before after (Some live) = JoinsLive set next tick before after live

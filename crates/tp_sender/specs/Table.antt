@@ -129,7 +129,7 @@ joined_in tick seq len = record { seq = seq; len = len; at = 0; carried = []; be
 
 -- no session stands, and none is sent
 pub record NoneStands (set : TxSet) (next : ℕ) (did : TxDid) : Type 0 where
-  pub calls_are : did.calls ≡ Missed set.path.0 set.dest.0 next ∷ []
+  pub calls_are : did.calls ≡ Missed set.group.0 set.path.0 set.dest.0 next ∷ []
   pub act : did.act ≡ Keeps
   pub records : did.records ≡ []
   pub live : did.new.live ≡ None

@@ -1,7 +1,7 @@
 ghost use Rattle.std.specs.Prelude.{◌≡◌, ◌+◌, None, Some};
-ghost use Rattle.tp_sender.specs.Port.{left_by, KnowsToken, IsFree, KeepsPort, OverRow};
+ghost use Rattle.tp_sender.specs.Port.{left_by, KnowsToken, IsFree, KeepsPort, RowOver};
 ghost use Rattle.hub_core.specs.Calls.{ByReader, SameMeans, freed_by};
-ghost use Rattle.hub_core.specs.Floors.{Rise};
+ghost use Rattle.hub_core.specs.Stays.{IsSamePort};
 ghost use Rattle.hub_core.specs.Tokens.{Reads};
 ghost use Rattle.hub_core.specs.View.{grow, Parted};
 ghost use Rattle.tp_unit.specs.Unit.{box_meaning_of};
@@ -40,10 +40,10 @@ pub fn end<P: Port>(
     tick: Tick,
     port: &mut P,
 ) -> Outcome
-    requires { KnowsToken (P.view port.old) set.now (live.at.seq + 1) live }
-    ensures step { OverRow (Ends set.now (transmission_of live) (box_meaning_of boxed) cause) (P.floors port.old) (P.view port.old) (P.view port.new) tick.0 (live.at.seq + 1) result }
-    ensures port { KeepsPort set.now (live.at.seq + 1) result.live (P.view port.old) (P.view port.new) (P.means port.old) (P.means port.new) }
-    ensures rise { Rise (P.floors port.old) (P.floors port.new) }
+    requires { KnowsToken (P.state port.old).view set.now (live.at.seq + 1) live }
+    ensures step { RowOver (Ends set.now (transmission_of live) (box_meaning_of boxed) cause) (P.state port.old) (P.state port.new) tick.0 (live.at.seq + 1) result }
+    ensures port { KeepsPort set.now (live.at.seq + 1) result.live (P.state port.old).view (P.state port.new).view (P.state port.old).means (P.state port.new).means }
+    ensures home { IsSamePort (P.state port.old) (P.state port.new) }
 {
     let ended = DestRecord {
         path: set.path,
@@ -59,11 +59,11 @@ pub fn end<P: Port>(
 
 /// The destination leaves the session that is told of.
 pub fn leave<P: Port>(at: Joined, boxed: BoxAct, told: DestRecord, port: &mut P) -> Outcome
-    requires { Reads (P.view port.old) at }
-    ensures view { P.view port.new ≡ grow (Parted at.path.0 at.dest.0 at.seq (freed_by (left_by result.acts.moved))) (P.view port.old) }
-    ensures by { ByReader at.path.0 at.dest.0 0 (P.view port.old) (P.view port.new) }
-    ensures means { SameMeans (P.means port.old) (P.means port.new) }
-    ensures rise { Rise (P.floors port.old) (P.floors port.new) }
+    requires { Reads (P.state port.old).view at }
+    ensures view { (P.state port.new).view ≡ grow (Parted at.path.0 at.dest.0 at.seq (freed_by (left_by result.acts.moved))) (P.state port.old).view }
+    ensures by { ByReader at.path.0 at.dest.0 0 (P.state port.old).view (P.state port.new).view }
+    ensures means { SameMeans (P.state port.old).means (P.state port.new).means }
+    ensures home { IsSamePort (P.state port.old) (P.state port.new) }
     ensures live { result.live ≡ None }
     ensures boxed { result.acts.boxed ≡ boxed }
     ensures ended { result.acts.ended ≡ Some told }

@@ -1,7 +1,7 @@
 ghost use Rattle.std.specs.Prelude.{◌≡◌, ◌<◌, length, true, None};
-ghost use Rattle.tp_sender.specs.Port.{JoinsOver};
+ghost use Rattle.tp_sender.specs.Port.{ActsForSet, JoinsOver};
 ghost use Rattle.hub_core.specs.Calls.{SameMeans};
-ghost use Rattle.hub_core.specs.Floors.{Rise};
+ghost use Rattle.hub_core.specs.Stays.{IsSamePort};
 ghost use Rattle.tp_sender.specs.State.{transmission_of};
 ghost use Rattle.tp_sender.specs.Table.{joined_in};
 ghost use Rattle.tp_unit.specs.Unit.{Keeps, box_meaning_of};
@@ -18,13 +18,13 @@ const FIRST_NUMBER: u8 = 1;
 
 /// Joins the destination's next session, where one stands.
 pub fn join<P: Port>(set: &TxSet, next: u32, tick: Tick, port: &mut P) -> Option<Transmission>
-    requires acts { (P.means port.old).reads set.now.path.0 set.now.dest.0 ≡ true }
-    requires next { length ((P.view port.old).readings set.now.path.0 set.now.dest.0) ≡ next }
-    ensures joins { JoinsOver set.now next tick.0 (P.floors port.old) (P.view port.old) (P.view port.new) result }
-    ensures means { SameMeans (P.means port.old) (P.means port.new) }
-    ensures rise { Rise (P.floors port.old) (P.floors port.new) }
+    requires acts { ActsForSet (P.state port.old).means set.now }
+    requires next { length ((P.state port.old).view.readings set.now.path.0 set.now.dest.0) ≡ next }
+    ensures joins { JoinsOver set.now next tick.0 (P.state port.old).floors (P.state port.old).view (P.state port.new).view result }
+    ensures means { SameMeans (P.state port.old).means (P.state port.new).means }
+    ensures home { IsSamePort (P.state port.old) (P.state port.new) }
 {
-    let at = port.next(set.path, set.dest, next)?;
+    let at = port.next(set.group, set.path, set.dest, next)?;
     Some(live_of(at, tick))
 }
 

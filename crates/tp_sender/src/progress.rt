@@ -1,6 +1,6 @@
 ghost use Rattle.std.specs.Prelude.{◌≡◌, ◌+◌, ◌<◌, ◌≤◌};
-ghost use Rattle.tp_sender.specs.Port.{KnowsToken, KeepsPort, OverRow, did_of};
-ghost use Rattle.hub_core.specs.Floors.{Rise};
+ghost use Rattle.tp_sender.specs.Port.{KnowsToken, KeepsPort, RowOver, did_of};
+ghost use Rattle.hub_core.specs.Stays.{IsSamePort};
 ghost use Rattle.tp_unit.specs.Shape.{IsShape};
 ghost use Rattle.tp_sender.specs.State.{in_box, transmission_of};
 ghost use Rattle.tp_sender.specs.Table.{Answered, Ends, FrameLeft, InAnswer, LiveRow, all_sent, revoked, wait_of};
@@ -41,11 +41,11 @@ pub struct Control {
 /// The frame in the box left.
 pub fn frame_left<P: Port>(set: &TxSet, mut live: Transmission, tick: Tick, port: &mut P) -> Outcome
     requires shape { IsShape set.now.shape }
-    requires knows { KnowsToken (P.view port.old) set.now (live.at.seq + 1) live }
+    requires knows { KnowsToken (P.state port.old).view set.now (live.at.seq + 1) live }
     requires tick { tick.0 ≤ 10000000 }
-    ensures step { OverRow (FrameLeft set.now (transmission_of live)) (P.floors port.old) (P.view port.old) (P.view port.new) tick.0 (live.at.seq + 1) result }
-    ensures port { KeepsPort set.now (live.at.seq + 1) result.live (P.view port.old) (P.view port.new) (P.means port.old) (P.means port.new) }
-    ensures rise { Rise (P.floors port.old) (P.floors port.new) }
+    ensures step { RowOver (FrameLeft set.now (transmission_of live)) (P.state port.old) (P.state port.new) tick.0 (live.at.seq + 1) result }
+    ensures port { KeepsPort set.now (live.at.seq + 1) result.live (P.state port.old).view (P.state port.new).view (P.state port.old).means (P.state port.new).means }
+    ensures home { IsSamePort (P.state port.old) (P.state port.new) }
 {
     let first = live.sent == 0;
     let sent = live.sent + next_part(&set.shape, live.at.len, live.sent) as u32;
@@ -73,10 +73,10 @@ pub fn frame_left<P: Port>(set: &TxSet, mut live: Transmission, tick: Tick, port
 
 /// The unit's last frame left.
 fn all_left<P: Port>(set: &TxSet, live: Transmission, tick: Tick, port: &mut P) -> Outcome
-    requires knows { KnowsToken (P.view port.old) set.now (live.at.seq + 1) live }
-    ensures step { OverRow (Ends set.now (all_sent (transmission_of live)) Keeps Sent) (P.floors port.old) (P.view port.old) (P.view port.new) tick.0 (live.at.seq + 1) result }
-    ensures port { KeepsPort set.now (live.at.seq + 1) result.live (P.view port.old) (P.view port.new) (P.means port.old) (P.means port.new) }
-    ensures rise { Rise (P.floors port.old) (P.floors port.new) }
+    requires knows { KnowsToken (P.state port.old).view set.now (live.at.seq + 1) live }
+    ensures step { RowOver (Ends set.now (all_sent (transmission_of live)) Keeps Sent) (P.state port.old) (P.state port.new) tick.0 (live.at.seq + 1) result }
+    ensures port { KeepsPort set.now (live.at.seq + 1) result.live (P.state port.old).view (P.state port.new).view (P.state port.old).means (P.state port.new).means }
+    ensures home { IsSamePort (P.state port.old) (P.state port.new) }
 {
     let ended = DestRecord {
         path: set.path,
@@ -99,10 +99,10 @@ pub fn answer<P: Port>(
     port: &mut P,
 ) -> Outcome
     requires period { 0 < set.now.period }
-    requires knows { KnowsToken (P.view port.old) set.now (live.at.seq + 1) live }
-    ensures step { OverRow (InAnswer set.now (transmission_of live) live.phase control.fs control.bs control.st) (P.floors port.old) (P.view port.old) (P.view port.new) tick.0 (live.at.seq + 1) result }
-    ensures port { KeepsPort set.now (live.at.seq + 1) result.live (P.view port.old) (P.view port.new) (P.means port.old) (P.means port.new) }
-    ensures rise { Rise (P.floors port.old) (P.floors port.new) }
+    requires knows { KnowsToken (P.state port.old).view set.now (live.at.seq + 1) live }
+    ensures step { RowOver (InAnswer set.now (transmission_of live) live.phase control.fs control.bs control.st) (P.state port.old) (P.state port.new) tick.0 (live.at.seq + 1) result }
+    ensures port { KeepsPort set.now (live.at.seq + 1) result.live (P.state port.old).view (P.state port.new).view (P.state port.old).means (P.state port.new).means }
+    ensures home { IsSamePort (P.state port.old) (P.state port.new) }
 {
     match live.phase {
         Phase::Fc => obey(set, live, control, tick, port),
@@ -121,10 +121,10 @@ fn obey<P: Port>(
     port: &mut P,
 ) -> Outcome
     requires period { 0 < set.now.period }
-    requires knows { KnowsToken (P.view port.old) set.now (live.at.seq + 1) live }
-    ensures step { OverRow (Answered set.now (transmission_of live) control.fs control.bs control.st) (P.floors port.old) (P.view port.old) (P.view port.new) tick.0 (live.at.seq + 1) result }
-    ensures port { KeepsPort set.now (live.at.seq + 1) result.live (P.view port.old) (P.view port.new) (P.means port.old) (P.means port.new) }
-    ensures rise { Rise (P.floors port.old) (P.floors port.new) }
+    requires knows { KnowsToken (P.state port.old).view set.now (live.at.seq + 1) live }
+    ensures step { RowOver (Answered set.now (transmission_of live) control.fs control.bs control.st) (P.state port.old) (P.state port.new) tick.0 (live.at.seq + 1) result }
+    ensures port { KeepsPort set.now (live.at.seq + 1) result.live (P.state port.old).view (P.state port.new).view (P.state port.old).means (P.state port.new).means }
+    ensures home { IsSamePort (P.state port.old) (P.state port.new) }
 {
     match control.fs {
         CONTINUE => {
@@ -153,10 +153,10 @@ fn obey<P: Port>(
 
 /// The run ends.
 pub fn run_out<P: Port>(set: &TxSet, live: Transmission, tick: Tick, port: &mut P) -> Outcome
-    requires knows { KnowsToken (P.view port.old) set.now (live.at.seq + 1) live }
-    ensures step { OverRow (Ends set.now (transmission_of live) (revoked live.phase) (EndOfRun (wait_of live.phase) live.since)) (P.floors port.old) (P.view port.old) (P.view port.new) tick.0 (live.at.seq + 1) result }
-    ensures port { KeepsPort set.now (live.at.seq + 1) result.live (P.view port.old) (P.view port.new) (P.means port.old) (P.means port.new) }
-    ensures rise { Rise (P.floors port.old) (P.floors port.new) }
+    requires knows { KnowsToken (P.state port.old).view set.now (live.at.seq + 1) live }
+    ensures step { RowOver (Ends set.now (transmission_of live) (revoked live.phase) (EndOfRun (wait_of live.phase) live.since)) (P.state port.old) (P.state port.new) tick.0 (live.at.seq + 1) result }
+    ensures port { KeepsPort set.now (live.at.seq + 1) result.live (P.state port.old).view (P.state port.new).view (P.state port.old).means (P.state port.new).means }
+    ensures home { IsSamePort (P.state port.old) (P.state port.new) }
 {
     let boxed = revoke(live.phase);
     let cause = DestResult::RunEnd {
@@ -176,13 +176,13 @@ pub fn step_live<P: Port>(
 ) -> Outcome
     requires shape { IsShape set.now.shape }
     requires period { 0 < set.now.period }
-    requires knows { KnowsToken (P.view port.old) set.now (live.at.seq + 1) live }
+    requires knows { KnowsToken (P.state port.old).view set.now (live.at.seq + 1) live }
     requires since { live.since.0 ≤ tick.0 }
     requires tick { tick.0 ≤ 10000000 }
     requires left { event ≡ Left → in_box live.phase }
-    ensures step { OverRow (LiveRow set.now (transmission_of live) event) (P.floors port.old) (P.view port.old) (P.view port.new) tick.0 (live.at.seq + 1) result }
-    ensures port { KeepsPort set.now (live.at.seq + 1) result.live (P.view port.old) (P.view port.new) (P.means port.old) (P.means port.new) }
-    ensures rise { Rise (P.floors port.old) (P.floors port.new) }
+    ensures step { RowOver (LiveRow set.now (transmission_of live) event) (P.state port.old) (P.state port.new) tick.0 (live.at.seq + 1) result }
+    ensures port { KeepsPort set.now (live.at.seq + 1) result.live (P.state port.old).view (P.state port.new).view (P.state port.old).means (P.state port.new).means }
+    ensures home { IsSamePort (P.state port.old) (P.state port.new) }
 {
     match event {
         TxEvent::Turn => take_turn(set, live, tick, port),

@@ -25,9 +25,9 @@ pub struct Sender {
 
 impl Sender {
     ghost use Rattle.std.specs.Prelude.{◌≡◌, ◌+◌, ◌<◌, ◌≤◌, ℕ, is_some, length, None, Some};
-    ghost use Rattle.tp_sender.specs.Port.{ActsFor, Knows, KnowsLive, KnowsToken, OthersStay, StepOver};
+    ghost use Rattle.tp_sender.specs.Port.{ActsFor, Knows, KnowsLive, KnowsToken, OthersStay, StepOverPort};
     ghost use Rattle.hub_core.specs.Calls.{SameMeans};
-    ghost use Rattle.hub_core.specs.Floors.{Rise};
+    ghost use Rattle.hub_core.specs.Stays.{IsSamePort};
     ghost use Rattle.hub_core.specs.View.{View};
     ghost use Rattle.tp_unit.specs.Unit.{box_meaning_of};
     ghost use Rattle.tp_sender.specs.declared.event.TxEvent.TheVariants.{Left};
@@ -59,20 +59,20 @@ impl Sender {
     ///
     /// Ticks never fall, and `Left` comes only where a frame of this sender lay in its box.
     pub fn step<P: Port>(&mut self, event: TxEvent, tick: Tick, port: &mut P) -> TxActs
-        requires knows { Knows (P.view port.old) self.old }
-        requires acts { ActsFor (P.means port.old) self.old }
+        requires knows { Knows (P.state port.old).view self.old }
+        requires acts { ActsFor (P.state port.old).means self.old }
         requires since { since_of (state_of self.old).live ≤ tick.0 }
         requires tick { tick.0 ≤ 10000000 }
         requires left { event ≡ Left → HasFrame (state_of self.old).live }
-        ensures step { StepOver (set_of self.old) (state_of self.old) (state_of self.new) event tick.0 (P.floors port.old) (P.view port.old) (P.view port.new) result }
-        ensures knows { Knows (P.view port.new) self.new }
-        ensures acts { ActsFor (P.means port.new) self.new }
+        ensures step { StepOverPort (set_of self.old) (state_of self.old) (state_of self.new) event tick.0 (P.state port.old) (P.state port.new) result }
+        ensures knows { Knows (P.state port.new).view self.new }
+        ensures acts { ActsFor (P.state port.new).means self.new }
         ensures since { since_of (state_of self.new).live ≤ tick.0 }
         ensures boxed { IsInBox (box_meaning_of result.boxed) (StillHasFrame event (state_of self.old).live) (state_of self.new).live }
         ensures set { set_of self.new ≡ set_of self.old }
-        ensures others { OthersStay (set_of self.old).path.0 (set_of self.old).dest.0 (P.view port.old) (P.view port.new) }
-        ensures means { SameMeans (P.means port.old) (P.means port.new) }
-        ensures rise { Rise (P.floors port.old) (P.floors port.new) }
+        ensures others { OthersStay (set_of self.old).path.0 (set_of self.old).dest.0 (P.state port.old).view (P.state port.new).view }
+        ensures means { SameMeans (P.state port.old).means (P.state port.new).means }
+        ensures home { IsSamePort (P.state port.old) (P.state port.new) }
     {
         let Some(live) = self.live.take() else {
             return self.step_idle(event, tick, port);
@@ -86,23 +86,23 @@ impl Sender {
 impl Sender {
     ghost use Rattle.std.specs.Prelude.{◌≡◌, ◌+◌, ◌≤◌, None};
     ghost use Rattle.hub_core.specs.Calls.{SameMeans};
-    ghost use Rattle.hub_core.specs.Floors.{Rise};
+    ghost use Rattle.hub_core.specs.Stays.{IsSamePort};
     ghost use Rattle.tp_sender.specs.declared.event.TxEvent.TheVariants.{Left, Turn, RunEnd};
-    ghost use Rattle.tp_sender.specs.Port.{ActsFor, Knows, OthersStay, StepOver};
+    ghost use Rattle.tp_sender.specs.Port.{ActsFor, Knows, OthersStay, StepOverPort};
     ghost use Rattle.tp_sender.specs.State.{set_of, since_of, state_of};
 
     /// A step where nothing is sent.
     fn step_idle<P: Port>(&mut self, event: TxEvent, tick: Tick, port: &mut P) -> TxActs
-        requires knows { Knows (P.view port.old) self.old }
-        requires acts { ActsFor (P.means port.old) self.old }
+        requires knows { Knows (P.state port.old).view self.old }
+        requires acts { ActsFor (P.state port.old).means self.old }
         requires idle { self.old.live ≡ None }
         requires left { event ≡ Left → ⊥ }
-        ensures step { StepOver (set_of self.old) (state_of self.old) (state_of self.new) event tick.0 (P.floors port.old) (P.view port.old) (P.view port.new) result }
-        ensures knows { Knows (P.view port.new) self.new }
+        ensures step { StepOverPort (set_of self.old) (state_of self.old) (state_of self.new) event tick.0 (P.state port.old) (P.state port.new) result }
+        ensures knows { Knows (P.state port.new).view self.new }
         ensures set { set_of self.new ≡ set_of self.old }
-        ensures others { OthersStay (set_of self.old).path.0 (set_of self.old).dest.0 (P.view port.old) (P.view port.new) }
-        ensures means { SameMeans (P.means port.old) (P.means port.new) }
-        ensures rise { Rise (P.floors port.old) (P.floors port.new) }
+        ensures others { OthersStay (set_of self.old).path.0 (set_of self.old).dest.0 (P.state port.old).view (P.state port.new).view }
+        ensures means { SameMeans (P.state port.old).means (P.state port.new).means }
+        ensures home { IsSamePort (P.state port.old) (P.state port.new) }
     {
         match event {
             TxEvent::Turn => self.turn_idle(tick, port),
@@ -118,15 +118,15 @@ impl Sender {
 
     /// A turn where nothing is sent: the next session is joined, and takes its turn.
     fn turn_idle<P: Port>(&mut self, tick: Tick, port: &mut P) -> TxActs
-        requires knows { Knows (P.view port.old) self.old }
-        requires acts { ActsFor (P.means port.old) self.old }
+        requires knows { Knows (P.state port.old).view self.old }
+        requires acts { ActsFor (P.state port.old).means self.old }
         requires idle { self.old.live ≡ None }
-        ensures step { StepOver (set_of self.old) (state_of self.old) (state_of self.new) Turn tick.0 (P.floors port.old) (P.view port.old) (P.view port.new) result }
-        ensures knows { Knows (P.view port.new) self.new }
+        ensures step { StepOverPort (set_of self.old) (state_of self.old) (state_of self.new) Turn tick.0 (P.state port.old) (P.state port.new) result }
+        ensures knows { Knows (P.state port.new).view self.new }
         ensures set { set_of self.new ≡ set_of self.old }
-        ensures others { OthersStay (set_of self.old).path.0 (set_of self.old).dest.0 (P.view port.old) (P.view port.new) }
-        ensures means { SameMeans (P.means port.old) (P.means port.new) }
-        ensures rise { Rise (P.floors port.old) (P.floors port.new) }
+        ensures others { OthersStay (set_of self.old).path.0 (set_of self.old).dest.0 (P.state port.old).view (P.state port.new).view }
+        ensures means { SameMeans (P.state port.old).means (P.state port.new).means }
+        ensures home { IsSamePort (P.state port.old) (P.state port.new) }
     {
         let Some(live) = join(&self.set, self.next, tick, port) else {
             return nothing();
@@ -139,15 +139,15 @@ impl Sender {
 
     /// The run's end where nothing is sent: a session that stands is joined, and ends unsent.
     fn end_idle<P: Port>(&mut self, tick: Tick, port: &mut P) -> TxActs
-        requires knows { Knows (P.view port.old) self.old }
-        requires acts { ActsFor (P.means port.old) self.old }
+        requires knows { Knows (P.state port.old).view self.old }
+        requires acts { ActsFor (P.state port.old).means self.old }
         requires idle { self.old.live ≡ None }
-        ensures step { StepOver (set_of self.old) (state_of self.old) (state_of self.new) RunEnd tick.0 (P.floors port.old) (P.view port.old) (P.view port.new) result }
-        ensures knows { Knows (P.view port.new) self.new }
+        ensures step { StepOverPort (set_of self.old) (state_of self.old) (state_of self.new) RunEnd tick.0 (P.state port.old) (P.state port.new) result }
+        ensures knows { Knows (P.state port.new).view self.new }
         ensures set { set_of self.new ≡ set_of self.old }
-        ensures others { OthersStay (set_of self.old).path.0 (set_of self.old).dest.0 (P.view port.old) (P.view port.new) }
-        ensures means { SameMeans (P.means port.old) (P.means port.new) }
-        ensures rise { Rise (P.floors port.old) (P.floors port.new) }
+        ensures others { OthersStay (set_of self.old).path.0 (set_of self.old).dest.0 (P.state port.old).view (P.state port.new).view }
+        ensures means { SameMeans (P.state port.old).means (P.state port.new).means }
+        ensures home { IsSamePort (P.state port.old) (P.state port.new) }
     {
         let Some(live) = join(&self.set, self.next, tick, port) else {
             return nothing();

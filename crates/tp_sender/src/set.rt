@@ -1,4 +1,4 @@
-use gw_base::{DestNo, PathNo};
+use gw_base::{DestNo, GroupNo, PathNo};
 use tp_unit::Shape;
 
 /// How a sender is configured.
@@ -6,6 +6,8 @@ use tp_unit::Shape;
 pub struct TxSet {
     /// The path that it is a destination of.
     pub path: PathNo,
+    /// The group of buffers that the path's messages are stored in.
+    pub group: GroupNo,
     /// Its place among the path's destinations.
     pub dest: DestNo,
     /// How its units become frames.

@@ -1,7 +1,7 @@
 ghost use Rattle.std.specs.Prelude.{◌≡◌, ◌+◌, ◌<◌, ◌≤◌, ◌↔◌, IfSome, IsTrue, List, None, length};
 ghost use Rattle.hub_core.specs.View.{Event};
-ghost use Rattle.tp_sender.specs.Port.{KnowsToken, KeepsPort, OverRow, ReadsEnough, did_of};
-ghost use Rattle.hub_core.specs.Floors.{Rise};
+ghost use Rattle.tp_sender.specs.Port.{KnowsToken, KeepsPort, RowOver, ReadsEnough, did_of};
+ghost use Rattle.hub_core.specs.Stays.{IsSamePort};
 ghost use Rattle.hub_core.specs.Tokens.{Reads};
 ghost use Rattle.tp_unit.specs.Shape.{IsShape};
 ghost use Rattle.tp_sender.specs.Frame.{part_after};
@@ -22,11 +22,11 @@ use tp_unit::BoxAct;
 /// A turn of a session, by its phase.
 pub fn take_turn<P: Port>(set: &TxSet, live: Transmission, tick: Tick, port: &mut P) -> Outcome
     requires shape { IsShape set.now.shape }
-    requires knows { KnowsToken (P.view port.old) set.now (live.at.seq + 1) live }
+    requires knows { KnowsToken (P.state port.old).view set.now (live.at.seq + 1) live }
     requires since { live.since.0 ≤ tick.0 }
-    ensures step { OverRow (InTurn set.now (transmission_of live) live.phase) (P.floors port.old) (P.view port.old) (P.view port.new) tick.0 (live.at.seq + 1) result }
-    ensures port { KeepsPort set.now (live.at.seq + 1) result.live (P.view port.old) (P.view port.new) (P.means port.old) (P.means port.new) }
-    ensures rise { Rise (P.floors port.old) (P.floors port.new) }
+    ensures step { RowOver (InTurn set.now (transmission_of live) live.phase) (P.state port.old) (P.state port.new) tick.0 (live.at.seq + 1) result }
+    ensures port { KeepsPort set.now (live.at.seq + 1) result.live (P.state port.old).view (P.state port.new).view (P.state port.old).means (P.state port.new).means }
+    ensures home { IsSamePort (P.state port.old) (P.state port.new) }
 {
     match live.phase {
         Phase::Start => begin(set, live, tick, port),
@@ -40,10 +40,10 @@ pub fn take_turn<P: Port>(set: &TxSet, live: Transmission, tick: Tick, port: &mu
 /// A turn in phase Start: the first frame's bytes are collected once enough of the session is published.
 pub fn begin<P: Port>(set: &TxSet, mut live: Transmission, tick: Tick, port: &mut P) -> Outcome
     requires shape { IsShape set.now.shape }
-    requires knows { KnowsToken (P.view port.old) set.now (live.at.seq + 1) live }
-    ensures step { OverRow (InStart set.now (transmission_of live)) (P.floors port.old) (P.view port.old) (P.view port.new) tick.0 (live.at.seq + 1) result }
-    ensures port { KeepsPort set.now (live.at.seq + 1) result.live (P.view port.old) (P.view port.new) (P.means port.old) (P.means port.new) }
-    ensures rise { Rise (P.floors port.old) (P.floors port.new) }
+    requires knows { KnowsToken (P.state port.old).view set.now (live.at.seq + 1) live }
+    ensures step { RowOver (InStart set.now (transmission_of live)) (P.state port.old) (P.state port.new) tick.0 (live.at.seq + 1) result }
+    ensures port { KeepsPort set.now (live.at.seq + 1) result.live (P.state port.old).view (P.state port.new).view (P.state port.old).means (P.state port.new).means }
+    ensures home { IsSamePort (P.state port.old) (P.state port.new) }
 {
     let seen = port.seen(&mut live.at);
     if reaches(set, &live, seen) {
@@ -66,10 +66,10 @@ fn reaches(set: &TxSet, live: &Transmission, seen: Seen) -> bool
 /// Phase Bytes begins in this tick, with a turn.
 fn fill_from<P: Port>(set: &TxSet, mut live: Transmission, tick: Tick, port: &mut P) -> Outcome
     requires shape { IsShape set.now.shape }
-    requires knows { KnowsToken (P.view port.old) set.now (live.at.seq + 1) live }
-    ensures step { OverRow (InBytes set.now (in_phase Bytes tick.0 (transmission_of live))) (P.floors port.old) (P.view port.old) (P.view port.new) tick.0 (live.at.seq + 1) result }
-    ensures port { KeepsPort set.now (live.at.seq + 1) result.live (P.view port.old) (P.view port.new) (P.means port.old) (P.means port.new) }
-    ensures rise { Rise (P.floors port.old) (P.floors port.new) }
+    requires knows { KnowsToken (P.state port.old).view set.now (live.at.seq + 1) live }
+    ensures step { RowOver (InBytes set.now (in_phase Bytes tick.0 (transmission_of live))) (P.state port.old) (P.state port.new) tick.0 (live.at.seq + 1) result }
+    ensures port { KeepsPort set.now (live.at.seq + 1) result.live (P.state port.old).view (P.state port.new).view (P.state port.old).means (P.state port.new).means }
+    ensures home { IsSamePort (P.state port.old) (P.state port.new) }
 {
     live.phase = Phase::Bytes;
     live.since = tick;
@@ -79,11 +79,11 @@ fn fill_from<P: Port>(set: &TxSet, mut live: Transmission, tick: Tick, port: &mu
 /// A turn in phase Bytes: the next frame is offered once its bytes are there.
 fn fill<P: Port>(set: &TxSet, mut live: Transmission, tick: Tick, port: &mut P) -> Outcome
     requires shape { IsShape set.now.shape }
-    requires knows { KnowsToken (P.view port.old) set.now (live.at.seq + 1) live }
+    requires knows { KnowsToken (P.state port.old).view set.now (live.at.seq + 1) live }
     requires since { live.since.0 ≤ tick.0 }
-    ensures step { OverRow (InBytes set.now (transmission_of live)) (P.floors port.old) (P.view port.old) (P.view port.new) tick.0 (live.at.seq + 1) result }
-    ensures port { KeepsPort set.now (live.at.seq + 1) result.live (P.view port.old) (P.view port.new) (P.means port.old) (P.means port.new) }
-    ensures rise { Rise (P.floors port.old) (P.floors port.new) }
+    ensures step { RowOver (InBytes set.now (transmission_of live)) (P.state port.old) (P.state port.new) tick.0 (live.at.seq + 1) result }
+    ensures port { KeepsPort set.now (live.at.seq + 1) result.live (P.state port.old).view (P.state port.new).view (P.state port.old).means (P.state port.new).means }
+    ensures home { IsSamePort (P.state port.old) (P.state port.new) }
 {
     let part = next_part(&set.shape, live.at.len, live.sent);
     let seen = port.seen(&mut live.at);
@@ -96,10 +96,10 @@ fn fill<P: Port>(set: &TxSet, mut live: Transmission, tick: Tick, port: &mut P) 
 
 /// Reads cells while fewer bytes than `wanted` are carried, and cells are left of those that were seen.
 fn read_cells<P: Port>(live: &mut Transmission, wanted: usize, port: &mut P)
-    requires reads { Reads (P.view port.old) live.old.at }
+    requires reads { Reads (P.state port.old).view live.old.at }
     requires wanted { wanted ≤ 63 }
-    ensures cells { ReadsEnough wanted live.old live.new (P.view port.old) (P.view port.new) (P.means port.old) (P.means port.new) }
-    ensures rise { Rise (P.floors port.old) (P.floors port.new) }
+    ensures cells { ReadsEnough wanted live.old live.new (P.state port.old).view (P.state port.new).view (P.state port.old).means (P.state port.new).means }
+    ensures home { IsSamePort (P.state port.old) (P.state port.new) }
 {
     while live.carry.len() < wanted && live.at.at < live.at.seen {
         let cell = port.read(&mut live.at);
@@ -132,11 +132,11 @@ fn offer(set: &TxSet, mut live: Transmission, tick: Tick) -> Outcome
 
 /// The next frame's bytes aren't there: they never will be, or are late, or may still come.
 fn lack<P: Port>(set: &TxSet, live: Transmission, seen: Seen, tick: Tick, port: &mut P) -> Outcome
-    requires knows { KnowsToken (P.view port.old) set.now (live.at.seq + 1) live }
+    requires knows { KnowsToken (P.state port.old).view set.now (live.at.seq + 1) live }
     requires since { live.since.0 ≤ tick.0 }
-    ensures step { OverRow (Lacks set.now (transmission_of live) seen) (P.floors port.old) (P.view port.old) (P.view port.new) tick.0 (live.at.seq + 1) result }
-    ensures port { KeepsPort set.now (live.at.seq + 1) result.live (P.view port.old) (P.view port.new) (P.means port.old) (P.means port.new) }
-    ensures rise { Rise (P.floors port.old) (P.floors port.new) }
+    ensures step { RowOver (Lacks set.now (transmission_of live) seen) (P.state port.old) (P.state port.new) tick.0 (live.at.seq + 1) result }
+    ensures port { KeepsPort set.now (live.at.seq + 1) result.live (P.state port.old).view (P.state port.new).view (P.state port.old).means (P.state port.new).means }
+    ensures home { IsSamePort (P.state port.old) (P.state port.new) }
 {
     if !seen.writer {
         return end(set, live, BoxAct::Keep, DestResult::SourceEnded, tick, port);
@@ -157,11 +157,11 @@ fn wait<P: Port>(
     tick: Tick,
     port: &mut P,
 ) -> Outcome
-    requires knows { KnowsToken (P.view port.old) set.now (live.at.seq + 1) live }
+    requires knows { KnowsToken (P.state port.old).view set.now (live.at.seq + 1) live }
     requires since { live.since.0 ≤ tick.0 }
-    ensures step { OverRow (InWait set.now (transmission_of live) limit cause) (P.floors port.old) (P.view port.old) (P.view port.new) tick.0 (live.at.seq + 1) result }
-    ensures port { KeepsPort set.now (live.at.seq + 1) result.live (P.view port.old) (P.view port.new) (P.means port.old) (P.means port.new) }
-    ensures rise { Rise (P.floors port.old) (P.floors port.new) }
+    ensures step { RowOver (InWait set.now (transmission_of live) limit cause) (P.state port.old) (P.state port.new) tick.0 (live.at.seq + 1) result }
+    ensures port { KeepsPort set.now (live.at.seq + 1) result.live (P.state port.old).view (P.state port.new).view (P.state port.old).means (P.state port.new).means }
+    ensures home { IsSamePort (P.state port.old) (P.state port.new) }
 {
     if is_due(live.since, limit, tick) {
         let boxed = revoke(live.phase);
@@ -173,10 +173,10 @@ fn wait<P: Port>(
 /// A turn in phase Gap: from the tick `until` on the next frame's bytes are collected.
 fn pause<P: Port>(set: &TxSet, live: Transmission, until: Tick, tick: Tick, port: &mut P) -> Outcome
     requires shape { IsShape set.now.shape }
-    requires knows { KnowsToken (P.view port.old) set.now (live.at.seq + 1) live }
-    ensures step { OverRow (InGap set.now (transmission_of live) until.0) (P.floors port.old) (P.view port.old) (P.view port.new) tick.0 (live.at.seq + 1) result }
-    ensures port { KeepsPort set.now (live.at.seq + 1) result.live (P.view port.old) (P.view port.new) (P.means port.old) (P.means port.new) }
-    ensures rise { Rise (P.floors port.old) (P.floors port.new) }
+    requires knows { KnowsToken (P.state port.old).view set.now (live.at.seq + 1) live }
+    ensures step { RowOver (InGap set.now (transmission_of live) until.0) (P.state port.old) (P.state port.new) tick.0 (live.at.seq + 1) result }
+    ensures port { KeepsPort set.now (live.at.seq + 1) result.live (P.state port.old).view (P.state port.new).view (P.state port.old).means (P.state port.new).means }
+    ensures home { IsSamePort (P.state port.old) (P.state port.new) }
 {
     if tick.0 < until.0 {
         return go_on(live, BoxAct::Keep);

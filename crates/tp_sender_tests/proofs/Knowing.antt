@@ -22,8 +22,8 @@ live-kept v w set next (Some live) same knows = record {
 pub knows_kept : (v w : View) (s : Sender) → w.readings ≡ v.readings → Knows v s → Knows w s
 knows_kept v w s same knows = record { next = rw same knows.next; live = live-kept v w s.set s.next s.live same knows.live }
 
-pub acts_kept : (m n : Means) (s : Sender) → n.reads ≡ m.reads → ActsFor m s → ActsFor n s
-acts_kept m n s same acts = rw same acts
+pub acts_kept : (m n : Means) (s : Sender) → n.reads ≡ m.reads → n.groups ≡ m.groups → ActsFor m s → ActsFor n s
+acts_kept m n s reads groups acts = record { reads = rw reads acts.reads; group = rw groups acts.group }
 
 pub still_writes : (path dest : ℕ) (v w : View) (t : Opened) → OthersStay path dest v w → Writes v t → Writes w t
 still_writes path dest v w t others writes = writes_kept v w t (ap (λ (s : ℕ → _). s t.path.0) others.sessions) writes

@@ -7,7 +7,7 @@ ghost use Rattle.tp_sender.specs.declared.event.TxEvent.TheVariants.{Left as Fra
 
 use crate::tests::{full_after, still_full};
 use can_frame::CanId;
-use gw_base::{DestNo, PathNo, Tick};
+use gw_base::{DestNo, GroupNo, PathNo, Tick};
 use hub_core::{DestRecord, DestResult, Opened, PlainHub, Port, Take};
 use std::test::Fail;
 use tp_sender::*;
@@ -20,6 +20,7 @@ const CELL: u64 = 0x0C0B_0A09_0807_0607;
 const LAST: u64 = 1400;
 
 const SET: TxSet = TxSet {
+    group: GroupNo(0),
     path: PathNo(0),
     dest: DestNo(0),
     shape: Shape {
@@ -62,12 +63,13 @@ struct Row<'a> {
 /// Puts and publishes the session's next cell, where one is left.
 #[tactic(auto, using(hub_core::proofs::Growing::writes_kept, hub_core::proofs::Growing::reads_kept))]
 fn put_cell<P: Port>(port: &mut P, writer: &mut Opened)
-    requires writes { Writes (P.view port.old) writer.old }
-    requires spare { 0 < (P.means port.old).spare }
-    ensures writes { Writes (P.view port.new) writer.new }
-    ensures readings { (P.view port.new).readings ≡ (P.view port.old).readings }
-    ensures reads { (P.means port.new).reads ≡ (P.means port.old).reads }
-    ensures spare { (P.means port.old).spare ≤ (P.means port.new).spare + 1 }
+    requires writes { Writes (P.state port.old).view writer.old }
+    requires spare { 0 < (P.state port.old).means.spare }
+    ensures writes { Writes (P.state port.new).view writer.new }
+    ensures readings { (P.state port.new).view.readings ≡ (P.state port.old).view.readings }
+    ensures reads { (P.state port.new).means.reads ≡ (P.state port.old).means.reads }
+    ensures groups { (P.state port.new).means.groups ≡ (P.state port.old).means.groups }
+    ensures spare { (P.state port.old).means.spare ≤ (P.state port.new).means.spare + 1 }
 {
     if writer.room == 0 || writer.told != writer.given || writer.len - writer.given < 7 {
         return;
@@ -124,12 +126,13 @@ fn is_next(boxed: &BoxAct, left: usize) -> bool {
 
 /// Puts the session's next cell where one comes, and tells how many are still to come.
 fn feed<P: Port>(port: &mut P, writer: &mut Opened, wanted: u32, comes: bool) -> u32
-    requires writes { Writes (P.view port.old) writer.old }
-    requires spare { wanted ≤ (P.means port.old).spare }
-    ensures writes { Writes (P.view port.new) writer.new }
-    ensures readings { (P.view port.new).readings ≡ (P.view port.old).readings }
-    ensures reads { (P.means port.new).reads ≡ (P.means port.old).reads }
-    ensures spare { result ≤ (P.means port.new).spare }
+    requires writes { Writes (P.state port.old).view writer.old }
+    requires spare { wanted ≤ (P.state port.old).means.spare }
+    ensures writes { Writes (P.state port.new).view writer.new }
+    ensures readings { (P.state port.new).view.readings ≡ (P.state port.old).view.readings }
+    ensures reads { (P.state port.new).means.reads ≡ (P.state port.old).means.reads }
+    ensures groups { (P.state port.new).means.groups ≡ (P.state port.old).means.groups }
+    ensures spare { result ≤ (P.state port.new).means.spare }
 {
     if !comes || wanted == 0 {
         return wanted;
@@ -146,11 +149,11 @@ fn send<P: Port>(
     writer: &mut Opened,
     row: &Row,
 ) -> Option<(usize, DestRecord)>
-    requires knows { Knows (P.view port.old) sender.old }
-    requires acts { ActsFor (P.means port.old) sender.old }
+    requires knows { Knows (P.state port.old).view sender.old }
+    requires acts { ActsFor (P.state port.old).means sender.old }
     requires idle { (state_of sender.old).live ≡ None }
-    requires writes { Writes (P.view port.old) writer.old }
-    requires spare { row.now.cells ≤ (P.means port.old).spare }
+    requires writes { Writes (P.state port.old).view writer.old }
+    requires spare { row.now.cells ≤ (P.state port.old).means.spare }
 {
     let mut full = false;
     let mut left = 0;
@@ -189,18 +192,19 @@ fn send<P: Port>(
 
 /// How many frames of a session leave in their ticks, the tick of its end, and its result.
 fn told<P: Port>(port: &mut P, row: &Row) -> Option<(usize, Tick, DestResult)>
-    requires takes { 0 < (P.means port.old).takes }
-    requires spare { 20 ≤ (P.means port.old).spare }
-    requires writes { (P.means port.old).writes 0 ≡ true }
-    requires reads { (P.means port.old).reads 0 0 ≡ true }
-    requires most { 1 ≤ (P.means port.old).most }
-    requires sessions { length ((P.view port.old).sessions 0) ≡ 0 }
-    requires readings { length ((P.view port.old).readings 0 0) ≡ 0 }
+    requires group { 0 < length (P.state port.old).means.groups }
+    requires takes { 0 < (P.state port.old).means.takes }
+    requires spare { 20 ≤ (P.state port.old).means.spare }
+    requires writes { (P.state port.old).means.writes 0 ≡ true }
+    requires reads { (P.state port.old).means.reads 0 0 ≡ true }
+    requires most { 1 ≤ (P.state port.old).means.most }
+    requires sessions { length ((P.state port.old).view.sessions 0) ≡ 0 }
+    requires readings { length ((P.state port.old).view.readings 0 0) ≡ 0 }
 {
     if row.cells == 0 || row.cells > 20 || row.period == 0 {
         return None;
     }
-    let Take::Granted { change: _, held } = port.take(20) else {
+    let Take::Granted { change: _, held } = port.take(GroupNo(0), 20) else {
         return None;
     };
     let mut writer = port.enter(held, PathNo(0), 0, row.cells * 7, 1);

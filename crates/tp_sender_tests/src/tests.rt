@@ -7,7 +7,7 @@ ghost use Rattle.tp_sender.specs.declared.event.TxEvent.{TxEvent as Came};
 ghost use Rattle.tp_sender.specs.declared.event.TxEvent.TheVariants.{Left as FrameLeft};
 
 use can_frame::CanId;
-use gw_base::{DestNo, PathNo, Tick};
+use gw_base::{DestNo, GroupNo, PathNo, Tick};
 use hub_core::{DestRecord, DestResult, End, PlainHub, Port, Take, TxWait};
 use std::test::Fail;
 use tp_sender::*;
@@ -31,6 +31,7 @@ const CONTINUE: TxEvent = TxEvent::Fc {
 
 const SET: TxSet = TxSet {
     path: PathNo(0),
+    group: GroupNo(0),
     dest: DestNo(0),
     shape: Shape {
         id: CanId::Std(0x710),
@@ -63,15 +64,16 @@ enum Source {
 /// Writes a session on path 0 and leaves it.
 #[tactic(auto, using(hub_core::proofs::Growing::writes_kept, hub_core::proofs::Growing::reads_kept))]
 fn write<P: Port>(port: &mut P, source: Source) -> bool
-    requires takes { 0 < (P.means port.old).takes }
-    requires spare { 2 < (P.means port.old).spare }
-    requires writes { (P.means port.old).writes 0 ≡ true }
-    requires most { 1 ≤ (P.means port.old).most }
-    requires sessions { length ((P.view port.old).sessions 0) ≡ 0 }
-    ensures readings { (P.view port.new).readings ≡ (P.view port.old).readings }
-    ensures reads { (P.means port.new).reads ≡ (P.means port.old).reads }
+    requires group { 0 < length (P.state port.old).means.groups }
+    requires takes { 0 < (P.state port.old).means.takes }
+    requires spare { 2 < (P.state port.old).means.spare }
+    requires writes { (P.state port.old).means.writes 0 ≡ true }
+    requires most { 1 ≤ (P.state port.old).means.most }
+    requires sessions { length ((P.state port.old).view.sessions 0) ≡ 0 }
+    ensures readings { (P.state port.new).view.readings ≡ (P.state port.old).view.readings }
+    ensures reads { (P.state port.new).means.reads ≡ (P.state port.old).means.reads }
 {
-    let Take::Granted { change: _, held } = port.take(1) else {
+    let Take::Granted { change: _, held } = port.take(GroupNo(0), 1) else {
         return false;
     };
     match source {
@@ -148,8 +150,8 @@ pub fn full_after(boxed: &BoxAct, still: bool) -> bool
 
 /// Plays events to a sender, and answers the record of the first session that it ends.
 fn play<P: Port>(port: &mut P, sender: &mut Sender, events: &[(TxEvent, u64)]) -> Option<DestRecord>
-    requires knows { Knows (P.view port.old) sender.old }
-    requires acts { ActsFor (P.means port.old) sender.old }
+    requires knows { Knows (P.state port.old).view sender.old }
+    requires acts { ActsFor (P.state port.old).means sender.old }
     requires idle { (state_of sender.old).live ≡ None }
 {
     let mut full = false;
@@ -171,13 +173,14 @@ fn play<P: Port>(port: &mut P, sender: &mut Sender, events: &[(TxEvent, u64)]) -
 
 /// The record of a session that is written and then sent as the events come.
 fn outcome<P: Port>(port: &mut P, source: Source, events: &[(TxEvent, u64)]) -> Option<DestRecord>
-    requires takes { 0 < (P.means port.old).takes }
-    requires spare { 2 < (P.means port.old).spare }
-    requires writes { (P.means port.old).writes 0 ≡ true }
-    requires reads { (P.means port.old).reads 0 0 ≡ true }
-    requires most { 1 ≤ (P.means port.old).most }
-    requires sessions { length ((P.view port.old).sessions 0) ≡ 0 }
-    requires readings { length ((P.view port.old).readings 0 0) ≡ 0 }
+    requires group { 0 < length (P.state port.old).means.groups }
+    requires takes { 0 < (P.state port.old).means.takes }
+    requires spare { 2 < (P.state port.old).means.spare }
+    requires writes { (P.state port.old).means.writes 0 ≡ true }
+    requires reads { (P.state port.old).means.reads 0 0 ≡ true }
+    requires most { 1 ≤ (P.state port.old).means.most }
+    requires sessions { length ((P.state port.old).view.sessions 0) ≡ 0 }
+    requires readings { length ((P.state port.old).view.readings 0 0) ≡ 0 }
 {
     if !write(port, source) {
         return None;

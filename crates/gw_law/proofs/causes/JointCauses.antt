@@ -1,54 +1,50 @@
--- The causes of records that need both parties and the hub's law.
-use Rattle.std.proofs.Common.{◌≡◌, ◌≢◌, ℕ, ◌+◌, ◌*◌, ◌<◌, ◌≤◌, Bool, true, false, Option, Some, None, List, [], ◌∷◌, ◌++◌, length, take, zero, suc, refl, ap, sym, ◌∙◌, subst, arith, take_all}
-use Rattle.tp_receiver.specs.Table.{RxStep, cells_of}
-use Rattle.tp_receiver.specs.State.{RxTurn, rx_new}
-use Rattle.tp_receiver.specs.Runs.{HasReceived}
-use Rattle.hub_core.specs.Turns.{calls_by, state_after, records_by}
+-- The causes of records that need both parties, of a receiver and a sender of its path.
+use Rattle.std.proofs.Common.{◌≡◌, ◌≢◌, ℕ, ◌+◌, ◌*◌, ◌<◌, ◌≤◌, Bool, true, false, Option, Some, None, List, [], ◌∷◌, ◌++◌, length, take, get_or, zero, suc, refl, ap, sym, ◌∙◌, subst, arith, take_all}
 use Rattle.std.specs.Prelude.{not, is_some, slice_get}
 use Rattle.std.specs.List.{AllByRecursion}
 use Rattle.std.proofs.lemmas.Bool.Decides.{nat_tests}
 use Rattle.std.proofs.lemmas.List.Sums.{sum_by-take-le}
 use Rattle.std.proofs.lemmas.Option.{slice_get-get_or, slice_get_within}
 use Rattle.gw_base.specs.Cell.{count_of, counted}
+use Rattle.gw_base.proofs.Lists.{all-at, same-some, zip-back}
+use Rattle.hub_core.proofs.Changed.{Has, InFirst, InNext, Joined, all-by, joined}
 use Rattle.hub_core.specs.Joint.{IsStream, IsWritten}
-use Rattle.hub_core.specs.View.{Reading, Session, empty_view, grows, reading_new}
+use Rattle.hub_core.specs.Turns.{calls_by, records_by, state_after, turns_of}
+use Rattle.hub_core.specs.View.{Reading, Session, View, empty_view, grows, reading_new}
 use Rattle.hub_core.specs.declared.record.DestRecord.{DestRecord}
 use Rattle.hub_core.specs.declared.record.DestResult.{DestResult}
 use Rattle.hub_core.specs.declared.record.DestResult.TheVariants.{Sent, SourceEnded, BsTimeout, FcOverflow, InvalidFs, CsTimeout, AsTimeout, Cancelled, RunEnd}
 use Rattle.hub_core.specs.declared.record.OpenedAt.{OpenedAt}
 use Rattle.hub_core.specs.declared.record.SessionRecord.{SessionRecord}
-use Rattle.hub_core.specs.declared.record.SessionResult.TheVariants.{Whole, NoReaders}
+use Rattle.hub_core.specs.declared.record.SessionResult.TheVariants.{Whole as IsWhole, NoReaders}
+use Rattle.receiver_law.proofs.records.JointReceivers.{known-sessions}
+use Rattle.receiver_law.proofs.records.JointSessions.{IsLeft, IsPut}
+use Rattle.receiver_law.specs.Parts.{EndsReceiving}
+use Rattle.receiver_law.specs.Source.{SourceLaw, Tells, is_overflow}
+use Rattle.sender_law.proofs.records.JointReadings.{IsParted, IsScant, IsWant, ShowsBy, WantsNext, WantsStart}
+use Rattle.sender_law.proofs.records.JointSenders.{has_ended, known-readings}
+use Rattle.sender_law.specs.Transfer.{NumberedFrom}
 use Rattle.tp_attempts.specs.Attempts.{attempts_in}
 use Rattle.tp_attempts.specs.Cuts.{Cut}
 use Rattle.tp_attempts.specs.Seen.{Seen}
+use Rattle.tp_receiver.specs.Runs.{HasReceived}
+use Rattle.tp_receiver.specs.State.{RxTurn, rx_new}
+use Rattle.tp_receiver.specs.Table.{RxStep, cells_of}
 use Rattle.tp_receiver.specs.declared.set.RxSet.{RxSet}
 use Rattle.tp_sender.specs.Frame.{part_after}
+use Rattle.tp_sender.specs.State.{TxTurn, tx_new}
 use Rattle.tp_sender.specs.declared.set.TxSet.{TxSet}
+use Rattle.tp_unit.proofs.Sizes.{length-address, size_of}
 use Rattle.tp_unit.specs.Shape.{IsShape}
 use Rattle.tp_unit.specs.declared.shape.Shape.{Shape}
-use Rattle.tp_unit.proofs.Sizes.{length-address, size_of}
-use Rattle.gw_law.specs.Delivery.{IsNamed, Names}
-use Rattle.gw_law.specs.JointCauses.{AreShort, AreUnread, HasLostSource, HasSeenFew, IsOwnEnd, IsShortBy, IsUnread, JointCauses, Lacks, LacksNext, LacksStart}
-use Rattle.receiver_law.specs.Parts.{EndsReceiving}
-use Rattle.gw_law.specs.Run.{Route, Work, moments_of, turns_of, view_of}
-use Rattle.receiver_law.specs.Source.{SourceLaw, Tells, is_overflow}
+use Rattle.gw_law.specs.Account.{Route}
+use Rattle.gw_law.specs.Delivery.{DeliveryLaw, IsNamed, Names}
+use Rattle.gw_law.specs.JointCauses.{AreShort, AreUnread, HasLostSource, HasSeenFew, IsOwnEnd, IsShortBy, IsUnread, Lacks, LacksNext, LacksStart}
 use Rattle.gw_law.specs.Timely.{delivery_of_route}
-use Rattle.sender_law.specs.Transfer.{NumberedFrom}
-use Rattle.gw_law.proofs.runs.Fronts.{as-far-up-to, run-rising, run-timed, work-moments-in}
-use Rattle.gw_law.proofs.causes.JointEnds.{IsOpenedBy, IsOther, LeftBefore, left-before, source-ended}
-use Rattle.hub_core.proofs.Changed.{Has, InFirst, InNext, Joined, all-by, joined}
-use Rattle.sender_law.proofs.records.JointReadings.{IsParted, IsScant, IsWant, ShowsBy, WantsNext, WantsStart}
-use Rattle.receiver_law.proofs.records.JointReceivers.{known-sessions}
-use Rattle.sender_law.proofs.records.JointSenders.{has_ended, known-readings}
-use Rattle.receiver_law.proofs.records.JointSessions.{IsLeft, IsPut}
-use Rattle.gw_law.proofs.causes.JointTicks.{end-tells, moments-told}
-use Rattle.gw_law.proofs.causes.JointWaits.{none-waits}
-use Rattle.sender_law.specs.Runs.{HasLimits}
-use Rattle.gw_law.proofs.times.Timely.{timely}
-use Rattle.gw_law.proofs.runs.TxOfRun.{causes-of-run}
-use Rattle.gw_base.proofs.Lists.{all-at, slice_get-more, zip-back}
-use Rattle.gw_law.proofs.runs.Wholes.{AsFar, as-far, as-far-whole, as-far-within, route-delivers, route-source}
-use Rattle.gw_law.proofs.runs.WholeRun.{WholeRun, route, works_of}
+use Rattle.gw_law.proofs.causes.JointEnds.{HasLeftBy, IsOpenedBy, IsOther, left-by, source-ended}
+use Rattle.gw_law.proofs.causes.JointTicks.{end-tells}
+use Rattle.gw_law.proofs.runs.Meetings.{AsFar}
+use Rattle.gw_law.proofs.runs.Moments.{Whole, received, sent}
 
 -- a destination's reading of a session, once both ended
 record Meets (tx : TxSet) (session : SessionRecord) (sent : ℕ) (how : DestResult) (ended : Bool) : Type 0 where
@@ -77,20 +73,19 @@ streams-so tx session sent how ended readers s r written stream put shows =
       cells = λ left. omega (arith, put.told, put.full, put.shown, (stream.gone left).1);
     }
 
-meets : (rx : RxSet) (tx : TxSet) (sizes : List ℕ) (works : List Work) (p k : ℕ) (session : SessionRecord) (opened : OpenedAt) (told : DestRecord) → AsFar rx tx sizes works → slice_get (records_by (turns_of works)) p ≡ Some session → session.opened ≡ Some opened →
-    slice_get (records_by (moments_of works)) k ≡ Some told → told.seq ≡ opened.seq → Meets tx session told.sent told.result (has_ended (moments_of works))
-meets rx tx sizes works p k session opened told far is opened_is told_is seq =
-    let known = known-sessions rx (turns_of works) far.received in
-    let reads = known-readings tx (moments_of works) far.sent in
-    let left : IsLeft rx ((grows (calls_by (turns_of works)) empty_view).sessions rx.path.0) session opened = all-at _ (records_by (turns_of works)) p session known.told is opened opened_is in
-    let parted : IsParted tx (has_ended (moments_of works)) _ told = all-at (IsParted tx (has_ended (moments_of works)) _) (records_by (moments_of works)) k told reads.told told_is in
+meets : (rx : RxSet) (tx : TxSet) (turns : List RxTurn) (moments : List TxTurn) (v : View) (p k : ℕ) (session : SessionRecord) (opened : OpenedAt) (told : DestRecord) → AsFar rx tx turns moments v → slice_get (records_by turns) p ≡ Some session → session.opened ≡ Some opened →
+    slice_get (records_by moments) k ≡ Some told → told.seq ≡ opened.seq → Meets tx session told.sent told.result (has_ended moments)
+meets rx tx turns moments v p k session opened told far is opened_is told_is seq =
+    let known = known-sessions rx turns far.received in
+    let reads = known-readings tx moments far.sent in
+    let left : IsLeft rx ((grows (calls_by turns) empty_view).sessions rx.path.0) session opened = all-at _ (records_by turns) p session known.told is opened opened_is in
+    let parted : IsParted tx (has_ended moments) _ told = all-at (IsParted tx (has_ended moments) _) (records_by moments) k told reads.told told_is in
     let path : tx.path.0 ≡ rx.path.0 = ap (λ p. p.0) far.path in
-    let stream = far.joint.2.streams.joined tx.path.0 tx.dest.0 told.seq parted.reading (ap (λ l. slice_get l told.seq) far.readings ∙ parted.there) in
-    let here : slice_get ((view_of works).sessions rx.path.0) opened.seq ≡ Some left.session = ap (λ l. slice_get l opened.seq) far.sessions ∙ left.there in
-    let both : Some stream.0 ≡ Some left.session = sym stream.1 ∙ ap (λ n. slice_get ((view_of works).sessions tx.path.0) n) seq ∙ ap (λ p. slice_get ((view_of works).sessions p) opened.seq) path ∙ here in
-    let same : stream.0 ≡ left.session = cc in
+    let stream = far.met.streams.joined tx.path.0 tx.dest.0 told.seq parted.reading (ap (λ l. slice_get l told.seq) far.readings ∙ parted.there) in
+    let here : slice_get (v.sessions rx.path.0) opened.seq ≡ Some left.session = ap (λ l. slice_get l opened.seq) far.sessions ∙ left.there in
+    let same : stream.0 ≡ left.session = same-some stream.1 (ap (λ n. slice_get (v.sessions tx.path.0) n) seq ∙ ap (λ p. slice_get (v.sessions p) opened.seq) path ∙ here) in
     let P : Session → Type 0 = λ s. IsStream s parted.reading in
-    streams-so tx session told.sent told.result (has_ended (moments_of works)) rx left.session parted.reading (far.joint.2.streams.written rx.path.0 opened.seq left.session here) (subst P same stream.2) left.put parted.shows
+    streams-so tx session told.sent told.result (has_ended moments) rx left.session parted.reading (far.met.streams.written rx.path.0 opened.seq left.session here) (subst P same stream.2) left.put parted.shows
 
 -- a frame carries no more than remains
 part-most : (shape : Shape) (len sent : ℕ) → IsShape shape → sent ≤ len → sent + part_after shape len sent ≤ len
@@ -108,8 +103,8 @@ opens-so false was opened is same = refl
 record IsTold (functional : Bool) (seen : List Seen) (p : ℕ) (session : SessionRecord) : Type 0 where
   unit : Cut Seen
   unit_is : slice_get (attempts_in functional seen) p ≡ Some unit
-  whole : session.bytes ≡ session.len → session.result ≡ Whole
-  all : session.result ≡ Whole → session.bytes ≡ session.len
+  whole : session.bytes ≡ session.len → session.result ≡ IsWhole
+  all : session.result ≡ IsWhole → session.bytes ≡ session.len
 
 told-so : (chan address : ℕ) (functional : Bool) (seen : List Seen) (records : List SessionRecord) (p : ℕ) (session : SessionRecord) (opened : OpenedAt) → SourceLaw chan address functional seen records → slice_get records p ≡ Some session →
     session.opened ≡ Some opened → IsTold functional seen p session
@@ -130,40 +125,52 @@ lost-by r session sent ended m sound gone (WantsStart none_sent other few) =
     let less : session.bytes ≢ session.len = λ all. other (m.gone gone ∙ all ∙ sym m.len) in
     (LacksStart none_sent less (λ none. omega (arith, few none, cells-most session.bytes m.reading.seen (m.cells gone))), less)
 
-source-lost : (o : WholeRun) (k : ℕ) (told : DestRecord) →
-    slice_get (records_by (moments_of (works_of o))) k ≡ Some told → told.result ≡ SourceEnded → HasLostSource (route o) told
-source-lost o k told is how =
-    let works : List Work = works_of o in
-    let r : Route = route o in
-    let far : AsFar o.rx o.tx o.sizes works = as-far-whole o in
-    let has : Has (IsOpenedBy told) (records_by (turns_of works)) =
-    source-ended o.rx o.tx o.sizes works (λ later front same. as-far-up-to o later front same) (run-timed o) (run-rising o) k told is how in
+-- what the laws of both parties say of a route
+pub record Known (o : Whole) (r : Route) : Type 0 where
+  pub rx : r.source.rx ≡ o.pair.rx.set
+  pub tx : r.leg.tx ≡ o.pair.tx.set
+  pub window : r.window ≡ o.pair.most
+  pub sessions : r.source.sessions ≡ records_by (received o)
+  pub dests : r.leg.dests ≡ records_by (sent o)
+  pub source : SourceLaw r.source.rx.chan.0 r.source.rx.a r.source.rx.functional r.source.seen r.source.sessions
+  pub delivers : DeliveryLaw (delivery_of_route r)
+  pub served : length (o.view.sessions o.pair.rx.set.path.0) ≤ (state_after tx_new (sent o)).next
+
+-- the record of a place
+session-at : (o : Whole) (r : Route) (place : ℕ) (session : SessionRecord) → Known o r → slice_get (records_by (received o)) place ≡ Some session → slice_get r.source.sessions place ≡ Some session
+session-at o r place session known is = ap (λ l. slice_get l place) known.sessions ∙ is
+
+source-lost : (o : Whole) (r : Route) (k : ℕ) (told : DestRecord) → Known o r → slice_get (records_by (sent o)) k ≡ Some told → told.result ≡ SourceEnded → HasLostSource r told
+source-lost o r k told known is how =
+    let tx : TxSet = r.leg.tx in
+    let has : Has (IsOpenedBy o.pair.most told) (records_by (received o)) = source-ended o k told is how in
     let opened : OpenedAt = has.holds.0.0 in
-    let P : DestResult → Type 0 = λ h. Meets o.tx has.item told.sent h (has_ended (moments_of works)) in
-    let m : Meets o.tx has.item told.sent SourceEnded (has_ended (moments_of works)) = subst P how (meets o.rx o.tx o.sizes works has.place k has.item opened told far has.there has.holds.0.1 is (sym has.holds.0.2)) in
-    let source = route-source o in
-    let so : IsTold o.rx.functional r.source.seen has.place has.item = told-so o.rx.chan.0 o.rx.a o.rx.functional r.source.seen r.source.sessions has.place has.item opened source has.there has.holds.0.1 in
-    let lacks : Lacks r has.item told.sent × (has.item.bytes ≢ has.item.len) = lost-by r has.item told.sent (has_ended (moments_of works)) m o.run.shape m.shows.0 m.shows.1 in
+    let P : DestResult → Type 0 = λ h. Meets o.pair.tx.set has.item told.sent h (has_ended (sent o)) in
+    let Q : TxSet → Type 0 = λ t. Meets t has.item told.sent SourceEnded (has_ended (sent o)) in
+    let m : Meets r.leg.tx has.item told.sent SourceEnded (has_ended (sent o)) =
+    subst Q (sym known.tx) (subst P how (meets o.pair.rx.set o.pair.tx.set (received o) (sent o) o.view has.place k has.item opened told o.far has.there has.holds.0.1 is (sym has.holds.0.2))) in
+    let S : TxSet → Type 0 = λ t. IsShape t.shape in
+    let so : IsTold r.source.rx.functional r.source.seen has.place has.item =
+    told-so r.source.rx.chan.0 r.source.rx.a r.source.rx.functional r.source.seen r.source.sessions has.place has.item opened known.source (session-at o r has.place has.item known has.there) has.holds.0.1 in
+    let lacks : Lacks r has.item told.sent × (has.item.bytes ≢ has.item.len) = lost-by r has.item told.sent (has_ended (sent o)) m (subst S (sym known.tx) o.far.shape) m.shows.0 m.shows.1 in
     record {
       unit = so.unit;
       session = has.item;
-      named = record { place = has.place; unit_is = so.unit_is; session_is = has.there; opened = opened; opened_is = has.holds.0.1; seq_is = has.holds.0.2 };
+      named = record { place = has.place; unit_is = so.unit_is; session_is = session-at o r has.place has.item known has.there; opened = opened; opened_is = has.holds.0.1; seq_is = has.holds.0.2 };
       broken = λ whole. lacks.1 (so.all whole);
-      ended = has.holds.1;
+      ended = omega (arith, has.holds.1, known.window);
       lacks = lacks.0;
     }
 
-seen-few : (o : WholeRun) (k : ℕ) (told : DestRecord) (seen : ℕ) →
-    slice_get (records_by (moments_of (works_of o))) k ≡ Some told → told.result ≡ CsTimeout seen → HasSeenFew (route o) told seen
-seen-few o k told seen is how =
-    let works : List Work = works_of o in
-    let r : Route = route o in
-    let far : AsFar o.rx o.tx o.sizes works = as-far-whole o in
-    let names : Names (delivery_of_route r) told = all-at (Names (delivery_of_route r)) r.leg.dests k told (route-delivers o).names is in
+seen-few : (o : Whole) (r : Route) (k : ℕ) (told : DestRecord) (seen : ℕ) → Known o r → slice_get (records_by (sent o)) k ≡ Some told → told.result ≡ CsTimeout seen → HasSeenFew r told seen
+seen-few o r k told seen known is how =
+    let names : Names (delivery_of_route r) told = all-at (Names (delivery_of_route r)) r.leg.dests k told known.delivers.names (ap (λ l. slice_get l k) known.dests ∙ is) in
     let named : IsNamed (delivery_of_route r) told.seq names.unit names.session = names.named in
-    let P : DestResult → Type 0 = λ h. Meets o.tx names.session told.sent h (has_ended (moments_of works)) in
-    let m : Meets o.tx names.session told.sent (CsTimeout seen) (has_ended (moments_of works)) = subst P how (meets o.rx o.tx o.sizes works named.place k names.session named.opened told far named.session_is named.opened_is is (sym named.seq_is)) in
-    let scant : IsScant o.tx told.sent m.reading = m.shows.1 in
+    let P : DestResult → Type 0 = λ h. Meets o.pair.tx.set names.session told.sent h (has_ended (sent o)) in
+    let Q : TxSet → Type 0 = λ t. Meets t names.session told.sent (CsTimeout seen) (has_ended (sent o)) in
+    let m : Meets r.leg.tx names.session told.sent (CsTimeout seen) (has_ended (sent o)) =
+    subst Q (sym known.tx) (subst P how (meets o.pair.rx.set o.pair.tx.set (received o) (sent o) o.view named.place k names.session named.opened told o.far (ap (λ l. slice_get l named.place) (sym known.sessions) ∙ named.session_is) named.opened_is is (sym named.seq_is))) in
+    let scant : IsScant r.leg.tx told.sent m.reading = m.shows.1 in
     let all : counted m.reading.cells ≡ seen = sym (m.all scant.all) ∙ m.shows.0 in
     record {
       unit = names.unit;
@@ -171,26 +178,24 @@ seen-few o k told seen is how =
       named = named;
       least = omega (arith, scant.least, all);
       most = omega (arith, m.read, all);
-      few = subst (λ n. n < told.sent + part_after o.tx.shape names.session.len told.sent) all (subst (λ n. counted m.reading.cells < told.sent + part_after o.tx.shape n told.sent) m.len scant.few);
+      few = subst (λ n. n < told.sent + part_after r.leg.tx.shape names.session.len told.sent) all (subst (λ n. counted m.reading.cells < told.sent + part_after r.leg.tx.shape n told.sent) m.len scant.few);
     }
 
-short-by : (o : WholeRun) (k : ℕ) (told : DestRecord) (how : DestResult) →
-    slice_get (records_by (moments_of (works_of o))) k ≡ Some told → told.result ≡ how → IsShortBy (route o) told how
-short-by o k told Sent is how = tt
-short-by o k told SourceEnded is how = source-lost o k told is how
-short-by o k told BsTimeout is how = tt
-short-by o k told FcOverflow is how = tt
-short-by o k told (InvalidFs status) is how = tt
-short-by o k told (CsTimeout seen) is how = seen-few o k told seen is how
-short-by o k told AsTimeout is how = tt
-short-by o k told Cancelled is how = tt
-short-by o k told (RunEnd wait since) is how = tt
+short-by : (o : Whole) (r : Route) (k : ℕ) (told : DestRecord) (how : DestResult) → Known o r → slice_get (records_by (sent o)) k ≡ Some told → told.result ≡ how → IsShortBy r told how
+short-by o r k told Sent known is how = tt
+short-by o r k told SourceEnded known is how = source-lost o r k told known is how
+short-by o r k told BsTimeout known is how = tt
+short-by o r k told FcOverflow known is how = tt
+short-by o r k told (InvalidFs status) known is how = tt
+short-by o r k told (CsTimeout seen) known is how = seen-few o r k told seen known is how
+short-by o r k told AsTimeout known is how = tt
+short-by o r k told Cancelled known is how = tt
+short-by o r k told (RunEnd wait since) known is how = tt
 
 -- each record that tells that bytes were lacking
-pub route-short : (o : WholeRun) → AreShort (route o)
-route-short o =
-    all-by (λ (told : DestRecord). IsShortBy (route o) told told.result) (records_by (moments_of (works_of o)))
-    (λ k told is. short-by o k told told.result is refl)
+pub all-short : (o : Whole) (r : Route) → Known o r → AreShort r
+all-short o r known =
+    all-by (λ (told : DestRecord). IsShortBy r told told.result) r.leg.dests (λ k told is. short-by o r k told told.result known (ap (λ l. slice_get l k) (sym known.dests) ∙ is) refl)
 
 -- a record stands in the place of its session's number
 numbered-at : (first : ℕ) (records : List DestRecord) (p : ℕ) (told : DestRecord) → NumberedFrom first records → slice_get records p ≡ Some told → told.seq ≡ first + p
@@ -214,23 +219,6 @@ in-ticks : (turns : List RxTurn) (more : List SessionRecord) (k : ℕ) (session 
 in-ticks turns more k session how none (InFirst there) = there
 in-ticks turns more k session how none (InNext j there past) = absurd (all-at (λ (s : SessionRecord). s.result ≡ NoReaders → ⊥) more j session none there how)
 
--- a destination of a run is one of its path's
-has-dest : (o : WholeRun) → (k : ℕ) (session : SessionRecord) (opened : OpenedAt) →
-    slice_get (records_by (turns_of (works_of o))) k ≡ Some session → session.opened ≡ Some opened → o.tx.dest.0 < o.rx.readers
-has-dest o k session opened is opened_is =
-    let works : List Work = works_of o in
-    let far : AsFar o.rx o.tx o.sizes works = as-far-whole o in
-    let known = known-sessions o.rx (turns_of works) far.received in
-    let reads = known-readings o.tx (moments_of works) far.sent in
-    let left : IsLeft o.rx ((grows (calls_by (turns_of works)) empty_view).sessions o.rx.path.0) session opened = all-at _ (records_by (turns_of works)) k session known.told is opened opened_is in
-    let path : o.tx.path.0 ≡ o.rx.path.0 = ap (λ p. p.0) far.path in
-    let readings : List Reading = (grows (calls_by (moments_of works)) empty_view).readings o.tx.path.0 o.tx.dest.0 in
-    let inside : opened.seq < length readings =
-    omega (arith, slice_get_within ((grows (calls_by (turns_of works)) empty_view).sessions o.rx.path.0) opened.seq left.session left.there, o.run.ends.joined, ap length far.sessions, reads.number) in
-    let r = slice_get-get_or readings opened.seq (reading_new 0 0) inside in
-    let reading = ap (λ p. slice_get ((view_of works).readings p o.tx.dest.0) opened.seq) (sym path) ∙ ap (λ l. slice_get l opened.seq) far.readings ∙ r in
-    omega (arith, far.joint.2.owned.joined o.rx.path.0 o.tx.dest.0 opened.seq left.session _ (ap (λ l. slice_get l opened.seq) far.sessions ∙ left.there) reading, left.put.dests)
-
 -- no destination of a session without readers sent it whole
 own-end : (tx : TxSet) (session : SessionRecord) (sent : ℕ) (how : DestResult) (ended : Bool) → Meets tx session sent how ended → (session.bytes ≡ session.len → ⊥) → IsOther how → IsOwnEnd how
 own-end tx session sent Sent ended m other is = other (omega (arith, m.shows.0, m.shows.1, m.len, m.read, m.within))
@@ -243,56 +231,54 @@ own-end tx session sent AsTimeout ended m other is = tt
 own-end tx session sent Cancelled ended m other is = tt
 own-end tx session sent (RunEnd wait since) ended m other is = is
 
-unread-opened : (o : WholeRun) (k : ℕ) (session : SessionRecord) (opened : OpenedAt) →
-    slice_get (records_by (turns_of (works_of o))) k ≡ Some session → session.result ≡ NoReaders → session.opened ≡ Some opened → IsUnread (route o) session
-unread-opened o k session opened is how opened_is =
-    let works : List Work = works_of o in
-    let r : Route = route o in
-    let far : AsFar o.rx o.tx o.sizes works = as-far-whole o in
-    let ends : EndsSo (turns_of o.ticks) (records_by (turns_of works)) = end-so o.rx o.last o.end.turns (turns_of o.ticks) o.run.ends.receives far.received in
-    let there : slice_get (records_by (turns_of o.ticks)) k ≡ Some session = in-ticks (turns_of o.ticks) ends.more k session how ends.none (joined (records_by (turns_of o.ticks)) ends.more k session (ap (λ l. slice_get l k) (sym ends.is) ∙ is)) in
-    let has : Has (LeftBefore session opened) (records_by (moments_of o.ticks)) =
-    left-before o.rx o.tx o.sizes o.ticks (λ later front same. as-far o later front same) (λ later earlier work same. as-far-within o later earlier work same) o.run.ticks_are
-    (run-timed o).1 (run-rising o).1 (has-dest o k session opened is opened_is) k session opened there how opened_is in
-    let sent = moments-told (λ (t : ℕ). Unit {0}) o.tx o.end.moments (moments_of o.ticks) far.sent (work-moments-in (λ (t : ℕ). Unit {0}) o.end (run-timed o).0 tt) in
-    let told_is : slice_get (records_by (moments_of works)) has.place ≡ Some has.item = ap (λ l. slice_get l has.place) sent.is ∙ slice_get-more (records_by (moments_of o.ticks)) sent.more has.place has.item has.there in
-    let place : has.item.seq ≡ 0 + has.place = numbered-at 0 (records_by (moments_of works)) has.place has.item (route-delivers o).numbered told_is in
+-- a destination of a run is one of its path's
+has-dest : (o : Whole) (r : Route) (k : ℕ) (session : SessionRecord) (opened : OpenedAt) → Known o r → slice_get (records_by (received o)) k ≡ Some session → session.opened ≡ Some opened → o.pair.tx.set.dest.0 < o.pair.rx.set.readers
+has-dest o r k session opened known is opened_is =
+    let rx : RxSet = o.pair.rx.set in
+    let tx : TxSet = o.pair.tx.set in
+    let sessions = known-sessions rx (received o) o.far.received in
+    let reads = known-readings tx (sent o) o.far.sent in
+    let left : IsLeft rx ((grows (calls_by (received o)) empty_view).sessions rx.path.0) session opened = all-at _ (records_by (received o)) k session sessions.told is opened opened_is in
+    let path : tx.path.0 ≡ rx.path.0 = ap (λ p. p.0) o.far.path in
+    let readings : List Reading = (grows (calls_by (sent o)) empty_view).readings tx.path.0 tx.dest.0 in
+    let inside : opened.seq < length readings =
+    omega (arith, slice_get_within ((grows (calls_by (received o)) empty_view).sessions rx.path.0) opened.seq left.session left.there, known.served, ap length o.far.sessions, reads.number) in
+    let r : Reading = get_or readings opened.seq (reading_new 0 0) in
+    let there : slice_get readings opened.seq ≡ Some r = slice_get-get_or readings opened.seq (reading_new 0 0) inside in
+    let reading = ap (λ p. slice_get (o.view.readings p tx.dest.0) opened.seq) (sym path) ∙ ap (λ l. slice_get l opened.seq) o.far.readings ∙ there in
+    omega (arith, o.far.met.joined rx.path.0 tx.dest.0 opened.seq left.session r (ap (λ l. slice_get l opened.seq) o.far.sessions ∙ left.there) reading, left.put.dests)
+
+unread-opened : (o : Whole) (r : Route) (k : ℕ) (session : SessionRecord) (opened : OpenedAt) → Known o r → slice_get (records_by (received o)) k ≡ Some session → session.result ≡ NoReaders → session.opened ≡ Some opened → IsUnread r session
+unread-opened o r k session opened known is how opened_is =
+    let rx : RxSet = o.pair.rx.set in
+    let tx : TxSet = o.pair.tx.set in
+    let ends : EndsSo (turns_of o.pair.rx.parts) (records_by (received o)) = end-so rx o.pair.rx.last o.pair.rx.end (turns_of o.pair.rx.parts) o.pair.rx_run.ends o.far.received in
+    let there : slice_get (records_by (turns_of o.pair.rx.parts)) k ≡ Some session =
+    in-ticks (turns_of o.pair.rx.parts) ends.more k session how ends.none (joined (records_by (turns_of o.pair.rx.parts)) ends.more k session (ap (λ l. slice_get l k) (sym ends.is) ∙ is)) in
+    let has : Has (HasLeftBy o.pair.most session opened) (records_by (sent o)) = left-by o k session opened (has-dest o r k session opened known is opened_is) there how opened_is in
+    let told_is : slice_get r.leg.dests has.place ≡ Some has.item = ap (λ l. slice_get l has.place) known.dests ∙ has.there in
+    let place : has.item.seq ≡ 0 + has.place = numbered-at 0 r.leg.dests has.place has.item known.delivers.numbered told_is in
     let here : has.place ≡ opened.seq = omega (arith, place, has.holds.seq_is) in
-    let source = route-source o in
-    let so : IsTold o.rx.functional r.source.seen k session = told-so o.rx.chan.0 o.rx.a o.rx.functional r.source.seen r.source.sessions k session opened source is opened_is in
+    let so : IsTold r.source.rx.functional r.source.seen k session = told-so r.source.rx.chan.0 r.source.rx.a r.source.rx.functional r.source.seen r.source.sessions k session opened known.source (session-at o r k session known is) opened_is in
     record {
       opened = opened;
       opened_is = opened_is;
       told = has.item;
       told_is = ap (slice_get r.leg.dests) (sym here) ∙ told_is;
       seq_is = has.holds.seq_is;
-      before = has.holds.before;
-      cause = own-end o.tx session has.item.sent has.item.result (has_ended (moments_of works)) (meets o.rx o.tx o.sizes works k has.place session opened has.item far is opened_is told_is has.holds.seq_is)
-          (λ all. let no : NoReaders ≡ Whole = sym how ∙ so.whole all in cc) has.holds.other;
+      before = omega (arith, has.holds.before, known.window);
+      cause = own-end tx session has.item.sent has.item.result (has_ended (sent o)) (meets rx tx (received o) (sent o) o.view k has.place session opened has.item o.far is opened_is has.there has.holds.seq_is)
+          (λ all. let no : NoReaders ≡ IsWhole = sym how ∙ so.whole all in cc) has.holds.other;
     }
 
-unread-by : (o : WholeRun) (k : ℕ) (session : SessionRecord) (was : Option OpenedAt) →
-    slice_get (records_by (turns_of (works_of o))) k ≡ Some session → session.result ≡ NoReaders → session.opened ≡ was → is_some was ≡ true → IsUnread (route o) session
-unread-by o k session None is how opened_is some = cc
-unread-by o k session (Some opened) is how opened_is some = unread-opened o k session opened is how opened_is
+unread-by : (o : Whole) (r : Route) (k : ℕ) (session : SessionRecord) (was : Option OpenedAt) → Known o r → slice_get (records_by (received o)) k ≡ Some session → session.result ≡ NoReaders → session.opened ≡ was → is_some was ≡ true → IsUnread r session
+unread-by o r k session None known is how opened_is some = cc
+unread-by o r k session (Some opened) known is how opened_is some = unread-opened o r k session opened known is how opened_is
 
 -- each record that tells that no destination reads
-pub route-unread : (o : WholeRun) → AreUnread (route o)
-route-unread o =
-    let r : Route = route o in
-    let source = route-source o in
+pub all-unread : (o : Whole) (r : Route) → Known o r → AreUnread r
+all-unread o r known =
     all-by (λ (session : SessionRecord). session.result ≡ NoReaders → IsUnread r session) r.source.sessions
     (λ k session is how.
-    let at = zip-back (Tells o.rx.chan.0 o.rx.a) (attempts_in o.rx.functional r.source.seen) r.source.sessions k session source.tells is in
-    unread-by o k session session.opened is how refl (at.2.opens ∙ ap (λ h. not (is_overflow h)) how))
-
--- all of them
-pub joint_causes : (o : WholeRun) → HasLimits o.tx → JointCauses (route o)
-joint_causes o some =
-    let source = route-source o in
-    record {
-      unread = route-unread o;
-      short = route-short o;
-      in_time = none-waits (route o) o.run.shape source (causes-of-run o some)
-          (timely o) (route-delivers o);
-    }
+    let at = zip-back (Tells r.source.rx.chan.0 r.source.rx.a) (attempts_in r.source.rx.functional r.source.seen) r.source.sessions k session known.source.tells is in
+    unread-by o r k session session.opened known (ap (λ l. slice_get l k) (sym known.sessions) ∙ is) how refl (at.2.opens ∙ ap (λ h. not (is_overflow h)) how))

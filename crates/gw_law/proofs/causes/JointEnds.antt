@@ -1,39 +1,41 @@
--- Which of a session's and its destination's records comes first, tick by tick.
-use Rattle.std.proofs.Common.{◌≡◌, ℕ, ◌+◌, ◌<◌, ◌≤◌, zero, suc, Bool, true, false, Option, Some, None, option_map, List, [], ◌∷◌, ◌++◌, length, refl, ap, sym, ◌∙◌, subst, arith, append-nil}
-use Rattle.tp_sender.specs.State.{TxTurn}
-use Rattle.tp_sender.specs.Runs.{HasSent, box_after}
-use Rattle.tp_receiver.specs.State.{Reception, RxTurn, rx_new}
-use Rattle.tp_receiver.specs.Runs.{HasReceived, frames_in}
-use Rattle.hub_core.specs.Turns.{calls_by, now_of, came_by, state_after, records_by}
+-- Which record a session has that a destination saw gone, and which record a destination has that its writer saw gone.
+use Rattle.std.proofs.Common.{◌≡◌, ℕ, ◌+◌, ◌<◌, ◌≤◌, zero, suc, Bool, true, false, Option, Some, None, option_map, List, [], ◌∷◌, ◌++◌, length, refl, ap, sym, ◌∙◌, subst, arith, append-nil, append_assoc}
 use Rattle.std.specs.Prelude.{option_to_list, slice_get}
 use Rattle.std.specs.List.{AllByRecursion}
-use Rattle.std.proofs.lemmas.Option.{slice_get_within}
-use Rattle.hub_core.specs.View.{Reading, empty_view, grows}
+use Rattle.gw_base.proofs.Lists.{all-at, all-weaker, same-some}
+use Rattle.hub_core.proofs.Changed.{Has, InFirst, InNext, has-more, joined}
+use Rattle.hub_core.proofs.Turns.{happened-front, records-append}
+use Rattle.hub_core.specs.Turns.{calls_by, came_by, now_of, records_by, state_after, turns_of}
+use Rattle.hub_core.specs.View.{Reading, View, empty_view, grows}
 use Rattle.hub_core.specs.declared.record.DestRecord.{DestRecord}
 use Rattle.hub_core.specs.declared.record.DestResult.{DestResult}
 use Rattle.hub_core.specs.declared.record.DestResult.TheVariants.{Sent, SourceEnded, BsTimeout, FcOverflow, InvalidFs, CsTimeout, AsTimeout, Cancelled, RunEnd}
 use Rattle.hub_core.specs.declared.record.OpenedAt.{OpenedAt}
 use Rattle.hub_core.specs.declared.record.SessionRecord.{SessionRecord}
 use Rattle.hub_core.specs.declared.record.SessionResult.TheVariants.{NoReaders}
-use Rattle.tp_receiver.specs.declared.set.RxSet.{RxSet}
-use Rattle.tp_sender.specs.declared.event.TxEvent.{TxEvent}
-use Rattle.tp_sender.specs.declared.event.TxEvent.TheVariants.{Turn, Fc, Left, RunEnd as EndCame}
-use Rattle.tp_sender.specs.declared.set.TxSet.{TxSet}
-use Rattle.tp_unit.specs.Unit.{Meaning}
-use Rattle.sender_law.specs.Parts.{AnswersIn, FrameLeaves, IsAnswerIn, IsStepIn, SendsIn}
-use Rattle.gw_law.specs.Run.{AreTicks, Work, moments_of, tick_after, turns_of, view_between, view_of}
-use Rattle.receiver_law.specs.Source.{CountsFrom, sessions_in}
-use Rattle.gw_law.proofs.runs.Fronts.{AreRising, IsTimed, TurnIn, WorkIn, moments-in, rises-below, turns-in}
-use Rattle.hub_core.proofs.Changed.{Has, InFirst, InNext, Joined, has-more, joined}
-use Rattle.sender_law.proofs.records.JointReadings.{IsParted, ShowsBy}
 use Rattle.receiver_law.proofs.records.JointReceivers.{known-sessions}
-use Rattle.sender_law.proofs.records.JointSenders.{ends_by, has_ended, known-readings}
 use Rattle.receiver_law.proofs.records.JointSessions.{IsLeft, IsOpenedAs}
-use Rattle.gw_law.proofs.causes.JointTicks.{moments-told, turns-told}
 use Rattle.receiver_law.proofs.records.SoFars.{IsOver}
 use Rattle.receiver_law.proofs.records.SourceLaws.{HoldsBy, holds}
-use Rattle.gw_base.proofs.Lists.{all-at, all-join, slice_get-more}
-use Rattle.gw_law.proofs.runs.Wholes.{AsFar, AsFarWithin}
+use Rattle.receiver_law.specs.Source.{CountsFrom, sessions_in}
+use Rattle.sender_law.proofs.records.JointReadings.{IsParted, ShowsBy}
+use Rattle.sender_law.proofs.records.JointSenders.{has_ended, known-readings}
+use Rattle.sender_law.proofs.records.Origins.{InTicks}
+use Rattle.sender_law.specs.Runs.{AreTxParts}
+use Rattle.tp_receiver.specs.Runs.{HasReceived, frames_in}
+use Rattle.tp_receiver.specs.State.{Reception, RxTurn, rx_new}
+use Rattle.tp_receiver.specs.declared.set.RxSet.{RxSet}
+use Rattle.tp_sender.specs.Runs.{HasSent}
+use Rattle.tp_sender.specs.State.{TxTurn}
+use Rattle.tp_sender.specs.declared.set.TxSet.{TxSet}
+use Rattle.gw_law.specs.Deeds.{before}
+use Rattle.gw_law.proofs.causes.JointTicks.{moments-told, turns-told}
+use Rattle.gw_law.proofs.runs.Barriers.{Barrier, barrier}
+use Rattle.gw_law.proofs.runs.Before.{Cut, cut, timed-front, turns-append, turns-in}
+use Rattle.gw_law.proofs.runs.Fronts.{TurnIn}
+use Rattle.gw_law.proofs.runs.Meetings.{AsFar}
+use Rattle.gw_law.proofs.runs.Moments.{Moment, Whole, moment, received, sent}
+use Rattle.gw_law.proofs.runs.Parts.{parts-front, parts-go, rx-rising, rx-timed, tx-rising, tx-timed}
 
 -- numbers that count up stand once
 counts-none : (first : ℕ) (opened : Option OpenedAt) (rest : List ℕ) (o : OpenedAt) → opened ≡ Some o → CountsFrom first (option_to_list (option_map (λ (x : OpenedAt). x.seq) opened) ++ rest) → (o.seq ≡ first) × CountsFrom (first + 1) rest
@@ -80,98 +82,47 @@ now-by : (P : ℕ → Type 0) (turns : List RxTurn) → P 0 → AllByRecursion (
 now-by P [] none all = none
 now-by P (turn ∷ turns) none all = all.0
 
+-- a record that ends by a tick is among those of the turns up to then
+pub in-front : {R : Type 0} (ends : R → ℕ) (past : ℕ) (front more whole : List R) (place : ℕ) (told : R) → whole ≡ front ++ more → AllByRecursion (λ (r : R). past < ends r) more → slice_get whole place ≡ Some told → ends told ≤ past → slice_get front place ≡ Some told
+in-front {R = R} ends past front more whole place told is late there early = elim (joined front more place told (ap (λ l. slice_get l place) (sym is) ∙ there)) [
+  | InFirst here ↦ here
+  | InNext j after beyond ↦ absurd (omega (arith, early, all-at (λ (r : R). past < ends r) more j told late after))
+]
+
 -- a session whose writer a destination saw gone is told by then
-source-gone : (rx : RxSet) (tx : TxSet) (sizes : List ℕ) (works : List Work) (k : ℕ) (told : DestRecord) → AsFar rx tx sizes works → slice_get (records_by (moments_of works)) k ≡ Some told → told.result ≡ SourceEnded → Has (IsOpenedAs told.seq) (records_by (turns_of works))
-source-gone rx tx sizes works k told far is ended =
-    let reads = known-readings tx (moments_of works) far.sent in
-    let parted : IsParted tx (has_ended (moments_of works)) _ told = all-at (IsParted tx (has_ended (moments_of works)) _) (records_by (moments_of works)) k told reads.told is in
-    let P : DestResult → Type 0 = λ how. ShowsBy tx (has_ended (moments_of works)) told.sent parted.reading how in
+source-gone : (rx : RxSet) (tx : TxSet) (turns : List RxTurn) (moments : List TxTurn) (v : View) (k : ℕ) (told : DestRecord) → AsFar rx tx turns moments v → slice_get (records_by moments) k ≡ Some told → told.result ≡ SourceEnded → Has (IsOpenedAs told.seq) (records_by turns)
+source-gone rx tx turns moments v k told far is ended =
+    let reads = known-readings tx moments far.sent in
+    let parted : IsParted tx (has_ended moments) _ told = all-at (IsParted tx (has_ended moments) _) (records_by moments) k told reads.told is in
+    let P : DestResult → Type 0 = λ how. ShowsBy tx (has_ended moments) told.sent parted.reading how in
     let gone : parted.reading.writer ≡ false = (subst P ended parted.shows).0 in
-    let stream = far.joint.2.streams.joined tx.path.0 tx.dest.0 told.seq parted.reading (ap (λ l. slice_get l told.seq) far.readings ∙ parted.there) in
-    let session : slice_get ((grows (calls_by (turns_of works)) empty_view).sessions rx.path.0) told.seq ≡ Some stream.0 =
-    sym (ap (λ l. slice_get l told.seq) far.sessions) ∙ ap (λ (p : ℕ). slice_get ((view_of works).sessions p) told.seq) (sym (ap (λ p. p.0) far.path)) ∙ stream.1 in
-    (known-sessions rx (turns_of works) far.received).left told.seq stream.0 session (stream.2.gone gone).0
+    let stream = far.met.streams.joined tx.path.0 tx.dest.0 told.seq parted.reading (ap (λ l. slice_get l told.seq) far.readings ∙ parted.there) in
+    let session : slice_get ((grows (calls_by turns) empty_view).sessions rx.path.0) told.seq ≡ Some stream.0 =
+    sym (ap (λ l. slice_get l told.seq) far.sessions) ∙ ap (λ (p : ℕ). slice_get (v.sessions p) told.seq) (sym (ap (λ p. p.0) far.path)) ∙ stream.1 in
+    (known-sessions rx turns far.received).left told.seq stream.0 session (stream.2.gone gone).0
 
--- fronts of works, and the midst of each
-abbrev pub FarUpTo : RxSet → TxSet → List ℕ → List Work → Type 0
-FarUpTo rx tx sizes works = (later front : List Work) → later ++ front ≡ works → AsFar rx tx sizes front
+-- a destination that ended with its source: the session's record ended less than so many ticks later
+abbrev pub IsOpenedBy : (most : ℕ) → DestRecord → SessionRecord → Type 0
+IsOpenedBy most told session = IsOpenedAs told.seq session × (session.end.0 < told.end.0 + most)
 
-abbrev pub FarWithin : RxSet → TxSet → List ℕ → List Work → Type 0
-FarWithin rx tx sizes works = (later earlier : List Work) (work : Work) → later ++ work ∷ earlier ≡ works → AsFarWithin rx tx sizes earlier work
+pub source-ended : (o : Whole) (k : ℕ) (told : DestRecord) → slice_get (records_by (sent o)) k ≡ Some told → told.result ≡ SourceEnded → Has (IsOpenedBy o.pair.most told) (records_by (received o))
+source-ended o k told is how =
+    let rx : RxSet = o.pair.rx.set in
+    let tx : TxSet = o.pair.tx.set in
+    let m : Moment o told.end.0 = moment o told.end.0 in
+    let H : List TxTurn → Type 0 = λ l. HasSent tx l in
+    let R : List RxTurn → Type 0 = λ l. HasReceived rx l in
+    let grown = moments-told (λ (t : ℕ). m.past < t) tx m.tx_later m.tx_front (subst H (sym m.tx_is) o.far.sent) m.tx_late in
+    let here : slice_get (records_by m.tx_front) k ≡ Some told = in-front (λ (d : DestRecord). d.end.0) m.past (records_by m.tx_front) grown.more (records_by (sent o)) k told (ap records_by (sym m.tx_is) ∙ grown.is) grown.all is m.above in
+    let has = source-gone rx tx m.rx_front m.tx_front m.view k told m.far here how in
+    let now : now_of m.rx_front ≤ m.past = now-by (λ (t : ℕ). t ≤ m.past) m.rx_front (omega arith) m.rx_early in
+    let over : IsOver _ _ has.item = all-at (IsOver _ _) (records_by m.rx_front) has.place has.item (sessions-so rx m.rx_front m.far.received).1 has.there in
+    let past = turns-told (λ (t : ℕ). m.past < t) rx m.rx_later m.rx_front (subst R (sym m.rx_is) o.far.received) m.rx_late in
+    let P : List SessionRecord → Type 0 = λ l. Has (IsOpenedBy o.pair.most told) l in
+    subst P (sym (ap records_by (sym m.rx_is) ∙ past.is))
+    (has-more (IsOpenedBy o.pair.most told) (records_by m.rx_front) past.more (record { place = has.place; item = has.item; there = has.there; holds = (has.holds, omega (arith, over.ended, now, m.near)) }))
 
--- works up to a tick
-up-to-first : (work : Work) (earlier : List Work) → AreRising (work ∷ earlier) → AllByRecursion (WorkIn (λ (t : ℕ). t ≤ work.tick)) (work ∷ earlier)
-up-to-first work earlier rising = (omega arith, rises-below work.tick earlier rising.0 rising.1)
-
--- a destination that ended with its source: the session's record ended by then
-abbrev pub IsOpenedBy : DestRecord → SessionRecord → Type 0
-IsOpenedBy told session = IsOpenedAs told.seq session × (session.end.0 ≤ told.end.0)
-
-ended-here : (rx : RxSet) (tx : TxSet) (sizes : List ℕ) (earlier : List Work) (work : Work) (k : ℕ) (told : DestRecord) → AsFar rx tx sizes (work ∷ earlier) → AllByRecursion IsTimed (work ∷ earlier) → AreRising (work ∷ earlier) →
-    slice_get (records_by (moments_of (work ∷ earlier))) k ≡ Some told → told.result ≡ SourceEnded → told.end.0 ≡ work.tick → Has (IsOpenedBy told) (records_by (turns_of (work ∷ earlier)))
-ended-here rx tx sizes earlier work k told far timed rising is how at =
-    let has = source-gone rx tx sizes (work ∷ earlier) k told far is how in
-    let now : now_of (turns_of (work ∷ earlier)) ≤ work.tick =
-    now-by (λ (t : ℕ). t ≤ work.tick) (turns_of (work ∷ earlier)) (omega arith) (turns-in (λ (t : ℕ). t ≤ work.tick) (work ∷ earlier) timed (up-to-first work earlier rising)) in
-    let over : IsOver _ _ has.item = all-at (IsOver _ _) (records_by (turns_of (work ∷ earlier))) has.place has.item (sessions-so rx (turns_of (work ∷ earlier)) far.received).1 has.there in
-    record { place = has.place; item = has.item; there = has.there; holds = (has.holds, omega (arith, over.ended, now, at)) }
-
-ended-in : (rx : RxSet) (tx : TxSet) (sizes : List ℕ) (earlier : List Work) (work : Work) (k : ℕ) (told : DestRecord) (more : List DestRecord) → AsFar rx tx sizes (work ∷ earlier) → AllByRecursion IsTimed (work ∷ earlier) → AreRising (work ∷ earlier) →
-    slice_get (records_by (moments_of (work ∷ earlier))) k ≡ Some told → told.result ≡ SourceEnded → AllByRecursion (λ (t : DestRecord). t.end.0 ≡ work.tick) more → (slice_get (records_by (moments_of earlier)) k ≡ Some told → Has (IsOpenedBy told) (records_by (turns_of earlier))) →
-    Joined (records_by (moments_of earlier)) more k told → Has (IsOpenedBy told) (records_by (turns_of (work ∷ earlier)))
-ended-in rx tx sizes earlier work k told more far timed rising is how all before (InFirst there) =
-    let grown = turns-told (λ (t : ℕ). t ≡ work.tick) rx work.turns (turns_of earlier) far.received timed.0.turns in
-    let P : List SessionRecord → Type 0 = λ l. Has (IsOpenedBy told) l in
-    subst P (sym grown.is) (has-more (IsOpenedBy told) (records_by (turns_of earlier)) grown.more (before there))
-ended-in rx tx sizes earlier work k told more far timed rising is how all before (InNext j there past) =
-    ended-here rx tx sizes earlier work k told far timed rising is how (all-at (λ (t : DestRecord). t.end.0 ≡ work.tick) more j told all there)
-
-pub source-ended : (rx : RxSet) (tx : TxSet) (sizes : List ℕ) (works : List Work) → FarUpTo rx tx sizes works → AllByRecursion IsTimed works → AreRising works → (k : ℕ) (told : DestRecord) → slice_get (records_by (moments_of works)) k ≡ Some told → told.result ≡ SourceEnded →
-    Has (IsOpenedBy told) (records_by (turns_of works))
-source-ended rx tx sizes [] far timed rising k told is how = cc
-source-ended rx tx sizes (work ∷ earlier) far timed rising k told is how =
-    let here : AsFar rx tx sizes (work ∷ earlier) = far [] (work ∷ earlier) refl in
-    let grown = moments-told (λ (t : ℕ). t ≡ work.tick) tx work.moments (moments_of earlier) here.sent timed.0.moments in
-    ended-in rx tx sizes earlier work k told grown.more here timed rising is how grown.all
-    (λ there. source-ended rx tx sizes earlier (λ later front same. far (work ∷ later) front (ap (λ l. work ∷ l) same)) timed.1 rising.1 k told there how)
-    (joined (records_by (moments_of earlier)) grown.more k told (ap (λ l. slice_get l k) (sym grown.is) ∙ is))
-
--- in a run's ticks the run's end isn't told
-abbrev NoEnd : TxTurn → Type 0
-NoEnd m = (before : Bool) → ends_by m.event before ≡ before
-
-no-end : (moments earlier : List TxTurn) → AllByRecursion NoEnd moments → has_ended (moments ++ earlier) ≡ has_ended earlier
-no-end [] earlier all = refl
-no-end (m ∷ moments) earlier all = all.0 (has_ended (moments ++ earlier)) ∙ no-end moments earlier all.1
-
-answer-goes : (tick : ℕ) (event : TxEvent) (at : ℕ) → AnswersIn tick event at → (before : Bool) → ends_by event before ≡ before
-answer-goes tick (Fc status block_size separation) at is before = refl
-answer-goes tick Turn at is before = refl
-answer-goes tick Left at is before = refl
-answer-goes tick EndCame at is before = absurd is
-
-answers-go : (tick : ℕ) (moments : List TxTurn) → AllByRecursion (IsAnswerIn tick) moments → AllByRecursion NoEnd moments
-answers-go tick [] all = tt
-answers-go tick (m ∷ moments) all = (answer-goes tick m.event m.did.tick all.0, answers-go tick moments all.1)
-
-left-goes : (tick : ℕ) (moment : TxTurn) → IsStepIn tick Left moment → NoEnd moment
-left-goes tick m is = λ before. ap (λ e. ends_by e before) is.0
-
-frame-goes : (tick : ℕ) (box : Option Meaning) (moments : List TxTurn) → FrameLeaves tick box moments → AllByRecursion NoEnd moments
-frame-goes tick None moments is = rw is tt
-frame-goes tick (Some meaning) [] is = tt
-frame-goes tick (Some meaning) (moment ∷ more) is = (left-goes tick moment is.0, rw is.1 tt)
-
-pub ticks-go : (sizes : List ℕ) (works : List Work) → AreTicks sizes works → has_ended (moments_of works) ≡ false
-ticks-go sizes [] ticks = refl
-ticks-go sizes (work ∷ earlier) ticks =
-    let row : SendsIn work.tick (moments_of earlier) work.moments = ticks.0.sends in
-    let all : AllByRecursion NoEnd work.moments =
-    rw row.moments_are (all-join NoEnd row.left (row.turn ∷ row.answers) (frame-goes work.tick (box_after (row.turn ∷ (row.answers ++ moments_of earlier))) row.left row.left_is)
-    (λ before. ap (λ e. ends_by e before) row.turn_is, answers-go work.tick row.answers row.answers_only)) in
-    no-end work.moments (moments_of earlier) all ∙ ticks-go sizes earlier ticks.1
-
--- a session that no destination reads: its destination's record ended in an earlier tick, neither with its source nor with the run
+-- a destination ended neither with its source nor with the run
 abbrev pub IsOther : DestResult → Type 0
 IsOther Sent = Unit {0}
 IsOther SourceEnded = ⊥
@@ -183,85 +134,73 @@ IsOther AsTimeout = Unit {0}
 IsOther Cancelled = Unit {0}
 IsOther (RunEnd wait since) = ⊥
 
-is-other : (tx : TxSet) (ended : Bool) (sent : ℕ) (r : Reading) (how : DestResult) → ended ≡ false → (how ≡ SourceEnded → ⊥) → ShowsBy tx ended sent r how → IsOther how
-is-other tx ended sent r Sent none other shows = tt
-is-other tx ended sent r SourceEnded none other shows = other refl
-is-other tx ended sent r BsTimeout none other shows = tt
-is-other tx ended sent r FcOverflow none other shows = tt
-is-other tx ended sent r (InvalidFs status) none other shows = tt
-is-other tx ended sent r (CsTimeout seen) none other shows = tt
-is-other tx ended sent r AsTimeout none other shows = tt
-is-other tx ended sent r Cancelled none other shows = tt
-is-other tx ended sent r (RunEnd wait since) none other shows = let no : true ≡ false = sym shows ∙ none in cc
+is-other : (tx : TxSet) (ended : Bool) (sent : ℕ) (r : Reading) (how : DestResult) → ended ≡ false → r.writer ≡ true → ShowsBy tx ended sent r how → IsOther how
+is-other tx ended sent r Sent none writes shows = tt
+is-other tx ended sent r SourceEnded none writes shows = let no : false ≡ true = sym shows.0 ∙ writes in cc
+is-other tx ended sent r BsTimeout none writes shows = tt
+is-other tx ended sent r FcOverflow none writes shows = tt
+is-other tx ended sent r (InvalidFs status) none writes shows = tt
+is-other tx ended sent r (CsTimeout seen) none writes shows = tt
+is-other tx ended sent r AsTimeout none writes shows = tt
+is-other tx ended sent r Cancelled none writes shows = tt
+is-other tx ended sent r (RunEnd wait since) none writes shows = let no : true ≡ false = sym shows ∙ none in cc
 
-pub record LeftBefore (session : SessionRecord) (opened : OpenedAt) (told : DestRecord) : Type 0 where
+-- the destination's record of a session that no destination reads: it ended less than so many ticks later, by itself
+pub record HasLeftBy (most : ℕ) (session : SessionRecord) (opened : OpenedAt) (told : DestRecord) : Type 0 where
   pub seq_is : told.seq ≡ opened.seq
-  pub before : told.end.0 < session.end.0
+  pub before : told.end.0 < session.end.0 + most
   pub other : IsOther told.result
 
--- in the tick of the session's record
-left-here : (rx : RxSet) (tx : TxSet) (sizes : List ℕ) (earlier : List Work) (work : Work) (k : ℕ) (session : SessionRecord) (opened : OpenedAt) → AsFarWithin rx tx sizes earlier work → tx.dest.0 < rx.readers → has_ended (moments_of earlier) ≡ false →
-    AllByRecursion (λ (t : DestRecord). t.end.0 < work.tick) (records_by (moments_of earlier)) → slice_get (records_by (turns_of (work ∷ earlier))) k ≡ Some session → session.result ≡ NoReaders → session.opened ≡ Some opened → session.end.0 ≡ work.tick →
-    ((j : ℕ) (a : SessionRecord) → slice_get (records_by (turns_of earlier)) j ≡ Some a → (slice_get (records_by (turns_of (work ∷ earlier))) j ≡ Some a) × (j < k)) → Has (LeftBefore session opened) (records_by (moments_of earlier))
-left-here rx tx sizes earlier work k session opened far below none past is how opened_is at new =
-    let known = known-sessions rx (turns_of (work ∷ earlier)) far.received in
-    let left : IsLeft rx ((grows (calls_by (turns_of (work ∷ earlier))) empty_view).sessions rx.path.0) session opened = all-at _ (records_by (turns_of (work ∷ earlier))) k session known.told is opened opened_is in
-    let path : tx.path.0 ≡ rx.path.0 = ap (λ p. p.0) far.before.path in
-    let there : slice_get ((view_between earlier work).sessions rx.path.0) opened.seq ≡ Some left.session = ap (λ l. slice_get l opened.seq) far.sessions ∙ left.there in
-    let gone = far.joint.2.owned.no_readers rx.path.0 opened.seq left.session there (left.none how) tx.dest.0 (omega (arith, below, left.put.dests)) in
-    let reads = known-readings tx (moments_of earlier) far.before.sent in
-    let reading : slice_get ((grows (calls_by (moments_of earlier)) empty_view).readings tx.path.0 tx.dest.0) opened.seq ≡ Some gone.0 =
-    sym (ap (λ l. slice_get l opened.seq) far.readings) ∙ ap (λ p. slice_get ((view_between earlier work).readings p tx.dest.0) opened.seq) path ∙ gone.1 in
+-- at the barrier soon after the session's end
+pub left-by : (o : Whole) (k : ℕ) (session : SessionRecord) (opened : OpenedAt) → o.pair.tx.set.dest.0 < o.pair.rx.set.readers → slice_get (records_by (turns_of o.pair.rx.parts)) k ≡ Some session → session.result ≡ NoReaders → session.opened ≡ Some opened →
+    Has (HasLeftBy o.pair.most session opened) (records_by (sent o))
+left-by o k session opened below is how opened_is =
+    let rx : RxSet = o.pair.rx.set in
+    let tx : TxSet = o.pair.tx.set in
+    let b : Barrier o.pair session.end.0 = barrier o.pair session.end.0 in
+    let rx_cut : Cut (b.past + 1) o.pair.rx.parts = cut (b.past + 1) o.pair.rx.parts (rx-rising o.pair.rx.full o.pair.rx.parts o.pair.rx_run.parts_are) in
+    let tx_cut : Cut (b.past + 1) o.pair.tx.parts = cut (b.past + 1) o.pair.tx.parts (tx-rising o.pair.tx.full o.pair.tx.parts o.pair.tx_run.parts_are) in
+    let turns : List RxTurn = turns_of (before (b.past + 1) o.pair.rx.parts) in
+    let moments : List TxTurn = turns_of (before (b.past + 1) o.pair.tx.parts) in
+    let R : List _ → Type 0 = λ l. AllByRecursion (λ part. AllByRecursion (λ turn. turn.did.tick ≡ part.tick) part.turns) l in
+    let rx_timed = timed-front rx_cut.later (before (b.past + 1) o.pair.rx.parts) (subst R (sym rx_cut.is) (rx-timed o.pair.rx.full o.pair.rx.parts o.pair.rx_run.parts_are)) in
+    let S : List _ → Type 0 = λ l. AllByRecursion (λ part. AllByRecursion (λ turn. turn.did.tick ≡ part.tick) part.turns) l in
+    let tx_timed = timed-front tx_cut.later (before (b.past + 1) o.pair.tx.parts) (subst S (sym tx_cut.is) (tx-timed o.pair.tx.full o.pair.tx.parts o.pair.tx_run.parts_are)) in
+    let rx_all : turns_of o.pair.rx.parts ≡ turns_of rx_cut.later ++ turns = ap turns_of (sym rx_cut.is) ∙ turns-append rx_cut.later (before (b.past + 1) o.pair.rx.parts) in
+    let tx_all : turns_of o.pair.tx.parts ≡ turns_of tx_cut.later ++ moments = ap turns_of (sym tx_cut.is) ∙ turns-append tx_cut.later (before (b.past + 1) o.pair.tx.parts) in
+    let H : List RxTurn → Type 0 = λ l. HasReceived rx l in
+    let grown = turns-told (λ (t : ℕ). b.past + 1 ≤ t) rx (turns_of rx_cut.later) turns (subst H rx_all (happened-front _ o.pair.rx.end (turns_of o.pair.rx.parts) o.pair.rx_run.happened)) (turns-in (λ (t : ℕ). b.past + 1 ≤ t) rx_cut.later rx_timed.0 rx_cut.late) in
+    let here : slice_get (records_by turns) k ≡ Some session =
+    in-front (λ (s : SessionRecord). s.end.0) b.past (records_by turns) grown.more (records_by (turns_of o.pair.rx.parts)) k session (ap records_by rx_all ∙ grown.is) (all-weaker (λ (s : SessionRecord). b.past + 1 ≤ s.end.0) (λ (s : SessionRecord). b.past < s.end.0) grown.more (λ s le. omega (arith, le)) grown.all) is b.above in
+    let known = known-sessions rx turns b.far.received in
+    let left : IsLeft rx ((grows (calls_by turns) empty_view).sessions rx.path.0) session opened = all-at _ (records_by turns) k session known.told here opened opened_is in
+    let path : tx.path.0 ≡ rx.path.0 = ap (λ p. p.0) b.far.path in
+    let there : slice_get (b.view.sessions rx.path.0) opened.seq ≡ Some left.session = ap (λ l. slice_get l opened.seq) b.far.sessions ∙ left.there in
+    let gone = b.far.met.no_readers rx.path.0 opened.seq left.session there (left.none how) tx.dest.0 (omega (arith, below, left.put.dests)) in
+    let reads = known-readings tx moments b.far.sent in
+    let reading : slice_get ((grows (calls_by moments) empty_view).readings tx.path.0 tx.dest.0) opened.seq ≡ Some gone.0 =
+    sym (ap (λ l. slice_get l opened.seq) b.far.readings) ∙ ap (λ p. slice_get (b.view.readings p tx.dest.0) opened.seq) path ∙ gone.1 in
     let has = reads.left opened.seq gone.0 reading gone.2 in
-    let parted : IsParted tx (has_ended (moments_of earlier)) _ has.item = all-at (IsParted tx (has_ended (moments_of earlier)) _) (records_by (moments_of earlier)) has.place has.item reads.told has.there in
-    record {
+    let parted : IsParted tx (has_ended moments) _ has.item = all-at (IsParted tx (has_ended moments) _) (records_by moments) has.place has.item reads.told has.there in
+    let same : parted.reading ≡ gone.0 = same-some parted.there (ap (λ n. slice_get ((grows (calls_by moments) empty_view).readings tx.path.0 tx.dest.0) n) has.holds ∙ reading) in
+    let writes : parted.reading.writer ≡ true = ap (λ (r : Reading). r.writer) same ∙ gone.3 in
+    let A : List _ → Type 0 = λ l. AreTxParts o.pair.tx.full l in
+    let none : has_ended moments ≡ false = parts-go o.pair.tx.full (before (b.past + 1) o.pair.tx.parts) (parts-front o.pair.tx.full tx_cut.later (before (b.past + 1) o.pair.tx.parts) (subst A (sym tx_cut.is) o.pair.tx_run.parts_are)) in
+    let T : List TxTurn → Type 0 = λ l. HasSent tx l in
+    let told = moments-told (λ (t : ℕ). t ≤ b.past) tx moments [] (subst T (sym (append-nil moments)) b.far.sent) (all-weaker (InTicks (λ (t : ℕ). t < b.past + 1)) (InTicks (λ (t : ℕ). t ≤ b.past)) moments (λ turn lt. omega (arith, lt)) (turns-in (λ (t : ℕ). t < b.past + 1) (before (b.past + 1) o.pair.tx.parts) tx_timed.1 tx_cut.early)) in
+    let Q : List DestRecord → Type 0 = λ l. AllByRecursion (λ (d : DestRecord). d.end.0 ≤ b.past) l in
+    let ends : AllByRecursion (λ (d : DestRecord). d.end.0 ≤ b.past) (records_by moments) = subst Q (sym told.is ∙ ap records_by (append-nil moments)) told.all in
+    let whole : records_by (sent o) ≡ records_by moments ++ records_by (o.pair.tx.end ++ turns_of tx_cut.later) =
+    ap (λ l. records_by (o.pair.tx.end ++ l)) tx_all ∙ ap records_by (sym (append_assoc o.pair.tx.end (turns_of tx_cut.later) moments)) ∙ records-append (o.pair.tx.end ++ turns_of tx_cut.later) moments in
+    let P : List DestRecord → Type 0 = λ l. Has (HasLeftBy o.pair.most session opened) l in
+    subst P (sym whole)
+    (has-more (HasLeftBy o.pair.most session opened) (records_by moments) (records_by (o.pair.tx.end ++ turns_of tx_cut.later)) (record {
       place = has.place;
       item = has.item;
       there = has.there;
       holds = record {
         seq_is = has.holds;
-        before = omega (arith, at, all-at (λ (t : DestRecord). t.end.0 < work.tick) (records_by (moments_of earlier)) has.place has.item past has.there);
-        other = is-other tx (has_ended (moments_of earlier)) has.item.sent parted.reading has.item.result none (λ ended.
-            let source = source-gone rx tx sizes earlier has.place has.item far.before has.there ended in
-            let same = new source.place source.item source.there in
-            omega (arith, same.1, once 0 (records_by (turns_of (work ∷ earlier))) source.place k source.item session source.holds.0 opened (sessions-so rx (turns_of (work ∷ earlier)) far.received).0 same.0 is source.holds.1 opened_is (source.holds.2 ∙ has.holds))) parted.shows;
+        before = omega (arith, all-at (λ (d : DestRecord). d.end.0 ≤ b.past) (records_by moments) has.place has.item ends has.there, b.near);
+        other = is-other tx (has_ended moments) has.item.sent parted.reading has.item.result none writes parted.shows;
       };
-    }
-
--- what was told before a tick ended before it
-before-tick : (bound : ℕ) (works : List Work) → tick_after works ≤ bound → AreRising works → AllByRecursion (WorkIn (λ (t : ℕ). t < bound)) works
-before-tick bound [] below rising = tt
-before-tick bound (work ∷ earlier) below rising = (omega (arith, below), before-tick bound earlier (omega (arith, below, rising.0)) rising.1)
-
-told-before : (tx : TxSet) (bound : ℕ) (works : List Work) → HasSent tx (moments_of works) → AllByRecursion IsTimed works → tick_after works ≤ bound → AreRising works → AllByRecursion (λ (t : DestRecord). t.end.0 < bound) (records_by (moments_of works))
-told-before tx bound works sent timed below rising =
-    let P : List TxTurn → Type 0 = λ ms. HasSent tx ms in
-    let all = moments-told (λ (t : ℕ). t < bound) tx (moments_of works) [] (subst P (sym (append-nil (moments_of works))) sent) (moments-in (λ (t : ℕ). t < bound) works timed (before-tick bound works below rising)) in
-    let Q : List DestRecord → Type 0 = λ l. AllByRecursion (λ (t : DestRecord). t.end.0 < bound) l in
-    subst Q (sym all.is ∙ ap records_by (append-nil (moments_of works))) all.all
-
-left-in : (rx : RxSet) (tx : TxSet) (sizes : List ℕ) (earlier : List Work) (work : Work) (k : ℕ) (session : SessionRecord) (opened : OpenedAt) (more : List SessionRecord) (later : List DestRecord) → AsFarWithin rx tx sizes earlier work → tx.dest.0 < rx.readers →
-    has_ended (moments_of earlier) ≡ false → AllByRecursion (λ (t : DestRecord). t.end.0 < work.tick) (records_by (moments_of earlier)) → slice_get (records_by (turns_of (work ∷ earlier))) k ≡ Some session → session.result ≡ NoReaders → session.opened ≡ Some opened →
-    AllByRecursion (λ (t : SessionRecord). t.end.0 ≡ work.tick) more → records_by (turns_of (work ∷ earlier)) ≡ records_by (turns_of earlier) ++ more → records_by (moments_of (work ∷ earlier)) ≡ records_by (moments_of earlier) ++ later →
-    (slice_get (records_by (turns_of earlier)) k ≡ Some session → Has (LeftBefore session opened) (records_by (moments_of earlier))) → Joined (records_by (turns_of earlier)) more k session → Has (LeftBefore session opened) (records_by (moments_of (work ∷ earlier)))
-left-in rx tx sizes earlier work k session opened more later far below none past is how opened_is all grown sent before (InFirst there) =
-    let P : List DestRecord → Type 0 = λ l. Has (LeftBefore session opened) l in
-    subst P (sym sent) (has-more (LeftBefore session opened) (records_by (moments_of earlier)) later (before there))
-left-in rx tx sizes earlier work k session opened more later far below none past is how opened_is all grown sent before (InNext j there beyond) =
-    let P : List DestRecord → Type 0 = λ l. Has (LeftBefore session opened) l in
-    subst P (sym sent) (has-more (LeftBefore session opened) (records_by (moments_of earlier)) later
-    (left-here rx tx sizes earlier work k session opened far below none past is how opened_is (all-at (λ (t : SessionRecord). t.end.0 ≡ work.tick) more j session all there)
-    (λ i a at. (ap (λ l. slice_get l i) grown ∙ slice_get-more (records_by (turns_of earlier)) more i a at, omega (arith, beyond, slice_get_within (records_by (turns_of earlier)) i a at)))))
-
--- each session that no destination reads
-pub left-before : (rx : RxSet) (tx : TxSet) (sizes : List ℕ) (works : List Work) → FarUpTo rx tx sizes works → FarWithin rx tx sizes works → AreTicks sizes works → AllByRecursion IsTimed works → AreRising works → tx.dest.0 < rx.readers → (k : ℕ) (session : SessionRecord)
-    (opened : OpenedAt) → slice_get (records_by (turns_of works)) k ≡ Some session → session.result ≡ NoReaders → session.opened ≡ Some opened → Has (LeftBefore session opened) (records_by (moments_of works))
-left-before rx tx sizes [] far within ticks timed rising below k session opened is how opened_is = cc
-left-before rx tx sizes (work ∷ earlier) far within ticks timed rising below k session opened is how opened_is =
-    let here : AsFar rx tx sizes (work ∷ earlier) = far [] (work ∷ earlier) refl in
-    let before : AsFar rx tx sizes earlier = far (work ∷ []) earlier refl in
-    let grown = turns-told (λ (t : ℕ). t ≡ work.tick) rx work.turns (turns_of earlier) here.received timed.0.turns in
-    let sent = moments-told (λ (t : ℕ). t ≡ work.tick) tx work.moments (moments_of earlier) here.sent timed.0.moments in
-    left-in rx tx sizes earlier work k session opened grown.more sent.more (within [] earlier work refl) below (ticks-go sizes earlier ticks.1) (told-before tx work.tick earlier before.sent timed.1 ticks.0.later rising.1) is how opened_is grown.all grown.is sent.is
-    (λ there. left-before rx tx sizes earlier (λ later front same. far (work ∷ later) front (ap (λ l. work ∷ l) same)) (λ later first next same. within (work ∷ later) first next (ap (λ l. work ∷ l) same)) ticks.1 timed.1 rising.1 below k session opened there how opened_is)
-    (joined (records_by (turns_of earlier)) grown.more k session (ap (λ l. slice_get l k) (sym grown.is) ∙ is))
+    }))

@@ -26,10 +26,10 @@ use Rattle.tp_unit.specs.Writing.{frame_of, read_back}
 use Rattle.tp_unit.specs.declared.shape.Shape.{Shape}
 use Rattle.gw_law.specs.Delivery.{Delivers, DeliveryLaw, IsNamed}
 use Rattle.gw_law.specs.JointCauses.{EndsInTime, NoneWaitsTooLong, WaitsTooLong, came_by, left_before}
-use Rattle.gw_law.specs.Run.{Route}
+use Rattle.gw_law.specs.Account.{Route}
 use Rattle.receiver_law.specs.Source.{SourceLaw, Tells}
 use Rattle.sender_law.specs.Channel.{IsOfChannel}
-use Rattle.gw_law.specs.Timely.{IsTimely, TimelyLaw, bytes_to, delivery_of_route}
+use Rattle.gw_law.specs.Timely.{IsTimely, TimelyLaw, bytes_below, bytes_to, delivery_of_route}
 use Rattle.sender_law.specs.Transfer.{has_sent, seen_of}
 use Rattle.sender_law.specs.Pacing.{Paced, controls_of}
 use Rattle.sender_law.specs.Channel.{never_full}
@@ -175,7 +175,7 @@ part-same cap other len start sent part bytes part_is bytes_are le same = elim (
 record Sending (r : Route) (unit cut : Cut Seen) (session : SessionRecord) (told : DestRecord) : Type 0 where
   sound : IsShape r.leg.tx.shape
   caused : IsCausedWith never_full r.leg cut told
-  timely : (tick : ℕ) → bytes_to tick (walk_of (address_size r.leg.tx.shape) cut).pieces ≤ bytes_to tick (walk_of r.source.rx.a unit).pieces
+  timely : (tick : ℕ) → bytes_to tick (walk_of (address_size r.leg.tx.shape) cut).pieces ≤ bytes_below (tick + r.window) (walk_of r.source.rx.a unit).pieces
   start : (0 < length (bytes_of cut.start.meaning)) × (length (bytes_of cut.start.meaning) < len_of cut.start.meaning → cut.start.size ≡ r.leg.tx.shape.dl)
   len : len_of cut.start.meaning ≡ session.len
   put : length (joined (walk_of (address_size r.leg.tx.shape) cut).pieces) ≤ session.bytes
@@ -247,7 +247,7 @@ none-waits r sound source causes timely law =
     let begin = cuts-starts (λ (s : Seen). is_start false s.meaning) frames in
     zip-index (Delivers (delivery_of_route r)) (EndsInTime r) (attempts_in false frames) (filter has_sent r.leg.dests) (λ k cut told cut_is told_is delivers unit session named tick below waits.
     let caused = zip-pair (IsCausedWith never_full r.leg) (attempts_in false frames) (filter has_sent r.leg.dests) k cut told causes.sent cut_is told_is in
-    let time = zip-pair (IsTimely (delivery_of_route r)) (attempts_in false frames) (filter has_sent r.leg.dests) k cut told timely.timely cut_is told_is in
+    let time = zip-pair (IsTimely r.window (delivery_of_route r)) (attempts_in false frames) (filter has_sent r.leg.dests) k cut told timely.timely cut_is told_is in
     let start = all-at (CutIn (IsStartOf r.leg.tx.shape)) (attempts_in false frames) k cut starts cut_is in
     let is_so = all-at (λ (c : Cut Seen). is_start false c.start.meaning ≡ true) (attempts_in false frames) k cut begin cut_is in
     let same : (delivers.names.unit ≡ unit) × (delivers.names.session ≡ session) = named-once r told.seq delivers.names.unit unit delivers.names.session session law delivers.names.named named in

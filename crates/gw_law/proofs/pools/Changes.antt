@@ -4,7 +4,7 @@ use Rattle.hub_core.specs.Moves.{move_of}
 use Rattle.std.specs.Prelude.{slice_get}
 use Rattle.std.proofs.lemmas.Bool.{ne_eqb, cases_lt}
 use Rattle.std.proofs.lemmas.Bool.Decides.{eqb_tells}
-use Rattle.hub_core.specs.Joint.{ChangesBuf, IsLawful, IsNextChange, changed_buf, moved, number_of, numbered, replay}
+use Rattle.hub_core.specs.Journal.{ChangesBuf, IsLawful, IsNextChange, changed_buf, moved, number_of, numbered, replay}
 use Rattle.hub_core.specs.View.{Change, Taken, Freed}
 use Rattle.hub_core.specs.declared.record.Move.{Move}
 use Rattle.gw_law.specs.Pool.{IsLawfulMove, IsNextMove, MovesBuf, free_after, free_at, move_numbered}

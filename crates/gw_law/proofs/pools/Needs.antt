@@ -10,7 +10,8 @@ use Rattle.std.proofs.lemmas.List.{length-map, map-append}
 use Rattle.std.proofs.lemmas.List.Elements.{All-get_or}
 use Rattle.std.proofs.lemmas.Option.{get_or_from_slice_get, slice_get_within}
 use Rattle.gw_base.specs.Fit.{NoneFits}
-use Rattle.hub_core.specs.Joint.{IsLawful, IsOverflow, Joint, number_of, replay}
+use Rattle.hub_core.specs.Journal.{IsLawful, IsOverflow, number_of, replay}
+use Rattle.hub_core.proofs.OneGroup.{IsJointAlone}
 use Rattle.hub_core.specs.View.{View, Change, Taken, Event, Refusal}
 use Rattle.hub_core.specs.View.{Took, Refused, Entered, Asked, Put, Published, Joining, Missed, Saw, Read, Closed, Parted}
 use Rattle.hub_core.specs.declared.record.OpenedAt.{OpenedAt}
@@ -54,7 +55,7 @@ needs-are functional (turn ∷ earlier) = ap (λ l. l ++ need_in functional turn
 -- what a start asked for, and what became of it, stand in the view
 abbrev AskedFor : View → ℕ → Outcome → Type 0
 AskedFor v need (Granted change buf) = (place : ℕ) × (slice_get v.changes place ≡ Some (Taken change buf need))
-AskedFor v need (Denied change free asked) = (asked ≡ need) × (place : ℕ) × (slice_get v.refused place ≡ Some (record { number = change; free = free; need = asked }))
+AskedFor v need (Denied change free asked) = (asked ≡ need) × (group place : ℕ) × (slice_get v.refused place ≡ Some (record { group = group; number = change; free = free; need = asked }))
 
 abbrev pub Answered : View → Cut Seen → SessionRecord → Type 0
 Answered v attempt told = AskedFor v (need_of attempt) (outcome_of told)
@@ -78,23 +79,23 @@ pub answered : (v : View) (calls : List Event) (attempts : List (Cut Seen)) (rec
 answered v [] [] [] outs are calls = tt
 answered v [] [] (told ∷ records) outs are calls = absurd cc
 answered v [] (attempt ∷ attempts) records outs are calls = absurd cc
-answered v (Took number buf size need ∷ calls) attempts records outs are all =
+answered v (Took group number buf size need ∷ calls) attempts records outs are all =
     answered-more v (Granted number buf) need (flat_map outcome_by calls) (flat_map need_by calls) attempts records outs are all.0 (λ cuts told o n. answered v calls cuts told o n all.1)
-answered v (Refused number free need ∷ calls) attempts records outs are all =
-    answered-more v (Denied number free need) need (flat_map outcome_by calls) (flat_map need_by calls) attempts records outs are (refl, all.0.0, all.0.1) (λ cuts told o n. answered v calls cuts told o n all.1)
+answered v (Refused group number free need ∷ calls) attempts records outs are all =
+    answered-more v (Denied number free need) need (flat_map outcome_by calls) (flat_map need_by calls) attempts records outs are (refl, group, all.0.0, all.0.1) (λ cuts told o n. answered v calls cuts told o n all.1)
 answered v (Entered path seq buf number size len readers ∷ calls) attempts records outs are all = answered v calls attempts records outs are all.1
 answered v (Asked path seq cells readers ∷ calls) attempts records outs are all = answered v calls attempts records outs are all.1
 answered v (Put path seq cell ∷ calls) attempts records outs are all = answered v calls attempts records outs are all.1
 answered v (Published path seq bytes ∷ calls) attempts records outs are all = answered v calls attempts records outs are all.1
 answered v (Joining path dest seq buf len ∷ calls) attempts records outs are all = answered v calls attempts records outs are all.1
-answered v (Missed path dest seq ∷ calls) attempts records outs are all = answered v calls attempts records outs are all.1
+answered v (Missed group path dest seq ∷ calls) attempts records outs are all = answered v calls attempts records outs are all.1
 answered v (Saw path dest seq cells bytes writer ∷ calls) attempts records outs are all = answered v calls attempts records outs are all.1
 answered v (Read path dest seq cell ∷ calls) attempts records outs are all = answered v calls attempts records outs are all.1
 answered v (Closed path seq freed ∷ calls) attempts records outs are all = answered v calls attempts records outs are all.1
 answered v (Parted path dest seq freed ∷ calls) attempts records outs are all = answered v calls attempts records outs are all.1
 
 -- what a record tells of its session's buffer, and of its overflow
-found-change : (sizes : List ℕ) (count free : ℕ) (v : View) (place : ℕ) (change : Change) → Joint sizes count free v → CountsFrom 1 (map number_of v.changes) → slice_get v.changes place ≡ Some change → IsLawful sizes (replay sizes v.changes place) change
+found-change : (sizes : List ℕ) (count free : ℕ) (v : View) (place : ℕ) (change : Change) → IsJointAlone sizes count free v → CountsFrom 1 (map number_of v.changes) → slice_get v.changes place ≡ Some change → IsLawful sizes (replay sizes v.changes place) change
 found-change sizes count free v place change joint counts there =
     let one = joint.journal.each place (omega (arith, joint.journal.count_is, slice_get_within v.changes place change there)) in
     let same : Some one.0 ≡ Some change = sym one.1 ∙ numbered-at 1 v.changes place (place + 1) change counts (omega arith) there in
@@ -102,7 +103,7 @@ found-change sizes count free v place change joint counts there =
     let P : Change → Type 0 = λ c. IsLawful sizes (replay sizes v.changes place) c in
     subst P equal one.2
 
-served : (sizes : List ℕ) (count free : ℕ) (v : View) (need : ℕ) (opened : OpenedAt) → Joint sizes count free v → CountsFrom 1 (map number_of v.changes) → AskedFor v need (Granted opened.change opened.buf.0) → IsServed sizes (map move_of v.changes) need opened
+served : (sizes : List ℕ) (count free : ℕ) (v : View) (need : ℕ) (opened : OpenedAt) → IsJointAlone sizes count free v → CountsFrom 1 (map number_of v.changes) → AskedFor v need (Granted opened.change opened.buf.0) → IsServed sizes (map move_of v.changes) need opened
 served sizes count free v need opened joint counts asked =
     let number : opened.change ≡ 1 + asked.0 = number-at 1 v.changes asked.0 (Taken opened.change opened.buf.0 need) counts asked.1 in
     record {
@@ -112,11 +113,11 @@ served sizes count free v need opened joint counts asked =
       smallest = rw (free-is sizes v.changes asked.0) (found-change sizes count free v asked.0 (Taken opened.change opened.buf.0 need) joint counts asked.1);
     }
 
-refused : (sizes : List ℕ) (count now : ℕ) (v : View) (need change free asked : ℕ) → Joint sizes count now v → AskedFor v need (Denied change free asked) → IsRefused sizes (map move_of v.changes) need change free asked
+refused : (sizes : List ℕ) (count now : ℕ) (v : View) (need change free asked : ℕ) → IsJointAlone sizes count now v → AskedFor v need (Denied change free asked) → IsRefused sizes (map move_of v.changes) need change free asked
 refused sizes count now v need change free asked joint said =
     let P : Refusal → Type 0 = IsOverflow sizes v.changes in
-    let row : Refusal = record { number = change; free = free; need = asked } in
-    let is = subst P (get_or_from_slice_get v.refused said.1 row row said.2) (All-get_or P v.refused said.1 row (slice_get_within v.refused said.1 row said.2) joint.journal.overflows) in
+    let row : Refusal = record { group = said.1; number = change; free = free; need = asked } in
+    let is = subst P (get_or_from_slice_get v.refused said.2 row row said.3) (All-get_or P v.refused said.2 row (slice_get_within v.refused said.2 row said.3) joint.journal.overflows) in
     let Q : ℕ → Type 0 = λ n. NoneFits sizes free n in
     record {
       need_is = said.0;
@@ -133,7 +134,7 @@ denied v need change free asked result (Some opened) is opens said = let no : tr
 granted : (v : View) (need : ℕ) (result : SessionResult) (was : Option OpenedAt) (opened : OpenedAt) → was ≡ Some opened → AskedFor v need (outcome_told result was) → AskedFor v need (Granted opened.change opened.buf.0)
 granted v need result was opened is said = let P : Option OpenedAt → Type 0 = λ o. AskedFor v need (outcome_told result o) in subst P is said
 
-pub asks : (chan address count now : ℕ) (sizes : List ℕ) (v : View) (attempt : Cut Seen) (told : SessionRecord) → Joint sizes count now v → CountsFrom 1 (map number_of v.changes) → Tells chan address attempt told → Answered v attempt told →
+pub asks : (chan address count now : ℕ) (sizes : List ℕ) (v : View) (attempt : Cut Seen) (told : SessionRecord) → IsJointAlone sizes count now v → CountsFrom 1 (map number_of v.changes) → Tells chan address attempt told → Answered v attempt told →
     Asks sizes (map move_of v.changes) attempt told
 asks chan address count now sizes v attempt told joint counts tells said = record {
   served = λ opened is. served sizes count now v (need_of attempt) opened joint counts (granted v (need_of attempt) told.result told.opened opened is said);

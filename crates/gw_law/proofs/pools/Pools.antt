@@ -8,7 +8,8 @@ use Rattle.std.specs.List.{AllByRecursion, AllZip, flat_map}
 use Rattle.std.proofs.lemmas.List.{length-map}
 use Rattle.std.proofs.lemmas.Option.{slice_get-map}
 use Rattle.gw_base.specs.declared.numbers.BufNo.{BufNo}
-use Rattle.hub_core.specs.Joint.{AreOwned, IsNextChange, Joint, number_of, numbered, replay}
+use Rattle.hub_core.specs.Journal.{IsNextChange, number_of, numbered, replay}
+use Rattle.hub_core.proofs.OneGroup.{AreOwnedAlone, IsJointAlone, alone-with}
 use Rattle.hub_core.specs.View.{View, Taken, Freed, Session, session_at}
 use Rattle.hub_core.specs.declared.record.Move.{Move}
 use Rattle.hub_core.specs.declared.record.OpenedAt.{OpenedAt}
@@ -28,8 +29,12 @@ use Rattle.gw_law.proofs.pools.Changes.{None-before, changes-buf, first-after, f
 use Rattle.gw_law.proofs.pools.Needs.{Answered, answered, asks, needs-are}
 use Rattle.gw_law.proofs.pools.Entries.{IsOpenedBy, opened-by, same-place, told-by}
 
+-- of one group the view is joint in the words of all changes
+pub joint-of : {sources : List Source} {sizes : List ℕ} {count free : ℕ} {v : View} {moves : List Move} → IsPoolRun sources sizes count free v moves → IsJointAlone sizes count free v
+joint-of {sizes = sizes} {count = count} {free = free} {v = v} run = alone-with sizes v run.joint count free run.word.number_is run.word.free_is
+
 -- what the records of one channel ask
-asks-of : (sizes : List ℕ) (count free : ℕ) (v : View) (source : Source) → Joint sizes count free v → CountsFrom 1 (map number_of v.changes) → IsWholeRun v source →
+asks-of : (sizes : List ℕ) (count free : ℕ) (v : View) (source : Source) → IsJointAlone sizes count free v → CountsFrom 1 (map number_of v.changes) → IsWholeRun v source →
     AllZip (Asks sizes (map move_of v.changes)) (attempts_in source.set.functional (came_by frames_in source.turns)) (records_by source.turns)
 asks-of sizes count free v source joint counts run =
     let set : RxSet = source.set in
@@ -41,7 +46,7 @@ asks-of sizes count free v source joint counts run =
     zip-both (Tells set.chan.0 set.a) (Answered v) (Asks sizes (map move_of v.changes)) attempts records (λ attempt told tells said. asks set.chan.0 set.a count free sizes v attempt told joint counts tells said)
     (source_law_of set source.turns run.received run.idle).tells (answered v (calls_by source.turns) attempts records outs needs run.calls)
 
-each-channel : (sizes : List ℕ) (count free : ℕ) (v : View) (sources : List Source) → Joint sizes count free v → CountsFrom 1 (map number_of v.changes) → AllByRecursion (IsWholeRun v) sources →
+each-channel : (sizes : List ℕ) (count free : ℕ) (v : View) (sources : List Source) → IsJointAlone sizes count free v → CountsFrom 1 (map number_of v.changes) → AllByRecursion (IsWholeRun v) sources →
     AllByRecursion (λ (channel : Channel). AllZip (Asks sizes (map move_of v.changes)) channel.attempts channel.records) (map channel_of sources)
 each-channel sizes count free v [] joint counts runs = tt
 each-channel sizes count free v (source ∷ sources) joint counts runs = (asks-of sizes count free v source joint counts runs.0, each-channel sizes count free v sources joint counts runs.1)
@@ -71,7 +76,7 @@ session-of v sources chan place opened runs is =
 own-take : (sources : List Source) (sizes : List ℕ) (count free : ℕ) (v : View) (moves : List Move) (chan other_chan place other : ℕ) (opened reopened : OpenedAt) → IsPoolRun sources sizes count free v moves → opened.change ≡ reopened.change →
     HasSession v sources chan place opened → HasSession v sources other_chan other reopened → (chan ≡ other_chan) × (place ≡ other)
 own-take sources sizes count free v moves chan other_chan place other opened reopened run same one two =
-    let equal = run.joint.owned.own one.source.set.path.0 opened.seq two.source.set.path.0 reopened.seq one.known.session two.known.session one.known.there two.known.there (one.known.number ∙ same ∙ sym two.known.number) in
+    let equal = (joint-of run).owned.own one.source.set.path.0 opened.seq two.source.set.path.0 reopened.seq one.known.session two.known.session one.known.there two.known.there (one.known.number ∙ same ∙ sym two.known.number) in
     let chans : chan ≡ other_chan = run.apart chan other_chan one.source two.source one.source_is two.source_is equal.0 in
     let both : Some two.source ≡ Some one.source = sym two.source_is ∙ ap (slice_get sources) (sym chans) ∙ one.source_is in
     let alike : two.source ≡ one.source = cc in
@@ -113,7 +118,7 @@ named-in : (sources : List Source) (sizes : List ℕ) (count free : ℕ) (v : Vi
 named-in sources sizes count free v moves run used number move is took =
     let take = take-in v.changes number move is took in
     let by = used number move.buf.0 take.0 take.1 in
-    let taken = run.joint.owned.taken by.0 by.1 by.2 by.3 in
+    let taken = (joint-of run).owned.taken by.0 by.1 by.2 by.3 in
     let buf : by.2.buf ≡ move.buf.0 = same-take by.2.number by.2.buf taken.need number move.buf.0 take.0 (sym taken.take ∙ ap (numbered v.changes) by.4 ∙ take.1) in
     let P : ℕ → Type 0 = λ n. NamesTake (map channel_of sources) n move in
     subst P by.4 (named-by sources sizes count free v moves by.0 by.1 by.2 move run by.3 buf)
@@ -127,22 +132,22 @@ pool_law_of sources sizes count free v moves run =
     subst P (sym run.moves_are) (record {
       replayed = record {
         numbered = rw (numbers-map v.changes) run.in_order;
-        count_is = run.joint.journal.count_is ∙ sym (length-map v.changes move_of);
+        count_is = (joint-of run).journal.count_is ∙ sym (length-map v.changes move_of);
         each = λ number below.
-            let one = run.joint.journal.each number below in
+            let one = (joint-of run).journal.each number below in
             (move_of one.0, numbered-map v.changes (number + 1) ∙ ap (option_map move_of) one.1, rw (free-is sizes v.changes number) (lawful sizes (replay sizes v.changes number) one.0 one.2));
-        free_is = run.joint.journal.free_is ∙ sym (free-is sizes v.changes count);
+        free_is = (joint-of run).journal.free_is ∙ sym (free-is sizes v.changes count);
       };
-      asks = each-channel sizes count free v sources run.joint run.in_order run.runs;
+      asks = each-channel sizes count free v sources (joint-of run) run.in_order run.runs;
       own = λ chan other_chan place other opened reopened is at same.
           own-take sources sizes count free v moves chan other_chan place other opened reopened run same (session-of v sources chan place opened run.runs is) (session-of v sources other_chan other reopened run.runs at);
       unused = λ number later buf takes unnamed moves_buf.
           let take = take-in v.changes number (taking number buf) takes refl in
           let Q : ℕ → Type 0 = λ n. IsUnnamed (map channel_of sources) n in
-          run.joint.owned.unused number buf.0 take.0 later take.1 (λ path seq s at is. unused-by sources sizes count free v moves path seq s run at (subst Q (sym is) unnamed)) (changes-buf v.changes buf.0 later moves_buf);
+          (joint-of run).owned.unused number buf.0 take.0 later take.1 (λ path seq s at is. unused-by sources sizes count free v moves path seq s run at (subst Q (sym is) unnamed)) (changes-buf v.changes buf.0 later moves_buf);
       next = λ number later buf takes is.
           let take = take-in v.changes number (taking number buf) takes refl in
-          numbered-map v.changes later ∙ ap (option_map move_of) (run.joint.owned.next number buf.0 take.0 later take.1 (next-change v.changes buf.0 number later is));
+          numbered-map v.changes later ∙ ap (option_map move_of) ((joint-of run).owned.next number buf.0 take.0 later take.1 (next-change v.changes buf.0 number later is));
     })
 
 freed-of : (sources : List Source) (sizes : List ℕ) (count free : ℕ) (v : View) (moves : List Move) → IsPoolRun sources sizes count free v moves → AreAllOver v → AreFreed (map channel_of sources) moves
@@ -150,7 +155,7 @@ freed-of sources sizes count free v moves run over chan place opened is =
     let of = session-of v sources chan place opened run.runs is in
     let path : ℕ = of.source.set.path.0 in
     let one = of.known in
-    let owned : AreOwned sizes v = run.joint.owned in
+    let owned : AreOwnedAlone sizes v = (joint-of run).owned in
     let s : Session = one.session in
     let gone = owned.freed path opened.seq s one.there (over path opened.seq s one.there) in
     let none : None-before v.changes s.buf s.number (s.number + 1) = λ other here after. omega (arith, after) in

@@ -18,14 +18,14 @@ use Rattle.gw_base.proofs.Lists.{all-join}
 -- a writer's call leaves the readings, and a destination's the sessions
 readings-kept : (path : ℕ) (call : Event) (v : View) → OfWriter path call → (grow call v).readings ≡ v.readings
 unfolding grow
-readings-kept path (Took number buf size need) v of = refl
-readings-kept path (Refused number free need) v of = refl
+readings-kept path (Took group number buf size need) v of = refl
+readings-kept path (Refused group number free need) v of = refl
 readings-kept path (Entered p seq buf number size len readers) v of = refl
 readings-kept path (Asked p seq cells readers) v of = refl
 readings-kept path (Put p seq cell) v of = refl
 readings-kept path (Published p seq bytes) v of = refl
 readings-kept path (Joining p dest seq buf len) v of = absurd of
-readings-kept path (Missed p dest seq) v of = absurd of
+readings-kept path (Missed group p dest seq) v of = absurd of
 readings-kept path (Saw p dest seq cells bytes writer) v of = absurd of
 readings-kept path (Read p dest seq cell) v of = absurd of
 readings-kept path (Closed p seq freed) v of = refl
@@ -33,14 +33,14 @@ readings-kept path (Parted p dest seq freed) v of = absurd of
 
 sessions-kept : (path dest : ℕ) (call : Event) (v : View) → OfDest path dest call → (grow call v).sessions ≡ v.sessions
 unfolding grow
-sessions-kept path dest (Took number buf size need) v of = absurd of
-sessions-kept path dest (Refused number free need) v of = absurd of
+sessions-kept path dest (Took group number buf size need) v of = absurd of
+sessions-kept path dest (Refused group number free need) v of = absurd of
 sessions-kept path dest (Entered p seq buf number size len readers) v of = absurd of
 sessions-kept path dest (Asked p seq cells readers) v of = absurd of
 sessions-kept path dest (Put p seq cell) v of = absurd of
 sessions-kept path dest (Published p seq bytes) v of = absurd of
 sessions-kept path dest (Joining p d seq buf len) v of = refl
-sessions-kept path dest (Missed p d seq) v of = refl
+sessions-kept path dest (Missed group p d seq) v of = refl
 sessions-kept path dest (Saw p d seq cells bytes writer) v of = refl
 sessions-kept path dest (Read p d seq cell) v of = refl
 sessions-kept path dest (Closed p seq freed) v of = absurd of

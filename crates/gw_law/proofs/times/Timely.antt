@@ -1,103 +1,61 @@
--- The law of time, of every run: what leaves is no earlier than what came.
-use Rattle.std.proofs.Common.{◌≡◌, ℕ, ◌<◌, ◌≤◌, zero, suc, false, Option, Some, None, List, [], ◌∷◌, ◌++◌, length, take, refl, ap, sym, ◌∙◌, subst, arith, append-nil}
-use Rattle.tp_sender.specs.Runs.{HasSent, cells_in as cells_read, left_by}
-use Rattle.tp_sender.specs.State.{TxTurn, tx_new, Transmission}
-use Rattle.tp_receiver.specs.Runs.{HasReceived, put_in, frames_in}
-use Rattle.tp_receiver.specs.State.{RxTurn, rx_new}
-use Rattle.hub_core.specs.Turns.{calls_by, came_by, state_after, records_by}
-use Rattle.std.specs.Prelude.{filter, slice_get}
+-- The law of time, of a receiver and a sender of its path: what leaves is less than a window earlier than what came.
+use Rattle.std.proofs.Common.{◌≡◌, ℕ, ◌+◌, ◌<◌, ◌≤◌, zero, suc, Bool, true, false, nat_le, cond, Option, Some, None, List, [], ◌∷◌, ◌++◌, length, take, get_or, refl, ap, sym, ◌∙◌, subst, arith, append-nil}
+use Rattle.std.specs.Prelude.{filter, nat_lt, slice_get}
 use Rattle.std.specs.List.{AllByRecursion, AllZip}
-use Rattle.std.proofs.lemmas.List.{length-map}
+use Rattle.std.proofs.lemmas.Bool.Decides.{nat_tests}
+use Rattle.std.proofs.lemmas.List.{length-append, length-map}
 use Rattle.std.proofs.lemmas.Option.{slice_get-get_or}
 use Rattle.gw_base.specs.Cell.{bytes_of}
-use Rattle.hub_core.specs.View.{View, Session, Reading, empty_view, grows}
+use Rattle.gw_base.proofs.Lists.{all-at, slice_get-more, zip-index}
+use Rattle.hub_core.proofs.Changed.{all-by}
+use Rattle.hub_core.proofs.Sides.{cells_at, cells_at-there}
+use Rattle.hub_core.specs.Turns.{calls_by, came_by, records_by, state_after}
+use Rattle.hub_core.specs.View.{Reading, Session, View, empty_view, grows}
 use Rattle.hub_core.specs.declared.record.DestRecord.{DestRecord}
-use Rattle.hub_core.specs.declared.record.SessionRecord.{SessionRecord}
 use Rattle.tp_attempts.specs.Attempts.{attempts_in}
 use Rattle.tp_attempts.specs.Cuts.{Cut}
 use Rattle.tp_attempts.specs.Seen.{Seen}
+use Rattle.tp_attempts.specs.Walk.{Piece, joined, walk_of}
+use Rattle.tp_receiver.specs.Runs.{HasReceived, frames_in, put_in}
+use Rattle.tp_receiver.specs.State.{RxTurn, rx_new}
 use Rattle.tp_receiver.specs.declared.set.RxSet.{RxSet}
+use Rattle.tp_sender.specs.Runs.{HasSent, cells_in as cells_read, left_by}
+use Rattle.tp_sender.specs.State.{Transmission, TxTurn, tx_new}
 use Rattle.tp_sender.specs.declared.set.TxSet.{TxSet}
-use Rattle.tp_unit.specs.Shape.{address_size}
-use Rattle.gw_law.specs.Delivery.{Delivery}
-use Rattle.gw_law.specs.Run.{Route, Work, moments_of, turns_of, view_of}
-use Rattle.receiver_law.specs.Source.{CountsFrom, sessions_in}
-use Rattle.gw_law.specs.Timely.{BeginsAfter, IsTimely, TimelyLaw, delivery_of_route}
-use Rattle.sender_law.specs.Transfer.{GoesOnWith, SendsFor, Transfer, TransferLaw, has_sent, transfer_of}
+use Rattle.receiver_law.proofs.records.SourceLaws.{source_law_of}
 use Rattle.receiver_law.proofs.sessions.Begins.{Split, begin-at, begin_going, begins-are, begins-in, begins-long, begins-more, begins_by, begins_told, splits}
+use Rattle.receiver_law.proofs.sessions.Entries.{writing}
+use Rattle.receiver_law.proofs.sessions.Openings.{openings}
+use Rattle.receiver_law.proofs.sessions.Stores.{store}
+use Rattle.receiver_law.specs.Source.{CountsFrom, sessions_in}
+use Rattle.sender_law.proofs.records.Origins.{InTicks, OfTold}
+use Rattle.sender_law.proofs.transfers.TxLaw.{law, so-far, world_of}
+use Rattle.sender_law.proofs.transfers.TxReadings.{readings}
+use Rattle.sender_law.proofs.transfers.TxWorld.{SoFar}
+use Rattle.sender_law.proofs.transfers.TxWritten.{AreWritten, written}
+use Rattle.sender_law.specs.Transfer.{GoesOnWith, SendsFor, Transfer, TransferLaw, has_sent, transfer_of}
+use Rattle.gw_law.specs.Delivery.{Delivery, delivery_of}
+use Rattle.gw_law.specs.Timely.{BeginsAfter, IsTimely, bytes_below, bytes_to}
 use Rattle.gw_law.proofs.deliveries.Deliveries.{front-bytes}
 use Rattle.gw_law.proofs.deliveries.EachSession.{at-most}
-use Rattle.gw_law.proofs.runs.Fronts.{AreRising, IsTimed, UpTo, WorkIn, as-far-up-to, moments-append, moments-in, rises-below, run-rising, run-timed, turns-append, turns-in, up-to}
-use Rattle.receiver_law.proofs.sessions.Openings.{openings}
-use Rattle.receiver_law.proofs.sessions.Entries.{writing}
-use Rattle.sender_law.proofs.records.Origins.{OfLive, OfTold, Originates, originates}
+use Rattle.gw_law.proofs.runs.Meetings.{AsFar}
+use Rattle.gw_law.proofs.runs.Moments.{Moment, Whole, moment, received, sent}
 use Rattle.gw_law.proofs.times.RxUpTo.{put-up-to}
-use Rattle.hub_core.proofs.Sides.{cells_at, cells_at-there}
-use Rattle.receiver_law.proofs.records.SourceLaws.{source_law_of}
-use Rattle.receiver_law.proofs.sessions.Stores.{store}
-use Rattle.sender_law.proofs.transfers.TxLaw.{law, so-far, world_of}
-use Rattle.gw_base.proofs.Lists.{all-at, all-weaker, slice_get-more, zip-index}
-use Rattle.sender_law.proofs.transfers.TxReadings.{readings}
-use Rattle.gw_law.proofs.times.TxUpTo.{sent-up-to}
-use Rattle.sender_law.proofs.transfers.TxWorld.{SoFar}
-use Rattle.sender_law.proofs.transfers.TxWritten.{AreWritten, ticks-counted, written}
-use Rattle.gw_law.proofs.runs.Wholes.{AsFar}
-use Rattle.gw_law.proofs.runs.WholeRun.{WholeRun, route, works_of}
-
--- a session of that number began by that tick
-abbrev pub IsBegun : List ℕ → ℕ → ℕ → Type 0
-IsBegun begins seq tick = (begin : ℕ) × (slice_get begins seq ≡ Some begin) × (begin ≤ tick)
-
-begun-so : (begins : List ℕ) (seq tick : ℕ) → seq < length begins → AllByRecursion (λ (b : ℕ). b ≤ tick) begins → IsBegun begins seq tick
-begun-so begins seq tick below all =
-    let is = slice_get-get_or begins seq 0 below in
-    (_, is, all-at (λ (b : ℕ). b ≤ tick) begins seq _ all is)
+use Rattle.gw_law.proofs.times.TxUpTo.{IsJoinedAfter, before-next, joined-by, sent-up-to}
 
 -- what is joined is entered
-joined-entered : (rx : RxSet) (tx : TxSet) (sizes : List ℕ) (works : List Work) → AsFar rx tx sizes works → (state_after tx_new (moments_of works)).next ≤ length (begins_by (turns_of works))
-joined-entered rx tx sizes works far =
-    let v : View = view_of works in
-    let moments : List TxTurn = moments_of works in
-    let turns : List RxTurn = turns_of works in
+joined-entered : (rx : RxSet) (tx : TxSet) (turns : List RxTurn) (moments : List TxTurn) (v : View) → AsFar rx tx turns moments v → (state_after tx_new moments).next ≤ length (begins_by turns)
+joined-entered rx tx turns moments v far =
     let so : SoFar tx.shape (world_of tx moments) = so-far tx moments far.shape far.sent in
     let read = readings tx moments far.sent empty_view refl in
     let known : List Reading = (grows (calls_by moments) empty_view).readings tx.path.0 tx.dest.0 in
-    let joined : length known ≡ (state_after tx_new moments).next = sym (length-map known (λ (r : Reading). r.len)) ∙ ap length read.fixed ∙ so.lens in
+    let joins : length known ≡ (state_after tx_new moments).next = sym (length-map known (λ (r : Reading). r.len)) ∙ ap length read.fixed ∙ so.lens in
     let most : (state_after tx_new moments).next ≤ length (v.sessions tx.path.0) =
-    at-most tx v known (state_after tx_new moments).next far.readings joined (λ seq r is. let s = far.joint.2.streams.joined tx.path.0 tx.dest.0 seq r is in (s.0, s.1)) in
+    at-most tx v known (state_after tx_new moments).next far.readings joins (λ seq r is. let s = far.met.streams.joined tx.path.0 tx.dest.0 seq r is in (s.0, s.1)) in
     let put = (openings rx turns far.received).fill empty_view refl in
     let entered : length (v.sessions rx.path.0) ≡ length (begins_by turns) =
     ap length far.sessions ∙ sym (length-map ((grows (calls_by turns) empty_view).sessions rx.path.0) (writing rx.path.0).fixed) ∙ ap length put.fixed ∙ sym (begins-long turns) in
     omega (arith, most, ap (λ p. length (v.sessions p)) (ap (λ p. p.0) far.path), entered)
-
-live-map : (Q R : ℕ → ℕ → Type 0) (live : Option Transmission) → ((seq begin : ℕ) → Q seq begin → R seq begin) → OfLive Q live → OfLive R live
-live-map Q R None on is = tt
-live-map Q R (Some s) on is = on s.seq s.begin is
-
--- each joined session began by the tick of its join
-begun-by : (rx : RxSet) (tx : TxSet) (sizes : List ℕ) (works : List Work) → ((later front : List Work) → later ++ front ≡ works → AsFar rx tx sizes front) → AllByRecursion IsTimed works → AreRising works → Originates (IsBegun (begins_by (turns_of works))) (moments_of works)
-begun-by rx tx sizes [] far timed rising = record { told = tt; live = tt }
-begun-by rx tx sizes (work ∷ earlier) far timed rising =
-    let here : AsFar rx tx sizes (work ∷ earlier) = far [] (work ∷ earlier) refl in
-    let old : List ℕ = begins_by (turns_of earlier) in
-    let all : List ℕ = begins_by (turns_of (work ∷ earlier)) in
-    let more = begins-more work.turns (turns_of earlier) in
-    let on : (seq begin : ℕ) → IsBegun old seq begin → IsBegun all seq begin = λ seq begin is. (is.0, ap (λ l. slice_get l seq) more.1 ∙ slice_get-more old more.0 seq is.0 is.1, is.2) in
-    let so : Originates (IsBegun old) (moments_of earlier) = begun-by rx tx sizes earlier (λ later front is. far (work ∷ later) front (ap (λ l. work ∷ l) is)) timed.1 rising.1 in
-    let before : Originates (IsBegun all) (moments_of earlier) = record { told = all-weaker (OfTold (IsBegun old)) (OfTold (IsBegun all)) (records_by (moments_of earlier)) (λ told is. on told.seq told.begin.0 is) so.told; live = live-map (IsBegun old) (IsBegun all) (state_after tx_new (moments_of earlier)).live on so.live } in
-    let past : AllByRecursion (λ (b : ℕ). b ≤ work.tick) all =
-    begins-in (λ (b : ℕ). b ≤ work.tick) (turns_of (work ∷ earlier)) (turns-in (λ (t : ℕ). t ≤ work.tick) (work ∷ earlier) timed (rises-below work.tick (work ∷ earlier) (omega arith) rising)) in
-    (originates (λ (t : ℕ). t ≡ work.tick) (IsBegun all) tx (length all) work.moments (moments_of earlier)
-    (λ number tick at below. let is = begun-so all number work.tick below past in (is.0, is.1, omega (arith, is.2, at))) here.sent timed.0.moments (joined-entered rx tx sizes (work ∷ earlier) here) before).0
-
--- the record of the session began then
-begins-after : (d : Delivery) (begins : List ℕ) (told : DestRecord) → begins ≡ begins_told d.received → CountsFrom 0 (sessions_in d.received) → OfTold (IsBegun begins) told → BeginsAfter d told
-begins-after d begins told is counts of unit session named =
-    let sp : Split d.received named.place session = splits d.received named.place session named.session_is in
-    let at : slice_get (begins_told d.received) named.opened.seq ≡ Some session.begin.0 = begin-at d.received sp.before sp.after session named.opened sp.is counts named.opened_is in
-    let both : Some session.begin.0 ≡ Some of.0 = sym at ∙ ap (slice_get (begins_told d.received)) named.seq_is ∙ ap (λ l. slice_get l told.seq) (sym is) ∙ of.1 in
-    let same : session.begin.0 ≡ of.0 = cc in
-    omega (arith, same, of.2)
 
 cells-none : (seq : ℕ) (known : List Reading) → slice_get known seq ≡ None → cells_at (λ (x : Reading). x.cells) seq known ≡ []
 cells-none seq [] is = refl
@@ -105,92 +63,129 @@ cells-none zero (r ∷ known) is = cc
 cells-none (suc seq) (r ∷ known) is = cells-none seq known is
 
 -- what is read of a session is a front of what is put into it
-read-put : (rx : RxSet) (tx : TxSet) (sizes : List ℕ) (works : List Work) (seq : ℕ) (known : Option Reading) → AsFar rx tx sizes works → slice_get ((grows (calls_by (moments_of works)) empty_view).readings tx.path.0 tx.dest.0) seq ≡ known →
-    length (bytes_of (cells_read seq (calls_by (moments_of works)))) ≤ length (bytes_of (put_in rx (turns_of works) seq))
-read-put rx tx sizes works seq None far is =
-    let read = readings tx (moments_of works) far.sent empty_view refl in
-    omega (arith, ap (λ c. length (bytes_of c)) (sym (read.cells seq) ∙ cells-none seq ((grows (calls_by (moments_of works)) empty_view).readings tx.path.0 tx.dest.0) is))
-read-put rx tx sizes works seq (Some r) far is =
-    let read = readings tx (moments_of works) far.sent empty_view refl in
-    let put = (openings rx (turns_of works) far.received).fill empty_view refl in
-    let known = far.joint.2.streams.joined tx.path.0 tx.dest.0 seq r (ap (λ l. slice_get l seq) far.readings ∙ is) in
+read-put : (rx : RxSet) (tx : TxSet) (turns : List RxTurn) (moments : List TxTurn) (v : View) (seq : ℕ) (known : Option Reading) → AsFar rx tx turns moments v → slice_get ((grows (calls_by moments) empty_view).readings tx.path.0 tx.dest.0) seq ≡ known →
+    length (bytes_of (cells_read seq (calls_by moments))) ≤ length (bytes_of (put_in rx turns seq))
+read-put rx tx turns moments v seq None far is =
+    let read = readings tx moments far.sent empty_view refl in
+    omega (arith, ap (λ c. length (bytes_of c)) (sym (read.cells seq) ∙ cells-none seq ((grows (calls_by moments) empty_view).readings tx.path.0 tx.dest.0) is))
+read-put rx tx turns moments v seq (Some r) far is =
+    let read = readings tx moments far.sent empty_view refl in
+    let put = (openings rx turns far.received).fill empty_view refl in
+    let known = far.met.streams.joined tx.path.0 tx.dest.0 seq r (ap (λ l. slice_get l seq) far.readings ∙ is) in
     let s : Session = known.0 in
-    let session : slice_get ((grows (calls_by (turns_of works)) empty_view).sessions rx.path.0) seq ≡ Some s =
-    sym (ap (λ l. slice_get l seq) far.sessions) ∙ ap (λ (p : ℕ). slice_get ((view_of works).sessions p) seq) (sym (ap (λ p. p.0) far.path)) ∙ known.1 in
-    let cells : s.cells ≡ put_in rx (turns_of works) seq = sym (cells_at-there (λ (x : Session). x.cells) seq ((grows (calls_by (turns_of works)) empty_view).sessions rx.path.0) s session) ∙ put.cells seq in
-    let cells_were : r.cells ≡ cells_read seq (calls_by (moments_of works)) = sym (cells_at-there (λ (x : Reading). x.cells) seq ((grows (calls_by (moments_of works)) empty_view).readings tx.path.0 tx.dest.0) r is) ∙ read.cells seq in
-    (front-bytes (put_in rx (turns_of works) seq) (bytes_of (cells_read seq (calls_by (moments_of works)))) (length r.cells) 0 (ap bytes_of (sym cells_were ∙ known.2.prefix) ∙ ap (λ c. bytes_of (take (length r.cells) c)) cells) (omega arith)).0
+    let session : slice_get ((grows (calls_by turns) empty_view).sessions rx.path.0) seq ≡ Some s = sym (ap (λ l. slice_get l seq) far.sessions) ∙ ap (λ (p : ℕ). slice_get (v.sessions p) seq) (sym (ap (λ p. p.0) far.path)) ∙ known.1 in
+    let cells : s.cells ≡ put_in rx turns seq = sym (cells_at-there (λ (x : Session). x.cells) seq ((grows (calls_by turns) empty_view).sessions rx.path.0) s session) ∙ put.cells seq in
+    let cells_were : r.cells ≡ cells_read seq (calls_by moments) = sym (cells_at-there (λ (x : Reading). x.cells) seq ((grows (calls_by moments) empty_view).readings tx.path.0 tx.dest.0) r is) ∙ read.cells seq in
+    (front-bytes (put_in rx turns seq) (bytes_of (cells_read seq (calls_by moments))) (length r.cells) 0 (ap bytes_of (sym cells_were ∙ known.2.prefix) ∙ ap (λ c. bytes_of (take (length r.cells) c)) cells) (omega arith)).0
 
-all-parts : {A : Type 0} (P : A → Type 0) (xs ys : List A) → AllByRecursion P (xs ++ ys) → AllByRecursion P xs × AllByRecursion P ys
-all-parts P [] ys all = (tt, all)
-all-parts P (x ∷ xs) ys all = let so = all-parts P xs ys all.1 in ((all.0, so.0), so.1)
+-- bytes up to a later tick are no fewer
+more-by : (one : Piece) (low high : List Piece) (early late : Bool) → (early ≡ true → late ≡ true) → length (joined low) ≤ length (joined high) → length (joined (cond early (one ∷ low) low)) ≤ length (joined (cond late (one ∷ high) high))
+more-by one low high true true on le = rw (length-append one.bytes (joined low), length-append one.bytes (joined high)) (omega (arith, le))
+more-by one low high true false on le = let no : false ≡ true = on refl in cc
+more-by one low high false true on le = rw length-append (omega (arith, le))
+more-by one low high false false on le = le
 
--- a transmission, and the record in its place
-record IsAt (tx : TxSet) (k : ℕ) (cut : Cut Seen) (told : DestRecord) (moments : List TxTurn) : Type 0 where
-  sent : HasSent tx moments
-  cut_is : slice_get (attempts_in false (transfer_of tx moments).frames) k ≡ Some cut
-  told_is : slice_get (filter has_sent (records_by moments)) k ≡ Some told
-  sends : SendsFor (transfer_of tx moments) cut told
+le-on : (at low high : ℕ) → low ≤ high → nat_le at low ≡ true → nat_le at high ≡ true
+le-on at low high le is = grind (arith, nat_tests, is, le)
 
--- a session's record, and the unit in its place
-record IsOf (rx : RxSet) (place : ℕ) (unit : Cut Seen) (session : SessionRecord) (turns : List RxTurn) : Type 0 where
-  received : HasReceived rx turns
-  idle : (state_after rx_new turns).busy ≡ None
-  unit_is : slice_get (attempts_in rx.functional (came_by frames_in turns)) place ≡ Some unit
-  session_is : slice_get (records_by turns) place ≡ Some session
+lt-on : (at low high : ℕ) → low < high → nat_le at low ≡ true → nat_lt at high ≡ true
+lt-on at low high lt is = grind (arith, nat_tests, is, lt)
 
-is-timely : (o : WholeRun) (d : Delivery) (k : ℕ) (cut : Cut Seen) (told : DestRecord) →
-    d.address ≡ address_size o.tx.shape → d.source ≡ o.rx.a → d.functional ≡ o.rx.functional → d.seen ≡ came_by frames_in (turns_of (works_of o)) → d.received ≡ records_by (turns_of (works_of o)) → IsAt o.tx k cut told (moments_of (works_of o)) → IsTimely d cut told
-is-timely o d k cut told address source functional seen received at unit session named tick =
-    let works : List Work = works_of o in
-    let up : UpTo tick works = up-to tick works (run-rising o) in
-    let timed : AllByRecursion IsTimed works = run-timed o in
-    let T : List Work → Type 0 = λ l. AllByRecursion IsTimed l in
-    let both = all-parts IsTimed up.later up.front (subst T (sym up.is) timed) in
-    let far : AsFar o.rx o.tx o.sizes up.front = as-far-up-to o up.later up.front up.is in
-    let M : List TxTurn → Type 0 = λ l. IsAt o.tx k cut told l in
-    let so : IsAt o.tx k cut told (moments_of up.later ++ moments_of up.front) = subst M (ap moments_of (sym up.is) ∙ moments-append up.later up.front) at in
-    let R : List RxTurn → Type 0 = λ l. IsOf o.rx named.place unit session l in
-    let of : IsOf o.rx named.place unit session (turns_of works) = record {
-      received = o.run.received;
-      idle = o.run.ends.idle.receiver;
-      unit_is = ap (λ l. slice_get l named.place) (ap (λ l. attempts_in o.rx.functional l) (sym seen) ∙ ap (λ f. attempts_in f d.seen) (sym functional)) ∙ named.unit_is;
-      session_is = ap (λ l. slice_get l named.place) (sym received) ∙ named.session_is;
-    } in
-    let is : IsOf o.rx named.place unit session (turns_of up.later ++ turns_of up.front) = subst R (ap turns_of (sym up.is) ∙ turns-append up.later up.front) of in
-    let sent = sent-up-to o.tx (moments_of up.later) (moments_of up.front) tick k cut told o.run.shape so.sent (moments-in (λ (t : ℕ). tick < t) up.later both.0 up.late) (moments-in (λ (t : ℕ). t ≤ tick) up.front both.1 up.early) so.cut_is so.told_is so.sends in
-    let put = put-up-to o.rx (turns_of up.later) (turns_of up.front) tick named.place unit session named.opened is.received is.idle (turns-in (λ (t : ℕ). tick < t) up.later both.0 up.late) (turns-in (λ (t : ℕ). t ≤ tick) up.front both.1 up.early) is.unit_is is.session_is named.opened_is in
-    rw (address, source) (omega (arith, sent, read-put o.rx o.tx o.sizes up.front told.seq _ far refl, ap (λ n. length (store o.rx.path.0 (calls_by (turns_of up.front)) n)) named.seq_is, put))
+to-later : (low high : ℕ) (pieces : List Piece) → low ≤ high → bytes_to low pieces ≤ bytes_to high pieces
+to-later low high [] le = omega arith
+to-later low high (piece ∷ pieces) le = more-by piece _ _ (nat_le piece.at low) (nat_le piece.at high) (le-on piece.at low high le) (to-later low high pieces le)
 
-any-tick : (works : List Work) → AllByRecursion (WorkIn (λ (t : ℕ). Unit {0})) works
-any-tick [] = tt
-any-tick (work ∷ works) = (tt, any-tick works)
+pub to-below : (low high : ℕ) (pieces : List Piece) → low < high → bytes_to low pieces ≤ bytes_below high pieces
+to-below low high [] lt = omega arith
+to-below low high (piece ∷ pieces) lt = more-by piece _ _ (nat_le piece.at low) (nat_lt piece.at high) (lt-on piece.at low high lt) (to-below low high pieces lt)
+
+-- what both tell
+abbrev pub told : Whole → Delivery
+told o = delivery_of o.pair.rx.set (received o) o.pair.tx.set (sent o)
+
+-- the receiver is idle at the end, and the sender too
+pub record AreIdle (o : Whole) : Type 0 where
+  pub rx : (state_after rx_new (received o)).busy ≡ None
+  pub tx : (state_after tx_new (sent o)).live ≡ None
+
+-- the k-th transmission has sent no more bytes up to a tick than come below a window later
+is-timely : (o : Whole) (k : ℕ) (cut : Cut Seen) (record_k : DestRecord) → AreIdle o → slice_get (attempts_in false (transfer_of o.pair.tx.set (sent o)).frames) k ≡ Some cut → slice_get (filter has_sent (records_by (sent o))) k ≡ Some record_k →
+    SendsFor (transfer_of o.pair.tx.set (sent o)) cut record_k → IsTimely o.pair.most (told o) cut record_k
+is-timely o k cut record_k idle cut_is told_is sends unit session named tick =
+    let rx : RxSet = o.pair.rx.set in
+    let tx : TxSet = o.pair.tx.set in
+    let m : Moment o tick = moment o tick in
+    let H : List TxTurn → Type 0 = λ l. HasSent tx l in
+    let K : List TxTurn → Type 0 = λ l. slice_get (attempts_in false (transfer_of tx l).frames) k ≡ Some cut in
+    let T : List TxTurn → Type 0 = λ l. slice_get (filter has_sent (records_by l)) k ≡ Some record_k in
+    let S : List TxTurn → Type 0 = λ l. SendsFor (transfer_of tx l) cut record_k in
+    let R : List RxTurn → Type 0 = λ l. HasReceived rx l in
+    let I : List RxTurn → Type 0 = λ l. (state_after rx_new l).busy ≡ None in
+    let U : List RxTurn → Type 0 = λ l. slice_get (attempts_in rx.functional (came_by frames_in l)) named.place ≡ Some unit in
+    let V : List RxTurn → Type 0 = λ l. slice_get (records_by l) named.place ≡ Some session in
+    let gone = sent-up-to tx m.tx_later m.tx_front m.past k cut record_k o.far.shape (subst H (sym m.tx_is) o.far.sent) m.tx_late m.tx_early (subst K (sym m.tx_is) cut_is) (subst T (sym m.tx_is) told_is) (subst S (sym m.tx_is) sends) in
+    let put = put-up-to rx m.rx_later m.rx_front m.past named.place unit session named.opened (subst R (sym m.rx_is) o.far.received) (subst I (sym m.rx_is) idle.rx) m.rx_late m.rx_early (subst U (sym m.rx_is) named.unit_is) (subst V (sym m.rx_is) named.session_is) named.opened_is in
+    omega (
+      arith,
+      to-later tick m.past (walk_of (told o).address cut).pieces m.above,
+      gone,
+      read-put rx tx m.rx_front m.tx_front m.view record_k.seq _ m.far refl,
+      ap (λ n. length (store rx.path.0 (calls_by m.rx_front) n)) named.seq_is,
+      put,
+      to-below m.past (tick + o.pair.most) (walk_of (told o).source unit).pieces m.near,
+    )
+
+-- the session of a record that begins in a tick was entered by less than a window later
+begins-after : (o : Whole) (one : DestRecord) (place : ℕ) → AreIdle o → slice_get (records_by (sent o)) place ≡ Some one → BeginsAfter o.pair.most (told o) one
+begins-after o one place idle there unit session named =
+    let rx : RxSet = o.pair.rx.set in
+    let tx : TxSet = o.pair.tx.set in
+    let m : Moment o one.begin.0 = moment o one.begin.0 in
+    let H : List TxTurn → Type 0 = λ l. HasSent tx l in
+    let T : List TxTurn → Type 0 = λ l. slice_get (records_by l) place ≡ Some one in
+    let joins : (state_after tx_new m.tx_front).next ≤ one.seq → m.past < one.begin.0 =
+    all-at (OfTold (IsJoinedAfter (state_after tx_new m.tx_front).next m.past)) (records_by (m.tx_later ++ m.tx_front)) place one (joined-by tx m.tx_later m.tx_front m.past o.far.shape (subst H (sym m.tx_is) o.far.sent) m.tx_late) (subst T (sym m.tx_is) there) in
+    let below : one.seq < (state_after tx_new m.tx_front).next = before-next (state_after tx_new m.tx_front).next one.seq m.past one.begin.0 joins m.above in
+    let entered = joined-entered rx tx m.rx_front m.tx_front m.view m.far in
+    let first : ℕ = get_or (begins_by m.rx_front) one.seq 0 in
+    let begun : slice_get (begins_by m.rx_front) one.seq ≡ Some first = slice_get-get_or (begins_by m.rx_front) one.seq 0 (omega (arith, below, entered)) in
+    let early = all-at (λ (b : ℕ). b ≤ m.past) (begins_by m.rx_front) one.seq first (begins-in (λ (t : ℕ). t ≤ m.past) m.rx_front m.rx_early) begun in
+    let more = begins-more m.rx_later m.rx_front in
+    let all : begins_by (received o) ≡ begins_told (records_by (received o)) =
+    begins-are rx (received o) o.far.received ∙ ap (λ b. begins_told (records_by (received o)) ++ begin_going b) idle.rx ∙ append-nil (begins_told (records_by (received o))) in
+    let counts : CountsFrom 0 (sessions_in (records_by (received o))) = (source_law_of rx (received o) o.far.received idle.rx).sessions in
+    let sp : Split (records_by (received o)) named.place session = splits (records_by (received o)) named.place session named.session_is in
+    let at : slice_get (begins_told (records_by (received o))) named.opened.seq ≡ Some session.begin.0 = begin-at (records_by (received o)) sp.before sp.after session named.opened sp.is counts named.opened_is in
+    let found : slice_get (begins_told (records_by (received o))) one.seq ≡ Some first = ap (λ l. slice_get l one.seq) (sym all ∙ ap begins_by (sym m.rx_is) ∙ more.1) ∙ slice_get-more (begins_by m.rx_front) more.0 one.seq first begun in
+    let both : Some session.begin.0 ≡ Some first = sym at ∙ ap (slice_get (begins_told (records_by (received o)))) named.seq_is ∙ found in
+    let same : session.begin.0 ≡ first = cc in
+    omega (arith, same, early, m.near)
 
 -- where no transmission goes on, all have ended
 all-ended : (t : Transfer) (now : ℕ) (live : Option Transmission) (ended going : List (Cut Seen)) → live ≡ None → GoesOnWith t now live going → ended ++ going ≡ ended
 all-ended t now None ended going is goes = ap (λ l. ended ++ l) goes ∙ append-nil ended
 all-ended t now (Some s) ended going is goes = cc
 
-pub timely : (o : WholeRun) → TimelyLaw (route o)
-timely o =
-    let works : List Work = works_of o in
-    let r : Route = route o in
-    let d : Delivery = delivery_of_route r in
-    let t : Transfer = transfer_of o.tx (moments_of works) in
-    let timed : AllByRecursion IsTimed works = run-timed o in
-    let transfer : TransferLaw t = law o.tx (moments_of works) o.run.shape o.run.sent in
-    let ended : attempts_in false t.frames ≡ transfer.ended = transfer.cut ∙ all-ended t t.now t.live transfer.ended transfer.going o.run.ends.idle.sender transfer.goes_on in
-    let sends : AllZip (SendsFor t) (attempts_in false t.frames) (filter has_sent t.records) = rw ended transfer.sends in
-    let begins : begins_by (turns_of works) ≡ begins_told (records_by (turns_of works)) =
-    begins-are o.rx (turns_of works) o.run.received ∙ ap (λ b. begins_told (records_by (turns_of works)) ++ begin_going b) o.run.ends.idle.receiver ∙ append-nil (begins_told (records_by (turns_of works))) in
-    let begun : Originates (IsBegun (begins_by (turns_of works))) (moments_of works) =
-    begun-by o.rx o.tx o.sizes works (λ later front is. as-far-up-to o later front is) timed (run-rising o) in
-    let counts : CountsFrom 0 (sessions_in (records_by (turns_of works))) = (source_law_of o.rx (turns_of works) o.run.received o.run.ends.idle.receiver).sessions in
-    let frames : AreWritten o.tx.shape (left_by o.tx.shape (moments_of works)) = written (λ (n : ℕ). Unit {0}) o.tx (moments_of works) o.run.shape o.run.sent (moments-in (λ (n : ℕ). Unit {0}) works timed (any-tick works)) in
-    record {
-      begins = all-weaker (OfTold (IsBegun (begins_by (turns_of works)))) (BeginsAfter d) (records_by (moments_of works)) (λ told of. begins-after d (begins_by (turns_of works)) told begins counts of) begun.told;
-      timely = zip-index (SendsFor t) (IsTimely d) (attempts_in false t.frames) (filter has_sent t.records)
-          (λ k cut told cut_is told_is sends_so. is-timely o d k cut told refl refl refl refl refl (record { sent = o.run.sent; cut_is = cut_is; told_is = told_is; sends = sends_so })) sends;
-      own = frames.own;
-      counted = frames.counted ∙ ticks-counted t (attempts_in false t.frames) (filter has_sent t.records) sends;
-    }
+-- each transmission, with its record
+pub sends-all : (o : Whole) → AreIdle o → AllZip (SendsFor (transfer_of o.pair.tx.set (sent o))) (attempts_in false (transfer_of o.pair.tx.set (sent o)).frames) (filter has_sent (records_by (sent o)))
+sends-all o idle =
+    let t : Transfer = transfer_of o.pair.tx.set (sent o) in
+    let transfer : TransferLaw t = law o.pair.tx.set (sent o) o.far.shape o.far.sent in
+    let ended : attempts_in false t.frames ≡ transfer.ended = transfer.cut ∙ all-ended t t.now t.live transfer.ended transfer.going idle.tx transfer.goes_on in
+    rw ended transfer.sends
+
+pub timely-all : (o : Whole) → AreIdle o → AllZip (IsTimely o.pair.most (told o)) (attempts_in false (transfer_of o.pair.tx.set (sent o)).frames) (filter has_sent (records_by (sent o)))
+timely-all o idle =
+    zip-index (SendsFor (transfer_of o.pair.tx.set (sent o))) (IsTimely o.pair.most (told o)) (attempts_in false (transfer_of o.pair.tx.set (sent o)).frames) (filter has_sent (records_by (sent o)))
+    (λ k cut one cut_is told_is sends. is-timely o k cut one idle cut_is told_is sends) (sends-all o idle)
+
+pub begins-all : (o : Whole) → AreIdle o → AllByRecursion (BeginsAfter o.pair.most (told o)) (records_by (sent o))
+begins-all o idle = all-by (BeginsAfter o.pair.most (told o)) (records_by (sent o)) (λ place one there. begins-after o one place idle there)
+
+any-turn : (turns : List TxTurn) → AllByRecursion (InTicks (λ (t : ℕ). Unit {0})) turns
+any-turn [] = tt
+any-turn (turn ∷ turns) = (tt, any-turn turns)
+
+-- the frames that a sender wrote are its channel's
+pub frames-of : (o : Whole) → AreWritten o.pair.tx.set.shape (left_by o.pair.tx.set.shape (sent o))
+frames-of o = written (λ (n : ℕ). Unit {0}) o.pair.tx.set (sent o) o.far.shape o.far.sent (any-turn (sent o))

@@ -68,11 +68,11 @@ joined-before set moments tick sound happened =
     }
 
 -- a record that begins by a tick is of a session that was joined in the moments up to then
-joined-by : (set : TxSet) (later front : List TxTurn) (tick : ℕ) → IsShape set.shape → HasSent set (later ++ front) → AllByRecursion (InTicks (λ (t : ℕ). tick < t)) later → AllByRecursion (OfTold (IsJoinedAfter (state_after tx_new front).next tick)) (records_by (later ++ front))
+pub joined-by : (set : TxSet) (later front : List TxTurn) (tick : ℕ) → IsShape set.shape → HasSent set (later ++ front) → AllByRecursion (InTicks (λ (t : ℕ). tick < t)) later → AllByRecursion (OfTold (IsJoinedAfter (state_after tx_new front).next tick)) (records_by (later ++ front))
 joined-by set later front tick sound happened late =
     (originates (λ (t : ℕ). tick < t) (IsJoinedAfter (state_after tx_new front).next tick) set (state_after tx_new (later ++ front)).next later front (λ number t at below le. at) happened late (omega arith) (joined-before set front tick sound (happened-front _ later front happened))).0.told
 
-before-next : (next seq tick begin : ℕ) → (next ≤ seq → tick < begin) → begin ≤ tick → seq < next
+pub before-next : (next seq tick begin : ℕ) → (next ≤ seq → tick < begin) → begin ≤ tick → seq < next
 before-next next seq tick begin after by = elim (cases_lt seq next) [
   | inl below ↦ below
   | inr above ↦ absurd (omega (arith, after above, by))

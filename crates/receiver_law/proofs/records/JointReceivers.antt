@@ -100,9 +100,9 @@ unfolding grow
 grow-closed path seq freed v = at_one-same path _ v.sessions
 
 -- a session is opened
-grow-took : (path number buf size need : ℕ) (v : View) → (grow (Took number buf size need) v).sessions path ≡ v.sessions path
+grow-took : (group path number buf size need : ℕ) (v : View) → (grow (Took group number buf size need) v).sessions path ≡ v.sessions path
 unfolding grow
-grow-took path number buf size need v = refl
+grow-took group path number buf size need v = refl
 
 grow-entered : (path seq buf number size len readers : ℕ) (v : View) → (grow (Entered path seq buf number size len readers) v).sessions path ≡ v.sessions path ++ session_new buf number size len readers ∷ []
 unfolding grow
@@ -112,9 +112,9 @@ opens-so : (set : RxSet) (next seq len size tick : ℕ) (bytes : List ℕ) (open
     KnownIn set (grows opening v) records (seq + 1) (Some (begun next len size (length bytes) tick opened))
 opens-so set next seq len size tick bytes opened opening v records row known =
     let path : ℕ = set.path.0 in
-    let w : View = grow (Entered path seq opened.buf.0 opened.change row.size len set.readers) (grow (Took opened.change opened.buf.0 row.size row.need) v) in
+    let w : View = grow (Entered path seq opened.buf.0 opened.change row.size len set.readers) (grow (Took set.group.0 opened.change opened.buf.0 row.size row.need) v) in
     let sessions : w.sessions path ≡ v.sessions path ++ session_new opened.buf.0 opened.change row.size len set.readers ∷ [] =
-    grow-entered path seq opened.buf.0 opened.change row.size len set.readers (grow (Took opened.change opened.buf.0 row.size row.need) v) ∙ ap (λ l. l ++ session_new opened.buf.0 opened.change row.size len set.readers ∷ []) (grow-took path opened.change opened.buf.0 row.size row.need v) in
+    grow-entered path seq opened.buf.0 opened.change row.size len set.readers (grow (Took set.group.0 opened.change opened.buf.0 row.size row.need) v) ∙ ap (λ l. l ++ session_new opened.buf.0 opened.change row.size len set.readers ∷ []) (grow-took set.group.0 path opened.change opened.buf.0 row.size row.need v) in
     let one : Known set (w.sessions path) records (seq + 1) (Some (record { at = seq; len = len; bytes = 0 })) = rw sessions (known-entered set (v.sessions path) records seq opened.buf.0 opened.change row.size len known) in
     let two : Known set ((grows (puts path seq row.cells) w).sessions path) records (seq + 1) (Some (record { at = seq; len = len; bytes = length bytes })) = known-puts set w records (seq + 1) (length bytes) (record { at = seq; len = len; bytes = 0 }) bytes row.cells (omega arith) row.packed one in
     rw (row.calls_are, row.seq_is) two
@@ -128,9 +128,9 @@ record KnownAt (set : RxSet) (v : View) (records : List SessionRecord) (stage : 
   known : KnownBy set v records stage.state
   looked : IsLookedOf stage.state.busy stage.look (v.sessions set.path.0)
 
-grow-refused : (path number free need : ℕ) (v : View) → (grow (Refused number free need) v).sessions path ≡ v.sessions path
+grow-refused : (group path number free need : ℕ) (v : View) → (grow (Refused group number free need) v).sessions path ≡ v.sessions path
 unfolding grow
-grow-refused path number free need v = refl
+grow-refused group path number free need v = refl
 
 -- a look at the room
 looks-at : (set : RxSet) (v : View) (records : List SessionRecord) (seq : ℕ) (busy : Reception) (look : Room) → KnownIn set v records seq (Some busy) → IsLookedOf (Some busy) (Some look) ((grow (Asked set.path.0 busy.opened.seq look.cells look.readers) v).sessions set.path.0)
@@ -162,7 +162,7 @@ none-read set event old busy result sessions was at looked s there is = let gone
 known-effect : (set : RxSet) (event : RxEvent) (tick : ℕ) (old : RxStage) (done : RxDone) (v : View) (records : List SessionRecord) → RxEffect set event tick old done → KnownAt set v records old → KnownAt set (grows done.calls v) (records ++ done.records) done.new
 known-effect set event tick old done v records (Refuses e) so =
     let known : KnownIn set v records old.state.seq None = subst (KnownIn set v records old.state.seq) e.of.idle so.known in
-    rw (e.calls, e.records, e.new) (record { known = rw (grow-refused set.path.0 e.number e.free _ v) (known-refused set (v.sessions set.path.0) records old.state.seq None _ refl known); looked = unlooked None _ })
+    rw (e.calls, e.records, e.new) (record { known = rw (grow-refused set.group.0 set.path.0 e.number e.free _ v) (known-refused set (v.sessions set.path.0) records old.state.seq None _ refl known); looked = unlooked None _ })
 known-effect set event tick old done v records (Opens e) so =
     let known : KnownIn set v records old.state.seq None = subst (KnownIn set v records old.state.seq) e.of.idle so.known in
     rw (e.records, e.new, append-nil) (record { known = opens-so set old.state.next old.state.seq _ e.size tick _ e.opened done.calls v records e.opens known; looked = unlooked _ _ })

@@ -24,13 +24,13 @@ use Rattle.tp_receiver.proofs.Through.{state-through}
 -- the tick of a call that entered a session
 abbrev pub begin_by : ℕ → Event → List ℕ
 begin_by tick (Entered path seq buf number size len readers) = tick ∷ []
-begin_by tick (Took number buf size need) = []
-begin_by tick (Refused number free need) = []
+begin_by tick (Took group number buf size need) = []
+begin_by tick (Refused group number free need) = []
 begin_by tick (Asked path seq cells readers) = []
 begin_by tick (Put path seq cell) = []
 begin_by tick (Published path seq bytes) = []
 begin_by tick (Joining path dest seq buf len) = []
-begin_by tick (Missed path dest seq) = []
+begin_by tick (Missed group path dest seq) = []
 begin_by tick (Saw path dest seq cells bytes writer) = []
 begin_by tick (Read path dest seq cell) = []
 begin_by tick (Closed path seq freed) = []
@@ -103,13 +103,13 @@ begins-more (turn ∷ turns) earlier =
 -- each is entered in a tick of the turns
 in-call : (P : ℕ → Type 0) (tick : ℕ) (call : Event) → P tick → AllByRecursion P (begin_by tick call)
 in-call P tick (Entered path seq buf number size len readers) at = (at, tt)
-in-call P tick (Took number buf size need) at = tt
-in-call P tick (Refused number free need) at = tt
+in-call P tick (Took group number buf size need) at = tt
+in-call P tick (Refused group number free need) at = tt
 in-call P tick (Asked path seq cells readers) at = tt
 in-call P tick (Put path seq cell) at = tt
 in-call P tick (Published path seq bytes) at = tt
 in-call P tick (Joining path dest seq buf len) at = tt
-in-call P tick (Missed path dest seq) at = tt
+in-call P tick (Missed group path dest seq) at = tt
 in-call P tick (Saw path dest seq cells bytes writer) at = tt
 in-call P tick (Read path dest seq cell) at = tt
 in-call P tick (Closed path seq freed) at = tt
@@ -126,13 +126,13 @@ begins-in P (turn ∷ earlier) all = all-join P (begins_by earlier) (begins_in t
 -- as many begin as are entered
 call-long : (tick : ℕ) (call : Event) → length (begin_by tick call) ≡ length (entry_by call)
 call-long tick (Entered path seq buf number size len readers) = refl
-call-long tick (Took number buf size need) = refl
-call-long tick (Refused number free need) = refl
+call-long tick (Took group number buf size need) = refl
+call-long tick (Refused group number free need) = refl
 call-long tick (Asked path seq cells readers) = refl
 call-long tick (Put path seq cell) = refl
 call-long tick (Published path seq bytes) = refl
 call-long tick (Joining path dest seq buf len) = refl
-call-long tick (Missed path dest seq) = refl
+call-long tick (Missed group path dest seq) = refl
 call-long tick (Saw path dest seq cells bytes writer) = refl
 call-long tick (Read path dest seq cell) = refl
 call-long tick (Closed path seq freed) = refl

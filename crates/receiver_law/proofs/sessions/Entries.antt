@@ -24,13 +24,13 @@ pub record Entry : Type 0 where
 
 abbrev pub entry_by : Event → List Entry
 entry_by (Entered path seq buf number size len readers) = record { len = len; change = number; buf = buf } ∷ []
-entry_by (Took number buf size need) = []
-entry_by (Refused number free need) = []
+entry_by (Took group number buf size need) = []
+entry_by (Refused group number free need) = []
 entry_by (Asked path seq cells readers) = []
 entry_by (Put path seq cell) = []
 entry_by (Published path seq bytes) = []
 entry_by (Joining path dest seq buf len) = []
-entry_by (Missed path dest seq) = []
+entry_by (Missed group path dest seq) = []
 entry_by (Saw path dest seq cells bytes writer) = []
 entry_by (Read path dest seq cell) = []
 entry_by (Closed path seq freed) = []
@@ -60,14 +60,14 @@ pub data Outcome : Type 0 where
   Denied : (change free need : ℕ) → Outcome
 
 abbrev pub outcome_by : Event → List Outcome
-outcome_by (Took number buf size need) = Granted number buf ∷ []
-outcome_by (Refused number free need) = Denied number free need ∷ []
+outcome_by (Took group number buf size need) = Granted number buf ∷ []
+outcome_by (Refused group number free need) = Denied number free need ∷ []
 outcome_by (Entered path seq buf number size len readers) = []
 outcome_by (Asked path seq cells readers) = []
 outcome_by (Put path seq cell) = []
 outcome_by (Published path seq bytes) = []
 outcome_by (Joining path dest seq buf len) = []
-outcome_by (Missed path dest seq) = []
+outcome_by (Missed group path dest seq) = []
 outcome_by (Saw path dest seq cells bytes writer) = []
 outcome_by (Read path dest seq cell) = []
 outcome_by (Closed path seq freed) = []
@@ -75,14 +75,14 @@ outcome_by (Parted path dest seq freed) = []
 
 -- the need, in cells, that a call asked for
 abbrev pub need_by : Event → List ℕ
-need_by (Took number buf size need) = need ∷ []
-need_by (Refused number free need) = need ∷ []
+need_by (Took group number buf size need) = need ∷ []
+need_by (Refused group number free need) = need ∷ []
 need_by (Entered path seq buf number size len readers) = []
 need_by (Asked path seq cells readers) = []
 need_by (Put path seq cell) = []
 need_by (Published path seq bytes) = []
 need_by (Joining path dest seq buf len) = []
-need_by (Missed path dest seq) = []
+need_by (Missed group path dest seq) = []
 need_by (Saw path dest seq cells bytes writer) = []
 need_by (Read path dest seq cell) = []
 need_by (Closed path seq freed) = []

@@ -20,13 +20,13 @@ use Rattle.tp_receiver.proofs.Through.{IsThrough, step-through}
 use Rattle.hub_core.proofs.Sides.{Fill, fill-adds, fill-changes, fill-join, fill-none, fill-pushes, fill-same}
 use Rattle.receiver_law.proofs.sessions.Entries.{entry_by, writing, entries_told, entry_going, outcome_by, need_by, need_at, need_in, needs_by, IsBelow, Enters, enters-none, enters-join}
 
-fill-took : (path n number buf size need : ℕ) → Fill (writing path) n (Took number buf size need ∷ [])
+fill-took : (group path n number buf size need : ℕ) → Fill (writing path) n (Took group number buf size need ∷ [])
 unfolding grow
-fill-took path n number buf size need = fill-same (writing path) n (Took number buf size need) refl (λ k. refl) (λ v. refl)
+fill-took group path n number buf size need = fill-same (writing path) n (Took group number buf size need) refl (λ k. refl) (λ v. refl)
 
-fill-refused : (path n number free need : ℕ) → Fill (writing path) n (Refused number free need ∷ [])
+fill-refused : (group path n number free need : ℕ) → Fill (writing path) n (Refused group number free need ∷ [])
 unfolding grow
-fill-refused path n number free need = fill-same (writing path) n (Refused number free need) refl (λ k. refl) (λ v. refl)
+fill-refused group path n number free need = fill-same (writing path) n (Refused group number free need) refl (λ k. refl) (λ v. refl)
 
 fill-entered : (path n seq buf number size len readers : ℕ) → Fill (writing path) n (Entered path seq buf number size len readers ∷ [])
 unfolding grow
@@ -74,11 +74,11 @@ record EntersBy (set : RxSet) (event : RxEvent) (old : RxStage) (calls : List Ev
 opens-so : (set : RxSet) (next seq len size count tick : ℕ) (bytes : List ℕ) (opened : OpenedAt) (opening : List Event) → OpensSession set seq len bytes opened opening → Enters set.path.0 seq (cells_of (length bytes) ∷ []) None opening [] (seq + 1) (Some (begun next len size count tick opened))
 opens-so set next seq len size count tick bytes opened opening row =
     let path : ℕ = set.path.0 in
-    let took : Event = Took opened.change opened.buf.0 row.size row.need in
+    let took : Event = Took set.group.0 opened.change opened.buf.0 row.size row.need in
     let entered : Event = Entered path seq opened.buf.0 opened.change row.size len set.readers in
     let put : List Event = puts path seq row.cells in
     rw row.calls_are (record {
-      fill = fill-join (writing path) seq seq (took ∷ []) (entered ∷ put) (omega arith) (fill-took path seq opened.change opened.buf.0 row.size row.need)
+      fill = fill-join (writing path) seq seq (took ∷ []) (entered ∷ put) (omega arith) (fill-took set.group.0 path seq opened.change opened.buf.0 row.size row.need)
           (fill-join (writing path) seq (seq + 1) (entered ∷ []) put refl (fill-entered path seq seq opened.buf.0 opened.change row.size len set.readers) (fill-cells path (seq + 1) seq (counted row.cells) row.cells (omega arith)));
       count = rw (none-puts entry_by path seq (counted row.cells) row.cells (λ cell. refl) refl) refl;
       entries = rw (none-puts entry_by path seq (counted row.cells) row.cells (λ cell. refl) refl) refl;
@@ -119,7 +119,7 @@ needs-ended set event old busy (EndOfRun wait since) at = append-nil (needs_so s
 enters-effect : (set : RxSet) (event : RxEvent) (tick : ℕ) (old : RxStage) (done : RxDone) → RxEffect set event tick old done → IsBelow old.state.seq old.state.busy → EntersBy set event old done.calls done.records done.new
 enters-effect set event tick old done (Refuses e) below = record {
   more = need_at e.meaning ∷ [];
-  enters = rw (e.of.idle, e.calls, e.records, e.new) (record { fill = fill-refused set.path.0 old.state.seq e.number e.free (need_at e.meaning); count = omega arith; entries = refl; outcomes = refl; needs_are = refl; below = tt });
+  enters = rw (e.of.idle, e.calls, e.records, e.new) (record { fill = fill-refused set.group.0 set.path.0 old.state.seq e.number e.free (need_at e.meaning); count = omega arith; entries = refl; outcomes = refl; needs_are = refl; below = tt });
   needs = rw (e.of.unused, e.new, e.of.came, e.of.start) refl;
 }
 enters-effect set event tick old done (Opens e) below = record {

@@ -88,13 +88,13 @@ fills-kept path seq f calls old new keeps grown none =
       cells = λ place. ap (λ s. cells_at s place) is ∙ cells_at-kept seq f keeps (old.sessions path) place ∙ sym (append-nil (cells_at (old.sessions path) place)) ∙ ap (λ c. cells_at (old.sessions path) place ++ c) (sym (none place));
     }
 
-pub fills-refused : (path number free need : ℕ) (v : View) → Fills path 0 (Refused number free need ∷ []) v (grow (Refused number free need) v)
+pub fills-refused : (group path number free need : ℕ) (v : View) → Fills path 0 (Refused group number free need ∷ []) v (grow (Refused group number free need) v)
 unfolding grow
-fills-refused path number free need v = fills-none path (Refused number free need ∷ []) v (grow (Refused number free need) v) refl (λ place. refl)
+fills-refused group path number free need v = fills-none path (Refused group number free need ∷ []) v (grow (Refused group number free need) v) refl (λ place. refl)
 
-fills-took : (path number buf size need : ℕ) (v : View) → Fills path 0 (Took number buf size need ∷ []) v (grow (Took number buf size need) v)
+fills-took : (group path number buf size need : ℕ) (v : View) → Fills path 0 (Took group number buf size need ∷ []) v (grow (Took group number buf size need) v)
 unfolding grow
-fills-took path number buf size need v = fills-none path (Took number buf size need ∷ []) v (grow (Took number buf size need) v) refl (λ place. refl)
+fills-took group path number buf size need v = fills-none path (Took group number buf size need ∷ []) v (grow (Took group number buf size need) v) refl (λ place. refl)
 
 fills-entered : (path seq buf number size len readers : ℕ) (v : View) → Fills path 1 (Entered path seq buf number size len readers ∷ []) v (grow (Entered path seq buf number size len readers) v)
 unfolding grow
@@ -144,16 +144,16 @@ fills-puts path seq count (cell ∷ cells) v inside =
     fills-then path 0 0 (Put path seq cell ∷ []) (map (λ c. Put path seq c) cells ++ Published path seq count ∷ []) v (grow (Put path seq cell) v) (grows (map (λ c. Put path seq c) cells ++ Published path seq count ∷ []) (grow (Put path seq cell) v))
     one (fills-puts path seq count cells (grow (Put path seq cell) v) (omega (arith, one.number, inside)))
 
-pub fills-opening : (path seq buf number size need len readers count : ℕ) (cells : List ℕ) (v : View) → length (v.sessions path) ≡ seq →
-    Fills path 1 (Took number buf size need ∷ Entered path seq buf number size len readers ∷ (map (λ cell. Put path seq cell) cells ++ Published path seq count ∷ [])) v
-    (grows (Took number buf size need ∷ Entered path seq buf number size len readers ∷ (map (λ cell. Put path seq cell) cells ++ Published path seq count ∷ [])) v)
-fills-opening path seq buf number size need len readers count cells v at =
-    let took : View = grow (Took number buf size need) v in
+pub fills-opening : (group path seq buf number size need len readers count : ℕ) (cells : List ℕ) (v : View) → length (v.sessions path) ≡ seq →
+    Fills path 1 (Took group number buf size need ∷ Entered path seq buf number size len readers ∷ (map (λ cell. Put path seq cell) cells ++ Published path seq count ∷ [])) v
+    (grows (Took group number buf size need ∷ Entered path seq buf number size len readers ∷ (map (λ cell. Put path seq cell) cells ++ Published path seq count ∷ [])) v)
+fills-opening group path seq buf number size need len readers count cells v at =
+    let took : View = grow (Took group number buf size need) v in
     let entered : View = grow (Entered path seq buf number size len readers) took in
-    let one : Fills path 0 (Took number buf size need ∷ []) v took = fills-took path number buf size need v in
+    let one : Fills path 0 (Took group number buf size need ∷ []) v took = fills-took group path number buf size need v in
     let two : Fills path 1 (Entered path seq buf number size len readers ∷ []) took entered = fills-entered path seq buf number size len readers took in
     let rest : List Event = map (λ cell. Put path seq cell) cells ++ Published path seq count ∷ [] in
-    fills-then path 0 1 (Took number buf size need ∷ []) (Entered path seq buf number size len readers ∷ rest) v took (grows rest entered) one
+    fills-then path 0 1 (Took group number buf size need ∷ []) (Entered path seq buf number size len readers ∷ rest) v took (grows rest entered) one
     (fills-then path 1 0 (Entered path seq buf number size len readers ∷ []) rest took entered (grows rest entered) two (fills-puts path seq count cells entered (omega (arith, one.number, two.number, at))))
 
 pub fills-after : (path a b : ℕ) (xs ys : List Event) (v : View) → Fills path a xs v (grows xs v) → Fills path b ys (grows xs v) (grows ys (grows xs v)) → Fills path (a + b) (xs ++ ys) v (grows (xs ++ ys) v)
@@ -183,11 +183,11 @@ filled-opens : (set : RxSet) (len : ℕ) (bytes : List ℕ) (opened : OpenedAt) 
 filled-opens set len bytes opened old new calls done so opens counts below =
     let v : View = grows calls empty_view in
     let P : List Event → Type 0 = λ c. Fills set.path.0 1 c v (grows c v) in
-    filled-more set.path.0 1 old new calls done so (subst P (sym opens.calls_are) (fills-opening set.path.0 old.seq opened.buf.0 opened.change opens.size opens.need len set.readers (counted opens.cells) opens.cells v so.number)) counts below
+    filled-more set.path.0 1 old new calls done so (subst P (sym opens.calls_are) (fills-opening set.group.0 set.path.0 old.seq opened.buf.0 opened.change opens.size opens.need len set.readers (counted opens.cells) opens.cells v so.number)) counts below
 
 -- each effect
 filled-effect : (set : RxSet) (event : RxEvent) (tick : ℕ) (old : RxStage) (done : RxDone) (calls : List Event) (records : List SessionRecord) → RxEffect set event tick old done → IsFilled set.path.0 old.state calls → IsFilled set.path.0 done.new.state (calls ++ done.calls)
-filled-effect set event tick old done calls records (Refuses e) so = rw (e.calls, e.new) (filled-more set.path.0 0 old.state _ calls _ so (fills-refused set.path.0 e.number e.free _ (grows calls empty_view)) (omega arith) tt)
+filled-effect set event tick old done calls records (Refuses e) so = rw (e.calls, e.new) (filled-more set.path.0 0 old.state _ calls _ so (fills-refused set.group.0 set.path.0 e.number e.free _ (grows calls empty_view)) (omega arith) tt)
 filled-effect set event tick old done calls records (Opens e) so = rw e.new (filled-opens set _ _ e.opened old.state _ calls done.calls so e.opens refl (omega (arith, e.opens.seq_is)))
 filled-effect set event tick old done calls records (Looks e) so =
     rw (e.calls, e.new) (filled-more set.path.0 0 old.state _ calls _ so (fills-asked set.path.0 e.busy.opened.seq e.look.cells e.look.readers (grows calls empty_view)) (omega arith) so.below)

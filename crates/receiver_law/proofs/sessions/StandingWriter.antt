@@ -64,20 +64,20 @@ closed set n seq left dest m reads v so =
     stands-written set.path.0 dest set.readers n n m (Some seq) None reads v (grow (Closed set.path.0 seq (freed_by left)) v) (change_at seq (λ s. record s { stands = false }) (v.sessions set.path.0)) refl refl
     (written-left set.readers n seq (v.sessions set.path.0) v.changes (freed_by left) (frees left) so.written) so
 
-entered : (set : RxSet) (n seq buf number size need len : ℕ) → Steps set n None (Took number buf size need ∷ Entered set.path.0 seq buf number size len set.readers ∷ []) (n + 1) (Some n)
+entered : (set : RxSet) (n seq buf number size need len : ℕ) → Steps set n None (Took set.group.0 number buf size need ∷ Entered set.path.0 seq buf number size len set.readers ∷ []) (n + 1) (Some n)
 unfolding grow
 entered set n seq buf number size need len dest m reads v so =
     let s : Session = session_new buf number size len set.readers in
-    stands-written set.path.0 dest set.readers n (n + 1) m None (Some n) reads v (grow (Entered set.path.0 seq buf number size len set.readers) (grow (Took number buf size need) v)) (v.sessions set.path.0 ++ s ∷ []) refl refl
+    stands-written set.path.0 dest set.readers n (n + 1) m None (Some n) reads v (grow (Entered set.path.0 seq buf number size len set.readers) (grow (Took set.group.0 number buf size need) v)) (v.sessions set.path.0 ++ s ∷ []) refl refl
     (written-opened set.readers n buf need s (v.sessions set.path.0) v.changes refl so.written) so
 
-denied : (set : RxSet) (n number free need : ℕ) (going : Option ℕ) → Steps set n going (Refused number free need ∷ []) n going
+denied : (set : RxSet) (n number free need : ℕ) (going : Option ℕ) → Steps set n going (Refused set.group.0 number free need ∷ []) n going
 unfolding grow
 denied set n number free need going dest m reads v so = record { written = so.written; only = so.only; read = so.read }
 
 opens : (set : RxSet) (seq len : ℕ) (bytes : List ℕ) (opened : OpenedAt) (opening : List Event) → OpensSession set seq len bytes opened opening → Steps set seq None opening (seq + 1) (Some opened.seq)
 opens set seq len bytes opened opening row =
-    rw row.seq_is (parts set seq (seq + 1) (seq + 1) None (Some seq) (Some seq) opening (Took opened.change opened.buf.0 row.size row.need ∷ Entered set.path.0 seq opened.buf.0 opened.change row.size len set.readers ∷ []) (puts set.path.0 seq row.cells) row.calls_are
+    rw row.seq_is (parts set seq (seq + 1) (seq + 1) None (Some seq) (Some seq) opening (Took set.group.0 opened.change opened.buf.0 row.size row.need ∷ Entered set.path.0 seq opened.buf.0 opened.change row.size len set.readers ∷ []) (puts set.path.0 seq row.cells) row.calls_are
     (entered set seq seq opened.buf.0 opened.change row.size row.need len) (put set (seq + 1) seq (counted row.cells) (Some seq) row.cells))
 
 -- each effect

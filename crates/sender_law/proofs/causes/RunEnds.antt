@@ -13,14 +13,14 @@ sent_now None = 0
 sent_now (Some s) = 1
 
 none-by : (set : TxSet) (next : ℕ) (live : Option Transmission) (did : TxDid) (entered : ℕ → ℕ) → TxRow set next live RunEnd did → did.records ≡ [] →
-    ((number : ℕ) (more : List Event) → did.calls ≡ Missed set.path.0 set.dest.0 number ∷ more → entered set.path.0 ≤ number) → (did.new.live ≡ None) × (entered set.path.0 ≤ did.new.next)
+    ((number : ℕ) (more : List Event) → did.calls ≡ Missed set.group.0 set.path.0 set.dest.0 number ∷ more → entered set.path.0 ≤ number) → (did.new.live ≡ None) × (entered set.path.0 ≤ did.new.next)
 none-by set next (Some s) did entered row none missed = let some = row.0.records in cc
 none-by set next None did entered (NothingStands row) none missed = (row.live, omega (arith, missed next [] row.calls_are, row.next_is))
 none-by set next None did entered (FindsOne buf len more joins ends) none missed = let some = ends.records in cc
 
 -- it makes no record only where no session stands
 pub none-told : (set : TxSet) (old : TxState) (event : TxEvent) (did : TxDid) (entered : ℕ → ℕ) → event ≡ RunEnd → TxStep set old event did → did.records ≡ [] →
-    ((number : ℕ) (more : List Event) → did.calls ≡ Missed set.path.0 set.dest.0 number ∷ more → entered set.path.0 ≤ number) → (did.new.live ≡ None) × (entered set.path.0 ≤ did.new.next)
+    ((number : ℕ) (more : List Event) → did.calls ≡ Missed set.group.0 set.path.0 set.dest.0 number ∷ more → entered set.path.0 ≤ number) → (did.new.live ≡ None) × (entered set.path.0 ≤ did.new.next)
 none-told set old event did entered is step none missed = let P : TxEvent → Type 0 = λ e. TxRow set old.next old.live e did in none-by set old.next old.live did entered (subst P is step) none missed
 
 some-by : (set : TxSet) (next : ℕ) (live : Option Transmission) (did : TxDid) → TxRow set next live RunEnd did → (did.records ≡ [] → ⊥) → (did.new.live ≡ None) × (next ≤ did.new.next) × (2 * next + 1 ≤ 2 * did.new.next + sent_now live)

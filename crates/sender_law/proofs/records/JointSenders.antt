@@ -63,9 +63,9 @@ grow-joining : (path dest seq buf len : ℕ) (v : View) → (grow (Joining path 
 unfolding grow
 grow-joining path dest seq buf len v = at_two-same path dest _ v.readings
 
-grow-missed : (path dest seq : ℕ) (v : View) → (grow (Missed path dest seq) v).readings path dest ≡ v.readings path dest
+grow-missed : (group path dest seq : ℕ) (v : View) → (grow (Missed group path dest seq) v).readings path dest ≡ v.readings path dest
 unfolding grow
-grow-missed path dest seq v = refl
+grow-missed group path dest seq v = refl
 
 -- where no session is sent, what was seen doesn't matter
 idle-too : (set : TxSet) (ended : Bool) (v : View) (records : List DestRecord) (next : ℕ) (P Q : Reading → Type 0) → ReadsIn set ended v records next None P → ReadsIn set ended v records next None Q
@@ -190,7 +190,7 @@ ends set ended v records next tick sent look s act result left event told may re
 each : (set : TxSet) (tick : ℕ) (event : TxEvent) (look : Option Seen) (next : ℕ) (effect : TxEffect) → MayBe set tick event look effect → ReadsBy set (amid event look next (found_by effect)) (done_by set tick (amid event look next (found_by effect)) effect)
 each set tick event look next Misses may v records ended told reads = record {
   told = λ no. cc;
-  reads = rw (append-nil, grow-missed set.path.0 set.dest.0 next v) reads;
+  reads = rw (append-nil, grow-missed set.group.0 set.path.0 set.dest.0 next v) reads;
 }
 each set tick event look next (Joins buf len) may v records ended told reads = record {
   told = told;

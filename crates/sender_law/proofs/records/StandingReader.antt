@@ -51,7 +51,7 @@ anew : (set : TxSet) (dests n m k : ℕ) (writes before after : Option ℕ) (v w
 anew set dests n m k writes before after v w readings same changes grown read so =
     stands-read set.path.0 set.dest.0 dests n m k writes before after v w [] readings same (changes ∙ sym (append-nil v.changes)) tt (ap (λ (r : ℕ → ℕ → List Reading). r set.path.0 set.dest.0) grown ∙ at_two-same set.path.0 set.dest.0 readings v.readings) read so
 
-missed : (set : TxSet) (m seq : ℕ) (going : Option ℕ) → Steps set m going (Missed set.path.0 set.dest.0 seq ∷ []) m going
+missed : (set : TxSet) (m seq : ℕ) (going : Option ℕ) → Steps set m going (Missed set.group.0 set.path.0 set.dest.0 seq ∷ []) m going
 unfolding grow
 missed set m seq going dests n writes v so = so
 

@@ -1,15 +1,15 @@
 -- Where a session ends while its next frame waits for the bus, that frame lay in the box.
-use Rattle.std.proofs.Common.{◌≡◌, ℕ, Option, None, Some, List, [], ◌∷◌, ◌++◌, refl, sym, ◌∙◌, subst}
+use Rattle.std.proofs.Common.{◌≡◌, ℕ, Option, None, Some, List, [], ◌∷◌, refl, sym, subst}
 use Rattle.std.specs.List.{AllByRecursion}
 use Rattle.hub_core.specs.Turns.{state_after}
 use Rattle.hub_core.specs.View.{Event}
 use Rattle.hub_core.specs.declared.record.DestRecord.{DestRecord}
 use Rattle.hub_core.specs.declared.record.DestResult.{DestResult}
-use Rattle.hub_core.specs.declared.record.DestResult.TheVariants.{SourceEnded, BsTimeout, FcOverflow, InvalidFs, CsTimeout, AsTimeout, Sent, RunEnd as EndOfRun}
+use Rattle.hub_core.specs.declared.record.DestResult.TheVariants.{SourceEnded, BsTimeout, FcOverflow, InvalidFs, CsTimeout, AsTimeout, RunEnd as EndOfRun}
 use Rattle.hub_core.specs.declared.record.TxWait.TheVariants.{Bus as ForBus, Turn as ForTurn, Start as ForStart, Bytes as ForBytes, Fc as ForFc, Gap as ForGap}
 use Rattle.tp_sender.specs.Runs.{HasSent, box_after}
 use Rattle.tp_sender.specs.State.{Transmission, TxDid, TxTurn, tx_new}
-use Rattle.tp_sender.specs.Table.{Answered, Ends, FrameLeft, IdleRow, InAnswer, InBytes, InGap, InStart, InTurn, InWait, Lacks, LiveRow, TxRow, all_sent, fetched, in_phase, joined_in, revoked, wait_of}
+use Rattle.tp_sender.specs.Table.{Answered, Ends, FrameLeft, IdleRow, InAnswer, InBytes, InStart, InTurn, InWait, Lacks, LiveRow, TxRow, fetched, in_phase, joined_in, revoked, wait_of}
 use Rattle.tp_sender.specs.Table.{AsksToWait, BlockLeft, Continues, Due, Enough, FindsOne, FirstLeft, GapLasts, GapOver, IsInvalid, Joins, LastLeft, MayCome, NeverReached, NextLeft, NotDue, NotReached, NothingStands, NothingToSend, Overflows, Reached, Short, TooLate, WriterGone}
 use Rattle.tp_sender.specs.declared.event.TxEvent.{TxEvent}
 use Rattle.tp_sender.specs.declared.event.TxEvent.TheVariants.{Turn, Fc as CameFc, Left, RunEnd}

@@ -23,9 +23,9 @@ reading path dest = record { items = λ v. v.readings path dest; fixed = λ r. r
 abbrev pub FillBy : TxSet → ℕ → List Event → Type 0
 FillBy set n calls = Fill (reading set.path.0 set.dest.0) n calls
 
-fill-missed : (set : TxSet) (n seq : ℕ) → FillBy set n (Missed set.path.0 set.dest.0 seq ∷ [])
+fill-missed : (set : TxSet) (n seq : ℕ) → FillBy set n (Missed set.group.0 set.path.0 set.dest.0 seq ∷ [])
 unfolding grow
-fill-missed set n seq = fill-same (reading set.path.0 set.dest.0) n (Missed set.path.0 set.dest.0 seq) refl (λ k. refl) (λ v. refl)
+fill-missed set n seq = fill-same (reading set.path.0 set.dest.0) n (Missed set.group.0 set.path.0 set.dest.0 seq) refl (λ k. refl) (λ v. refl)
 
 fill-joining : (set : TxSet) (n seq buf len : ℕ) → FillBy set n (Joining set.path.0 set.dest.0 seq buf len ∷ [])
 unfolding grow

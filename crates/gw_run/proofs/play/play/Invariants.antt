@@ -1,13 +1,14 @@
 use Rattle.std.proofs.Common.{◌+◌, ◌-◌, ◌≤◌}
-use Rattle.gw_run.specs.Frames.{answers_in, in_ticks, seen_in, with_id}
+use Rattle.gw_law.specs.Channels.{answers_in, seen_in}
+use Rattle.gw_run.specs.Frames.{in_ticks, with_id}
 use Rattle.gw_run.specs.Playing.{SoFar}
 use Rattle.gw_run.proofs.play.play.Given as goal
 
 abbrev pub invariant-loop-tick : goal.invariant-loop-tick
 invariant-loop-tick l =
     (l.tick.0 ≤ l.last.0 + 1)
-    × SoFar l.gateway l.machines (seen_in (with_id l.machines.source_id (in_ticks l.clock.start.0 l.clock.period l.source)))
-    (answers_in (with_id l.machines.destination_id (in_ticks l.clock.start.0 l.clock.period l.destination))) l.tick.0 l.last.0 l.source_coming l.destination_coming
+    × SoFar l.gateway l.machines (seen_in 0 (with_id l.machines.source_id (in_ticks l.clock.start.0 l.clock.period l.source)))
+    (answers_in 0 (with_id l.machines.destination_id (in_ticks l.clock.start.0 l.clock.period l.destination))) l.tick.0 l.last.0 l.source_coming l.destination_coming
 
 abbrev pub decreases-loop-tick : goal.decreases-loop-tick
 decreases-loop-tick l = l.last.0 + 1 - l.tick.0

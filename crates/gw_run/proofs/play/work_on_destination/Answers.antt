@@ -1,7 +1,7 @@
 -- Each frame that comes goes to the sender where it is one of its channel.
 use Rattle.std.proofs.Common.{◌≡◌, true, false, sym, ap, ◌∙◌}
 use Rattle.std.proofs.lemmas.Result.{on_ok_weaker}
-use Rattle.gw_run.specs.Frames.{is_same_id}
+use Rattle.gw_law.specs.Channels.{is_same_id}
 use Rattle.gw_run.proofs.Onward.{answers-all, answers-one, answers-other, at_destination, may_answer}
 use Rattle.gw_run.proofs.play.work_on_destination.Goals as goal
 

@@ -1,7 +1,7 @@
 -- Each frame that comes goes to the receiver where it is one of its channel.
 use Rattle.std.proofs.Common.{◌≡◌, true, false, sym, ap, ◌∙◌}
 use Rattle.std.proofs.lemmas.Result.{on_ok_weaker}
-use Rattle.gw_run.specs.Frames.{is_same_id}
+use Rattle.gw_law.specs.Channels.{is_same_id}
 use Rattle.gw_run.proofs.Onward.{at_source, may_receive, receives-all, receives-one, receives-other}
 use Rattle.gw_run.proofs.play.work_on_source.Goals as goal
 

@@ -6,5 +6,5 @@ use Rattle.tp_sender_tests.proofs.pacing.send.Given as goal
 
 abbrev pub invariant-loop-step : goal.invariant-loop-step
 invariant-loop-step g l =
-    Knows (g.P.Port.view l.port) l.sender × ActsFor (g.P.Port.means l.port) l.sender × (since_of (state_of l.sender).live ≤ l.now) × (l.full ≡ true → HasFrame (state_of l.sender).live) ×
-    Writes (g.P.Port.view l.port) l.writer × (l.wanted ≤ (g.P.Port.means l.port).spare)
+    Knows (g.P.Port.state l.port).view l.sender × ActsFor (g.P.Port.state l.port).means l.sender × (since_of (state_of l.sender).live ≤ l.now) × (l.full ≡ true → HasFrame (state_of l.sender).live) ×
+    Writes (g.P.Port.state l.port).view l.writer × (l.wanted ≤ (g.P.Port.state l.port).means.spare)

@@ -5,4 +5,4 @@ use Rattle.tp_sender_tests.proofs.tests.play.Given as goal
 
 abbrev pub invariant-loop-event : goal.invariant-loop-event
 invariant-loop-event g l =
-    Knows (g.P.Port.view l.port) l.sender × ActsFor (g.P.Port.means l.port) l.sender × (since_of (state_of l.sender).live ≤ l.now) × (l.full ≡ true → HasFrame (state_of l.sender).live)
+    Knows (g.P.Port.state l.port).view l.sender × ActsFor (g.P.Port.state l.port).means l.sender × (since_of (state_of l.sender).live ≤ l.now) × (l.full ≡ true → HasFrame (state_of l.sender).live)

@@ -3,7 +3,7 @@ use Rattle.tp_unit.specs.Box.{Answer}
 use Rattle.tp_sender.specs.declared.event.TxEvent.TheVariants.{Fc}
 use Rattle.tp_unit.specs.Reading.{unit_of}
 use Rattle.tp_unit.specs.Unit.{Meaning, FlowControl, meaning_of}
-use Rattle.gw_run.specs.Frames.{answer_in}
+use Rattle.gw_law.specs.Channels.{answer_in}
 use Rattle.gw_run.specs.Standing.{InDestination}
 use Rattle.gw_run.proofs.Barriers.{answered}
 use Rattle.gw_run.proofs.CanTell.{can-tell-sender}

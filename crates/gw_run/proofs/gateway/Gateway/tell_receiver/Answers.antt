@@ -7,7 +7,7 @@ pub returns : goal.returns
 returns c =
     let over = c.step-fc.ensures.over in
     let kept = c.step-fc.ensures.kept in
-    let sizes = kept.pool.sizes in
+    let groups = kept.pool.groups in
     record {
       did = record { tick = c.args.tick.0; calls = over.calls; act = box_meaning_of c.step-fc.result.fc; records = c.step-fc.result.records.items; new = state_of c.step-fc.new.self };
       stepped = record {
@@ -21,7 +21,7 @@ returns c =
         waits = c.step-fc.ensures.tick;
         number = c.step-fc.ensures.count;
         readings = kept.readings;
-        sizes = sizes;
+        groups = groups;
         takes = kept.takes_used;
       };
       lies_is = c.put.ensures;

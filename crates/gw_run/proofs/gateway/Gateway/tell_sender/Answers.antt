@@ -7,7 +7,7 @@ pub returns : goal.returns
 returns c =
     let over = c.step-boxed.ensures.step in
     let means = c.step-boxed.ensures.means in
-    let sizes = means.pool.sizes in
+    let groups = means.pool.groups in
     record {
       turn = record { event = c.args.event; did = did_by c.args.tick.0 over.calls c.step-boxed.result (state_of c.step-boxed.new.self) };
       stepped = record {
@@ -22,7 +22,7 @@ returns c =
         since = c.step-boxed.ensures.since;
         boxed = c.step-boxed.ensures.boxed;
         sessions = c.step-boxed.ensures.others.sessions;
-        sizes = sizes;
+        groups = groups;
         takes = (let same : c.step-boxed.new.port.takes ≡ c.args.self.now.hub.takes = means.takes in omega arith);
       };
       lies_is = c.put.ensures;

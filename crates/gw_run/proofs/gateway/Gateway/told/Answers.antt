@@ -11,5 +11,6 @@ returns c = record {
   clock_is = refl;
   buffers = refl;
   joint = c.word-word.ensures.joint;
+  word = c.word-word.ensures.word;
   in_order = c.word-word.ensures.in_order;
 }

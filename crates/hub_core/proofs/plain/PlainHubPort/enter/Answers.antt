@@ -1,7 +1,7 @@
 use Rattle.std.proofs.Common.{ℕ, ap, sym, subst, refl, true}
 use Rattle.std.specs.Prelude.{slice_set}
 use Rattle.hub_core.proofs.Growing.{writes-entered, by-entered}
-use Rattle.hub_core.proofs.Hubs.{shown-of, laid-place, hub-rises}
+use Rattle.hub_core.proofs.Hubs.{shown-of, laid-place, stays-same}
 use Rattle.hub_core.proofs.Led.{entered-may}
 use Rattle.hub_core.proofs.Shown.{IsShown}
 use Rattle.hub_core.proofs.Taking.{after-entered}
@@ -23,11 +23,8 @@ invariant_of-self c =
     let all = subst (IsShown hub.sizes.items new hub.words.items hub.changes hub.free hub.takes) (sym (ap view_after c.note.ensures)) after in
     record { laid = laid-place _ _ _ _ _ _ hub.laid; places_show = all.places_show; words_show = all.words_show; counts = all.counts; led = all.led }
 
-pub returns-clause-by : goal.returns-clause-by
-returns-clause-by c = by-entered _ _ _ _ _ _ _ _ _ (ap view_after c.note.ensures)
-
 pub returns-clause-writes : goal.returns-clause-writes
 returns-clause-writes c = writes-entered c.args.held c.args.path _ _ _ _ _ _ c.requires.seq (ap view_after c.note.ensures) refl
 
-pub returns-clause-rise : goal.returns-clause-rise
-returns-clause-rise c = hub-rises c.args.self.now (Entered c.args.path.0 c.args.seq c.args.held.buf.0 c.args.held.change c.args.held.cells c.args.len c.args.readers) _ (ap view_after c.note.ensures)
+pub returns-clause-stays : goal.returns-clause-stays
+returns-clause-stays c = stays-same c.args.self.now (Entered c.args.path.0 c.args.seq c.args.held.buf.0 c.args.held.change c.args.held.cells c.args.len c.args.readers) _ (ap view_after c.note.ensures) (by-entered _ _ _ _ _ _ _ _ _ (ap view_after c.note.ensures))

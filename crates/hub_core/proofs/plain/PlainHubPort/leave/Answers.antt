@@ -3,7 +3,7 @@ use Rattle.std.proofs.lemmas.Nat.{one_shl}
 use Rattle.std.specs.Prelude.{slice_set, IsBitSet}
 use Rattle.hub_core.proofs.Bits.{free-fits}
 use Rattle.hub_core.proofs.Growing.{by-left}
-use Rattle.hub_core.proofs.Hubs.{shown-of, laid-place, hub-rises, party-at, party-there, party-row, party-few, party-clear}
+use Rattle.hub_core.proofs.Hubs.{shown-of, laid-place, stays-same, party-at, party-there, party-row, party-few, party-clear}
 use Rattle.hub_core.proofs.Leaving.{party-below, after-left, after-left-last, left-over, left-others}
 use Rattle.hub_core.proofs.Shown.{IsShown}
 use Rattle.hub_core.proofs.plain.PlainHubPort.leave.Goals as goal
@@ -41,11 +41,8 @@ invariant_of-self c =
     let all = subst (IsShown hub.sizes.items new hub.words.items hub.changes hub.free hub.takes) (sym grown) after in
     record { laid = laid-place _ _ _ _ _ _ hub.laid; places_show = all.places_show; words_show = all.words_show; counts = all.counts; led = all.led }
 
-pub returns-then-has_party-clause-by : goal.returns-then-has_party-clause-by
-returns-then-has_party-clause-by c = by-left c.args.end Others _ _ (ap view_after c.note.ensures ∙ ap (λ (e : Event). grow e (view_after c.args.self.now.past.seat.me.0.deeds)) c.leaving.ensures)
-
-pub returns-then-has_party-clause-rise : goal.returns-then-has_party-clause-rise
-returns-then-has_party-clause-rise c = hub-rises c.args.self.now (left_of c.args.end Others) _ (ap view_after c.note.ensures ∙ ap (λ (e : Event). grow e (view_after c.args.self.now.past.seat.me.0.deeds)) c.leaving.ensures)
+pub returns-then-has_party-clause-stays : goal.returns-then-has_party-clause-stays
+returns-then-has_party-clause-stays c = stays-same c.args.self.now (left_of c.args.end Others) _ (ap view_after c.note.ensures ∙ ap (λ (e : Event). grow e (view_after c.args.self.now.past.seat.me.0.deeds)) c.leaving.ensures) (by-left c.args.end Others _ _ (ap view_after c.note.ensures ∙ ap (λ (e : Event). grow e (view_after c.args.self.now.past.seat.me.0.deeds)) c.leaving.ensures))
 
 pub returns-then-has_party-clause-exact : goal.returns-then-has_party-clause-exact
 returns-then-has_party-clause-exact c =
@@ -62,9 +59,6 @@ overflow_shl-free c = party-few c.args.self.now c.args.end c.from-at.result c.re
 
 pub index_mut-requires-2 : goal.index_mut-requires-2
 index_mut-requires-2 c = party-at c.args.self.now c.args.end c.from-at.result c.requires (c.from-at.ensures ∙ c.session_buf-buf.ensures)
-
-pub returns-clause-by : goal.returns-clause-by
-returns-clause-by c = by-left c.args.end _ _ _ (ap view_after c.note-2.ensures ∙ ap (λ (e : Event). grow e (view_after c.args.self.now.past.seat.me.0.deeds)) c.leaving-2.ensures)
 
 pub overflow_add-free : goal.overflow_add-free
 overflow_add-free c =
@@ -91,8 +85,8 @@ invariant_of-self-2 c =
     let last = subst P (sym set) all in
     record { laid = laid-place _ _ _ _ _ _ hub.laid; places_show = last.places_show; words_show = last.words_show; counts = last.counts; led = last.led }
 
-pub returns-clause-rise : goal.returns-clause-rise
-returns-clause-rise c = hub-rises c.args.self.now (left_of c.args.end (Last (c.args.self.now.changes + 1) c.session_buf-buf.result)) _ (ap view_after c.note-2.ensures ∙ ap (λ (e : Event). grow e (view_after c.args.self.now.past.seat.me.0.deeds)) c.leaving-2.ensures)
+pub returns-clause-stays : goal.returns-clause-stays
+returns-clause-stays c = stays-same c.args.self.now (left_of c.args.end (Last (c.args.self.now.changes + 1) c.session_buf-buf.result)) _ (ap view_after c.note-2.ensures ∙ ap (λ (e : Event). grow e (view_after c.args.self.now.past.seat.me.0.deeds)) c.leaving-2.ensures) (by-left c.args.end _ _ _ (ap view_after c.note-2.ensures ∙ ap (λ (e : Event). grow e (view_after c.args.self.now.past.seat.me.0.deeds)) c.leaving-2.ensures))
 
 pub returns-clause-exact : goal.returns-clause-exact
 returns-clause-exact c =

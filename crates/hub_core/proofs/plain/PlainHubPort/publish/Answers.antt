@@ -1,7 +1,7 @@
 use Rattle.std.proofs.Common.{ap, sym, subst, refl}
 use Rattle.std.specs.Prelude.{slice_set}
 use Rattle.hub_core.proofs.Growing.{same-opened, writes-published, by-published}
-use Rattle.hub_core.proofs.Hubs.{shown-of, laid-place, hub-rises, party-at, party-there, party-row}
+use Rattle.hub_core.proofs.Hubs.{shown-of, laid-place, stays-same, party-at, party-there, party-row}
 use Rattle.hub_core.proofs.Led.{published-may}
 use Rattle.hub_core.proofs.Shown.{IsShown, after-published}
 use Rattle.hub_core.proofs.plain.PlainHubPort.publish.Goals as goal
@@ -33,11 +33,8 @@ invariant_of-self c =
     let all = subst (IsShown hub.sizes.items new hub.words.items hub.changes hub.free hub.takes) (sym (ap view_after c.note.ensures)) after in
     record { laid = laid-place _ _ _ _ _ _ hub.laid; places_show = all.places_show; words_show = all.words_show; counts = all.counts; led = all.led }
 
-pub returns-clause-by : goal.returns-clause-by
-returns-clause-by c = by-published _ _ _ _ _ (ap view_after c.note.ensures)
-
 pub returns-clause-writes : goal.returns-clause-writes
 returns-clause-writes c = writes-published _ _ _ _ c.args.bytes c.requires.writes c.requires.bytes (ap view_after c.note.ensures) (same-opened _ _ refl)
 
-pub returns-clause-rise : goal.returns-clause-rise
-returns-clause-rise c = hub-rises c.args.self.now (Published c.args.at.now.path.0 c.args.at.now.seq c.args.bytes) _ (ap view_after c.note.ensures)
+pub returns-clause-stays : goal.returns-clause-stays
+returns-clause-stays c = stays-same c.args.self.now (Published c.args.at.now.path.0 c.args.at.now.seq c.args.bytes) _ (ap view_after c.note.ensures) (by-published _ _ _ _ _ (ap view_after c.note.ensures))

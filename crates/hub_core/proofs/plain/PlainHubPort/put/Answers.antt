@@ -1,7 +1,7 @@
 use Rattle.std.proofs.Common.{ℕ, ◌+◌, ◌%◌, ap, sym, subst, arith, rules}
 use Rattle.std.specs.Prelude.{slice_set}
 use Rattle.hub_core.proofs.Growing.{writes-put, by-put}
-use Rattle.hub_core.proofs.Hubs.{shown-of, laid-word, hub-rises, party-place, start-at, word-at, writer-size, writer-start}
+use Rattle.hub_core.proofs.Hubs.{shown-of, laid-word, stays-put, party-place, start-at, word-at, writer-size, writer-start}
 use Rattle.hub_core.proofs.Led.{put-may}
 use Rattle.hub_core.proofs.Looks.{cells-few}
 use Rattle.hub_core.proofs.Rows.{occupied}
@@ -48,11 +48,8 @@ invariant_of-self c =
     let all = subst (IsShown hub.sizes.items hub.places.items more hub.changes hub.free hub.takes) (sym (ap view_after c.note.ensures)) after in
     record { laid = laid-word _ _ _ _ _ _ hub.laid; places_show = all.places_show; words_show = all.words_show; counts = all.counts; led = all.led }
 
-pub returns-clause-by : goal.returns-clause-by
-returns-clause-by c = by-put _ _ _ _ _ (ap view_after c.note.ensures)
-
 pub returns-clause-writes : goal.returns-clause-writes
 returns-clause-writes c = writes-put _ _ _ _ _ c.requires.writes c.requires.room c.requires.len (ap view_after c.note.ensures) (search rules)
 
-pub returns-clause-rise : goal.returns-clause-rise
-returns-clause-rise c = hub-rises c.args.self.now (Put c.args.at.now.path.0 c.args.at.now.seq c.args.cell) _ (ap view_after c.note.ensures)
+pub returns-clause-stays : goal.returns-clause-stays
+returns-clause-stays c = stays-put c.args.self.now (Put c.args.at.now.path.0 c.args.at.now.seq c.args.cell) _ (ap view_after c.note.ensures) (by-put _ _ _ _ _ (ap view_after c.note.ensures))

@@ -1,7 +1,7 @@
 use Rattle.std.proofs.Common.{ℕ, ◌%◌, ap, sym, subst, arith, rules}
 use Rattle.std.specs.Prelude.{slice_set}
 use Rattle.hub_core.proofs.Growing.{reads-read, by-read}
-use Rattle.hub_core.proofs.Hubs.{shown-of, laid-place, hub-rises, party-at, party-there, party-row, start-at, start-read, size-at, size-read, size-above, word-at, word-read}
+use Rattle.hub_core.proofs.Hubs.{shown-of, laid-place, stays-same, party-at, party-there, party-row, start-at, start-read, size-at, size-read, size-above, word-at, word-read}
 use Rattle.hub_core.proofs.Led.{read-may}
 use Rattle.hub_core.proofs.Ledger.{streams}
 use Rattle.hub_core.proofs.Looks.{reader-size, read-next, read-cell, read-within}
@@ -81,9 +81,6 @@ invariant_of-self c =
     let all = subst (IsShown hub.sizes.items new hub.words.items hub.changes hub.free hub.takes) (sym (ap view_after c.note.ensures)) after in
     record { laid = laid-place _ _ _ _ _ _ hub.laid; places_show = all.places_show; words_show = all.words_show; counts = all.counts; led = all.led }
 
-pub returns-clause-by : goal.returns-clause-by
-returns-clause-by c = by-read _ _ _ _ _ _ (ap view_after c.note.ensures)
-
 pub returns-clause-cell : goal.returns-clause-cell
 returns-clause-cell c =
     let hub = c.args.self.now in
@@ -106,5 +103,5 @@ overflow_add-at-3 c =
 pub returns-clause-reads : goal.returns-clause-reads
 returns-clause-reads c = reads-read _ _ _ _ _ c.requires.reads c.requires.more (returns-clause-len c) (ap view_after c.note.ensures) (search rules)
 
-pub returns-clause-rise : goal.returns-clause-rise
-returns-clause-rise c = hub-rises c.args.self.now (ReadEvent c.args.at.now.path.0 c.args.at.now.dest.0 c.args.at.now.seq c.index-cell.result.now) _ (ap view_after c.note.ensures)
+pub returns-clause-stays : goal.returns-clause-stays
+returns-clause-stays c = stays-same c.args.self.now (ReadEvent c.args.at.now.path.0 c.args.at.now.dest.0 c.args.at.now.seq c.index-cell.result.now) _ (ap view_after c.note.ensures) (by-read _ _ _ _ _ _ (ap view_after c.note.ensures))

@@ -1,7 +1,7 @@
-use Rattle.std.proofs.Common.{ap, sym, subst, refl}
+use Rattle.std.proofs.Common.{[], ◌∷◌, ap, sym, subst, refl}
 use Rattle.hub_core.proofs.Fresh.{room-fresh}
 use Rattle.hub_core.proofs.Growing.{same-opened, writes-asked, by-asked}
-use Rattle.hub_core.proofs.Hubs.{shown-of, hub-rises, party-at, party-there, party-row}
+use Rattle.hub_core.proofs.Hubs.{shown-of, stays-same, party-at, party-there, party-row}
 use Rattle.hub_core.proofs.Led.{asked-may}
 use Rattle.hub_core.proofs.Looks.{positions-within, room-exact, room-bounds}
 use Rattle.hub_core.proofs.Shown.{IsShown, after-asked}
@@ -47,16 +47,13 @@ invariant_of-self c =
     let all = subst (IsShown hub.sizes.items hub.places.items hub.words.items hub.changes hub.free hub.takes) (sym (ap view_after c.note.ensures)) after in
     record { laid = hub.laid; places_show = all.places_show; words_show = all.words_show; counts = all.counts; led = all.led }
 
-pub returns-clause-by : goal.returns-clause-by
-returns-clause-by c = by-asked _ _ _ _ _ _ (ap view_after c.note.ensures)
-
 pub returns-clause-writes : goal.returns-clause-writes
 returns-clause-writes c =
     let bounds = returns-clause-cells c in
     writes-asked _ _ _ _ c.room_left-room.result c.requires bounds.0 bounds.1 (ap view_after c.note.ensures) (same-opened _ _ refl)
 
 pub returns-clause-fresh : goal.returns-clause-fresh
-returns-clause-fresh c = room-fresh (view_after c.args.self.now.past.seat.me.0.deeds) c.args.at.now.path.0 c.args.at.now.seq c.room_left-room.result (returns-clause-exact c)
+returns-clause-fresh c = room-fresh (c.args.self.now.sizes.items ∷ []) (view_after c.args.self.now.past.seat.me.0.deeds) c.args.at.now.path.0 c.args.at.now.seq c.room_left-room.result (returns-clause-exact c)
 
-pub returns-clause-rise : goal.returns-clause-rise
-returns-clause-rise c = hub-rises c.args.self.now (Asked c.args.at.now.path.0 c.args.at.now.seq c.room_left-room.result.cells c.room_left-room.result.readers) _ (ap view_after c.note.ensures)
+pub returns-clause-stays : goal.returns-clause-stays
+returns-clause-stays c = stays-same c.args.self.now (Asked c.args.at.now.path.0 c.args.at.now.seq c.room_left-room.result.cells c.room_left-room.result.readers) _ (ap view_after c.note.ensures) (by-asked _ _ _ _ _ _ (ap view_after c.note.ensures))

@@ -1,6 +1,6 @@
 use Rattle.std.proofs.Common.{ap, sym, subst, refl}
 use Rattle.hub_core.proofs.Growing.{same-joined, reads-saw, by-saw}
-use Rattle.hub_core.proofs.Hubs.{shown-of, hub-rises, party-at, party-there, party-row}
+use Rattle.hub_core.proofs.Hubs.{shown-of, stays-same, party-at, party-there, party-row}
 use Rattle.hub_core.proofs.Led.{saw-may}
 use Rattle.hub_core.proofs.Ledger.{streams}
 use Rattle.hub_core.proofs.Looks.{seen-exact, seen-rises, seen-fresh}
@@ -43,9 +43,6 @@ invariant_of-self c =
     let all = subst (IsShown hub.sizes.items hub.places.items hub.words.items hub.changes hub.free hub.takes) (sym (ap view_after c.note.ensures)) after in
     record { laid = hub.laid; places_show = all.places_show; words_show = all.words_show; counts = all.counts; led = all.led }
 
-pub returns-clause-by : goal.returns-clause-by
-returns-clause-by c = by-saw _ _ _ _ _ _ _ _ (ap view_after c.note.ensures)
-
 pub returns-clause-reads : goal.returns-clause-reads
 returns-clause-reads c = reads-saw _ _ _ _ _ c.requires (returns-clause-cells c) (ap view_after c.note.ensures) (same-joined _ _ refl)
 
@@ -55,5 +52,5 @@ returns-clause-fresh c =
     let found = party-row hub (Read c.args.at.now) c.from.result c.index.result.now c.in-Occupied.row c.requires c.from.ensures c.index.ensures c.in-Occupied.is in
     seen-fresh hub.sizes.items hub.places.items hub.words.items hub.changes hub.free hub.takes (view_after hub.past.seat.me.0.deeds) (shown-of hub) c.args.at.now c.in-Occupied.row c.requires found.0 found.1 found.2
 
-pub returns-clause-rise : goal.returns-clause-rise
-returns-clause-rise c = hub-rises c.args.self.now (Saw c.args.at.now.path.0 c.args.at.now.dest.0 c.args.at.now.seq c.in-Occupied.row.shown c.in-Occupied.row.told c.in-Occupied.row.writes) _ (ap view_after c.note.ensures)
+pub returns-clause-stays : goal.returns-clause-stays
+returns-clause-stays c = stays-same c.args.self.now (Saw c.args.at.now.path.0 c.args.at.now.dest.0 c.args.at.now.seq c.in-Occupied.row.shown c.in-Occupied.row.told c.in-Occupied.row.writes) _ (ap view_after c.note.ensures) (by-saw _ _ _ _ _ _ _ _ (ap view_after c.note.ensures))

@@ -9,14 +9,14 @@ pub returns-then-room-eq0-clause-over : goal.returns-then-room-eq0-clause-over
 returns-then-room-eq0-clause-over g c =
     rw (c.requires.state) (over-by
     (over-asked _ _ _ c.args.self.now.set c.args.reception c.room-room.result c.room-room.new.at _ _ _ _ _ (λ busy m. Ends c.args.self.now.set c.args.self.now.next_n c.args.self.now.next_seq busy NoReaders m)
-    c.requires.knows.path_is c.room-room.ensures.token c.room-room.ensures.view c.room-room.ensures.rise c.room-room.ensures.fresh c.end.ensures.over)
+    c.requires.knows.path_is c.room-room.ensures.token c.room-room.ensures.view c.room-room.ensures.stays.rise c.room-room.ensures.fresh c.end.ensures.over)
     (λ calls row. NoneReadsOn c.room-room.result.cells c.room-room.result.readers c.if-room-eq0.true row))
 
 pub returns-then-room-need-clause-over : goal.returns-then-room-need-clause-over
 returns-then-room-need-clause-over g c =
     rw (c.requires.state) (over-by
     (over-asked _ _ _ c.args.self.now.set c.args.reception c.room-room.result c.room-room.new.at _ _ _ _ _ (λ busy m. Ends c.args.self.now.set c.args.self.now.next_n c.args.self.now.next_seq busy (NoRoom c.room-room.result.cells c.len-need.result) m)
-    c.requires.knows.path_is c.room-room.ensures.token c.room-room.ensures.view c.room-room.ensures.rise c.room-room.ensures.fresh c.end-then-room-need.ensures.over)
+    c.requires.knows.path_is c.room-room.ensures.token c.room-room.ensures.view c.room-room.ensures.stays.rise c.room-room.ensures.fresh c.end-then-room-need.ensures.over)
     (λ calls row. TooLittleRoom c.room-room.result.cells c.room-room.result.readers c.len-need.result (omega (arith, c.if-room-eq0.false)) (c.len-need.ensures.value ∙ c.pack-cells.ensures.number) c.if-room-need.true row))
 
 pub returns-then-reception-clause-over : goal.returns-then-reception-clause-over
@@ -24,30 +24,30 @@ returns-then-reception-clause-over g c =
     rw (c.requires.state) (over-by
     (over-asked _ _ _ c.args.self.now.set c.args.reception c.room-room.result c.room-room.new.at _ _ _ _ _
     (λ busy m. After (puts c.args.self.now.set.path.0 busy.opened.seq c.as_slice.result.now) m (Ends c.args.self.now.set c.args.self.now.next_n c.args.self.now.next_seq (gone_on busy (length c.args.bytes.now) c.args.tick.0) Whole))
-    c.requires.knows.path_is c.room-room.ensures.token c.room-room.ensures.view c.room-room.ensures.rise c.room-room.ensures.fresh
+    c.requires.knows.path_is c.room-room.ensures.token c.room-room.ensures.view c.room-room.ensures.stays.rise c.room-room.ensures.fresh
     (over-put _ _ _ c.args.self.now.set (record c.args.reception { writer = c.room-room.new.at }) c.gone_on-reception.result c.put_all.new.writer c.as_slice.result.now (length c.args.bytes.now) c.args.tick.0 _ _ _ _
     (λ busy m. Ends c.args.self.now.set c.args.self.now.next_n c.args.self.now.next_seq busy Whole m)
-    (ap (λ p. p.0) c.room-room.ensures.fields.path ∙ c.requires.knows.path_is) (ap counted c.as_slice.ensures.value ∙ c.pack-cells.ensures.counted) c.put_all.ensures.fields c.put_all.ensures.view c.put_all.ensures.rise c.gone_on-reception.ensures.busy c.end-then-reception.ensures.over))
+    (ap (λ p. p.0) c.room-room.ensures.token.path ∙ c.requires.knows.path_is) (ap counted c.as_slice.ensures.value ∙ c.pack-cells.ensures.counted) c.put_all.ensures.fields c.put_all.ensures.view c.put_all.ensures.home.rise c.gone_on-reception.ensures.busy c.end-then-reception.ensures.over))
     (λ calls row. Fills c.room-room.result.cells c.room-room.result.readers c.as_slice.result.now (omega (arith, c.if-room-eq0.false))
     (omega (arith, c.if-room-need.false, c.len-need.ensures.value, ap length c.as_slice.ensures.value)) (rw c.as_slice.ensures.value c.pack-cells.ensures.packed)
-    (omega (arith, c.if-reception.true, ap (λ w. w.given) c.gone_on-reception.ensures.writer, ap (λ w. w.len) c.gone_on-reception.ensures.writer, c.put_all.ensures.fields.given, c.put_all.ensures.fields.len, c.room-room.ensures.fields.given, c.room-room.ensures.fields.len, ap counted c.as_slice.ensures.value, c.pack-cells.ensures.counted)) row))
+    (omega (arith, c.if-reception.true, ap (λ w. w.given) c.gone_on-reception.ensures.writer, ap (λ w. w.len) c.gone_on-reception.ensures.writer, c.put_all.ensures.fields.given, c.put_all.ensures.fields.len, c.room-room.ensures.token.given, c.room-room.ensures.token.len, ap counted c.as_slice.ensures.value, c.pack-cells.ensures.counted)) row))
 
 pub returns-clause-over : goal.returns-clause-over
 returns-clause-over g c =
     over-by
     (over-asked _ _ _ c.args.self.now.set c.args.reception c.room-room.result c.room-room.new.at _ _ _ _ _
     (λ busy m. After (puts c.args.self.now.set.path.0 busy.opened.seq c.as_slice.result.now) m (GoesOn c.args.self.now.next_n c.args.self.now.next_seq (gone_on busy (length c.args.bytes.now) c.args.tick.0)))
-    c.requires.knows.path_is c.room-room.ensures.token c.room-room.ensures.view c.room-room.ensures.rise c.room-room.ensures.fresh
+    c.requires.knows.path_is c.room-room.ensures.token c.room-room.ensures.view c.room-room.ensures.stays.rise c.room-room.ensures.fresh
     (over-put _ _ _ c.args.self.now.set (record c.args.reception { writer = c.room-room.new.at }) c.gone_on-reception.result c.put_all.new.writer c.as_slice.result.now (length c.args.bytes.now) c.args.tick.0 _ _ _ _
     (λ busy m. GoesOn c.args.self.now.next_n c.args.self.now.next_seq busy m)
-    (ap (λ p. p.0) c.room-room.ensures.fields.path ∙ c.requires.knows.path_is) (ap counted c.as_slice.ensures.value ∙ c.pack-cells.ensures.counted) c.put_all.ensures.fields c.put_all.ensures.view c.put_all.ensures.rise c.gone_on-reception.ensures.busy
+    (ap (λ p. p.0) c.room-room.ensures.token.path ∙ c.requires.knows.path_is) (ap counted c.as_slice.ensures.value ∙ c.pack-cells.ensures.counted) c.put_all.ensures.fields c.put_all.ensures.view c.put_all.ensures.home.rise c.gone_on-reception.ensures.busy
     (record {
       calls = [];
       grown = refl;
       fresh = tt;
       moves_are = c.nothing.ensures.moves;
       row = record {
-        more_due = omega (arith, c.if-reception.false, c.requires.within, ap (λ w. w.given) c.gone_on-reception.ensures.writer, ap (λ w. w.len) c.gone_on-reception.ensures.writer, c.put_all.ensures.fields.given, c.put_all.ensures.fields.len, c.room-room.ensures.fields.given, c.room-room.ensures.fields.len, ap counted c.as_slice.ensures.value, c.pack-cells.ensures.counted);
+        more_due = omega (arith, c.if-reception.false, c.requires.within, ap (λ w. w.given) c.gone_on-reception.ensures.writer, ap (λ w. w.len) c.gone_on-reception.ensures.writer, c.put_all.ensures.fields.given, c.put_all.ensures.fields.len, c.room-room.ensures.token.given, c.room-room.ensures.token.len, ap counted c.as_slice.ensures.value, c.pack-cells.ensures.counted);
         calls = refl;
         act = c.nothing.ensures.fc;
         records = c.nothing.ensures.records;

@@ -8,7 +8,7 @@ use Rattle.tp_receiver.proofs.receiver.Receiver.first_frame.Goals as goal
 pub returns-in-Err-clause-over : goal.returns-in-Err-clause-over
 returns-in-Err-clause-over g c =
     over-starts _ _ _ _ _ (state_of c.args.self.now) _ _ _ (FirstFrame c.args.len c.args.bytes.now) _ _ (box_meaning_of c.told-told.result.fc) _ _ _ _ (idle (c.interrupt-acts.new.self.next_n + 1) c.interrupt-acts.new.self.next_seq) _ _ [] _
-    c.interrupt-acts.ensures.over (ap (λ r. r.set) c.interrupt-acts.ensures.receiver) (ap (λ r. r.next_n) c.interrupt-acts.ensures.receiver) (ap (λ r. r.next_seq) c.interrupt-acts.ensures.receiver) c.interrupt-acts.ensures.rise
+    c.interrupt-acts.ensures.over (ap (λ r. r.set) c.interrupt-acts.ensures.receiver) (ap (λ r. r.next_n) c.interrupt-acts.ensures.receiver) (ap (λ r. r.next_seq) c.interrupt-acts.ensures.receiver) c.interrupt-acts.ensures.home.rise
     (over-by c.in-Err.ensures.refused (λ calls row. NoBufferFirst c.requires.more (record {
       number = row.number;
       free = row.free;
@@ -25,10 +25,10 @@ returns-in-Err-clause-over g c =
 pub returns-in-Ok-clause-over : goal.returns-in-Ok-clause-over
 returns-in-Ok-clause-over g c =
     over-starts _ _ _ _ _ (state_of c.args.self.now) _ _ _ (FirstFrame c.args.len c.args.bytes.now) _ _ (box_meaning_of c.after-begun.result.fc) _ _ _ _ _ _ _ _ _
-    c.interrupt-acts.ensures.over (ap (λ r. r.set) c.interrupt-acts.ensures.receiver) (ap (λ r. r.next_n) c.interrupt-acts.ensures.receiver) (ap (λ r. r.next_seq) c.interrupt-acts.ensures.receiver) c.interrupt-acts.ensures.rise
+    c.interrupt-acts.ensures.over (ap (λ r. r.set) c.interrupt-acts.ensures.receiver) (ap (λ r. r.next_n) c.interrupt-acts.ensures.receiver) (ap (λ r. r.next_seq) c.interrupt-acts.ensures.receiver) c.interrupt-acts.ensures.home.rise
     (over-by (over-opened _ _ _ c.interrupt-acts.new.self.set c.interrupt-acts.new.self.next_seq c.args.len c.args.bytes.now (reception_of c.in-Ok.reception).opened c.args.tick.0 (box_meaning_of c.grant-granted.result.fc) _ _ _ _ _ _ c.after-begun.result.moves.items
     (Grants c.interrupt-acts.new.self.set (c.interrupt-acts.new.self.next_n + 1) (c.interrupt-acts.new.self.next_seq + 1) (begun c.interrupt-acts.new.self.next_n c.args.len c.args.size (length c.args.bytes.now) c.args.tick.0 (reception_of c.in-Ok.reception).opened))
-    c.in-Ok.ensures.opened.over c.in-Ok.ensures.rise
+    c.in-Ok.ensures.opened.over c.in-Ok.ensures.home.rise
     (over-same _ _ _ _ _ _ _ _ _ _ _ (λ set next seq busy calls. Grants set next seq busy (record { tick = c.args.tick.0; calls = calls; act = box_meaning_of c.grant-granted.result.fc; records = c.grant-granted.result.records.items; new = state_of c.grant-granted.new.self }))
     c.in-Ok.ensures.set c.in-Ok.ensures.next_n c.in-Ok.ensures.next_seq c.in-Ok.ensures.opened.is c.grant-granted.ensures.over)
     (c.after-begun.ensures.moves ∙ ap (λ m. m ∷ c.grant-granted.result.moves.items) c.taken-take.ensures) c.after-begun.ensures.fc c.after-begun.ensures.records)

@@ -6,7 +6,7 @@ use Rattle.tp_receiver.proofs.receiver.Receiver.open.Goals as goal
 
 pub returns-in-Overflow-clause-refused : goal.returns-in-Overflow-clause-refused
 returns-in-Overflow-clause-refused g c = record {
-  calls = Refused c.in-Overflow.change c.in-Overflow.free c.len-need.result ∷ [];
+  calls = Refused c.args.self.now.set.group.0 c.in-Overflow.change c.in-Overflow.free c.len-need.result ∷ [];
   grown = c.in-Overflow.ensures.view;
   fresh = (c.in-Overflow.ensures.fresh, tt);
   moves_are = refl;

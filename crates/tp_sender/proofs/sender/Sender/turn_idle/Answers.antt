@@ -6,4 +6,4 @@ returns-in_default-clause-step g c =
     turn-none _ _ _ _ _ _ _ c.requires.idle c.in_default.ensures.joins.0 c.in_default.ensures.joins.2 c.nothing.ensures.boxed c.nothing.ensures.ended c.nothing.ensures.moved
 
 pub returns-clause-step : goal.returns-clause-step
-returns-clause-step g c = turn-joined _ _ _ _ _ _ _ _ _ c.requires.idle c.in-Some.ensures.joins c.in-Some.ensures.rise c.begin-outcome.ensures.step
+returns-clause-step g c = turn-joined _ _ _ _ _ _ _ _ _ c.requires.idle c.in-Some.ensures.joins c.in-Some.ensures.home.rise c.begin-outcome.ensures.step

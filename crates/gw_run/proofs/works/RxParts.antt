@@ -1,47 +1,29 @@
--- A run over one path holds a run of its receiver by itself, on a bus that always has a place for its flow controls.
-use Rattle.std.proofs.Common.{◌≡◌, inl, inr, ℕ, ◌+◌, ◌≤◌, Bool, true, false, Option, None, Some, List, [], ◌∷◌, ◌++◌, refl, ap, sym, ◌∙◌, subst, arith, append_assoc}
-use Rattle.hub_core.specs.Turns.{came_by, records_by, state_after}
-use Rattle.hub_core.proofs.Turns.{came-append, happened-front}
-use Rattle.gw_base.proofs.Lists.{all-front}
-use Rattle.std.specs.List.{AllByRecursion}
-use Rattle.tp_attempts.specs.Seen.{Seen}
-use Rattle.receiver_law.specs.Channel.{is_full}
-use Rattle.receiver_law.specs.FlowControls.{FlowControlLaw}
-use Rattle.receiver_law.specs.Looks.{AreShort}
+-- The receiver of the loop's works, by itself: its run is one of those that the laws of a receiver speak of.
+use Rattle.std.proofs.Common.{◌≡◌, inl, inr, ℕ, ◌+◌, ◌≤◌, Bool, false, Option, None, Some, List, [], ◌∷◌, ◌++◌, refl, ap, sym, ◌∙◌, subst, arith, append_assoc}
+use Rattle.hub_core.proofs.Turns.{happened-front}
+use Rattle.hub_core.specs.Turns.{Part, state_after, tick_after as tick_after_parts, turns_of as turns_of_parts}
 use Rattle.receiver_law.specs.Parts.{ControlLeaves, ReceivesIn}
-use Rattle.receiver_law.specs.ReceptionCauses.{AreCaused, AreNeverBoxed, IsShortStart}
-use Rattle.receiver_law.specs.RxRun.{AreRxParts, IsLeftIn, IsRxIdle, IsRxPart, IsRxRun, RxRun, source_of, turns_in}
-use Rattle.hub_core.specs.Turns.{Part}
-use Rattle.tp_unit.specs.Box.{Nothing, IsNeverFull, Leaves, Went}
-use Rattle.hub_core.specs.Turns.{turns_of as turns_of_parts, tick_after as tick_after_parts}
-use Rattle.receiver_law.proofs.controls.FlowControls.{IsKnown, law-fuller}
-use Rattle.receiver_law.proofs.causes.ReceptionCauses.{caused-fuller}
-use Rattle.receiver_law.proofs.runs.RxLaws.{flow_control_law_of, known-of-run, reception_law_of}
-use Rattle.receiver_law.proofs.runs.RxRuns.{controls-of-run-rise}
+use Rattle.receiver_law.specs.RxRun.{AreRxParts, IsLeftIn, IsRxIdle, IsRxPart, IsRxRun, RxRun, turns_in}
 use Rattle.tp_receiver.proofs.Made.{after-left}
-use Rattle.tp_receiver.specs.declared.set.RxSet.{RxSet}
-use Rattle.tp_receiver.specs.Runs.{HasReceived, control_after, control_once, controls_by, frames_in}
-use Rattle.tp_receiver.specs.State.{RxTurn, RxEvent, RxState, rx_new}
+use Rattle.tp_receiver.specs.Runs.{HasReceived, control_after, control_once}
+use Rattle.tp_receiver.specs.State.{RxEvent, RxState, RxTurn, rx_new}
 use Rattle.tp_receiver.specs.Table.{RxStep}
-use Rattle.tp_unit.proofs.Rises.{Rise}
-use Rattle.tp_unit.specs.Box.{box_then}
-use Rattle.tp_unit.specs.Shape.{IsShape}
+use Rattle.tp_receiver.specs.declared.set.RxSet.{RxSet}
+use Rattle.tp_unit.specs.Box.{Leaves, Nothing, Went, box_then}
 use Rattle.tp_unit.specs.Unit.{Keeps, Meaning}
-use Rattle.gw_law.specs.Run.{AreTicks, IsIdle, Work, tick_after, turns_of}
-use Rattle.gw_law.specs.Small.{IsSmall}
-use Rattle.gw_law.proofs.causes.RxLooks.{all-look}
-use Rattle.gw_law.proofs.runs.WholeRun.{WholeRun, route, works_of}
+use Rattle.gw_run.specs.Works.{AreTicks, IsIdle, Work, tick_after, turns_of}
+use Rattle.gw_run.proofs.works.SerialRun.{SerialRun, works_of}
 
--- no tick
-abbrev never : ℕ → Bool
+-- a bus that is full in no tick
+abbrev pub never : ℕ → Bool
 never tick = false
 
 -- the receiver's parts
-abbrev parts_of : List Work → List (Part RxTurn)
+abbrev pub parts_of : List Work → List (Part RxTurn)
 parts_of [] = []
 parts_of (work ∷ earlier) = record { tick = work.tick; turns = work.turns } ∷ parts_of earlier
 
-turns-same : (works : List Work) → turns_of_parts (parts_of works) ≡ turns_of works
+pub turns-same : (works : List Work) → turns_of_parts (parts_of works) ≡ turns_of works
 turns-same [] = refl
 turns-same (work ∷ earlier) = ap (λ t. work.turns ++ t) (turns-same earlier)
 
@@ -102,13 +84,13 @@ parts-are set sizes (work ∷ earlier) are happened =
     )
 
 -- the receiver's run
-abbrev pub rx_run : WholeRun → RxRun
+abbrev pub rx_run : SerialRun → RxRun
 rx_run o = record { set = o.rx; shape = o.shape; full = never; last = o.last; parts = parts_of o.ticks; end = o.end.turns }
 
-turns-are : (o : WholeRun) → turns_in (rx_run o) ≡ turns_of (works_of o)
+pub turns-are : (o : SerialRun) → turns_in (rx_run o) ≡ turns_of (works_of o)
 turns-are o = ap (λ t. o.end.turns ++ t) (turns-same o.ticks)
 
-pub is-rx-run : (o : WholeRun) → IsRxRun (rx_run o)
+pub is-rx-run : (o : SerialRun) → IsRxRun (rx_run o)
 is-rx-run o = record {
   happened = subst (HasReceived o.rx) (sym (turns-are o)) o.run.received;
   parts_are = parts-are o.rx o.sizes o.ticks o.run.ticks_are (happened-front _ o.end.turns (turns_of o.ticks) o.run.received);
@@ -119,35 +101,3 @@ is-rx-run o = record {
   ];
   ends = o.run.ends.receives;
 }
-
-never-full : IsNeverFull never
-never-full tick = refl
-
-fuller : (other : ℕ → Bool) (tick : ℕ) → never tick ≡ true → other tick ≡ true
-fuller other tick is = cc
-
-source-is : (o : WholeRun) → source_of o.source_budget (rx_run o) ≡ (route o).source
-source-is o = ap (λ t. record { rx = o.rx; shape = o.shape; budget = o.source_budget; last = o.last; seen = came_by frames_in t; controls = controls_by o.shape t; sessions = records_by t }) (turns-are o)
-
--- the receiver's laws, in a run over one path
-pub flow_controls_of : (o : WholeRun) → 1 ≤ o.rx.n_ar → FlowControlLaw (is_full (route o).source) (route o).source
-flow_controls_of o some =
-    law-fuller never (is_full (route o).source) (route o).source (fuller (is_full (route o).source)) (subst (FlowControlLaw never) (source-is o) (flow_control_law_of (rx_run o) o.source_budget (is-rx-run o) never-full some))
-
-pub known_of : (o : WholeRun) → IsKnown (route o).source
-known_of o = subst IsKnown (source-is o) (known-of-run (rx_run o) o.source_budget never-full (is-rx-run o))
-
-pub receptions_of : (o : WholeRun) → IsShape o.shape → 1 ≤ o.rx.n_cr → IsSmall (route o) → AreCaused (is_full (route o).source) (route o).source × AreNeverBoxed (route o).source
-receptions_of o sound some small =
-    let Short : Seen → Type 0 = λ frame. IsShortStart frame.size frame.meaning in
-    let starts : AllByRecursion Short (came_by frames_in (turns_of o.ticks)) =
-    all-front Short (came_by frames_in (turns_of o.ticks)) (came_by frames_in o.end.turns) (subst (AllByRecursion Short) (came-append frames_in o.end.turns (turns_of o.ticks)) small.starts) in
-    let short : AreShort o.rx (turns_of_parts (parts_of o.ticks)) = subst (AreShort o.rx) (sym (turns-same o.ticks)) (record { address = small.address; starts = starts; looks = all-look o small.buffer }) in
-    let both = reception_law_of (rx_run o) o.source_budget (is-rx-run o) never-full sound some short in (
-      caused-fuller never (is_full (route o).source) (route o).source (fuller (is_full (route o).source)) (subst (AreCaused never) (source-is o) both.0),
-      subst AreNeverBoxed (source-is o) both.1,
-    )
-
--- the ticks of the flow controls that left
-pub controls-of-run : (o : WholeRun) → Rise 0 (controls_by o.shape (turns_of (works_of o))) (o.last + 1)
-controls-of-run o = subst (λ (t : List RxTurn). Rise 0 (controls_by o.shape t) (o.last + 1)) (turns-are o) (controls-of-run-rise (rx_run o) never-full (is-rx-run o))

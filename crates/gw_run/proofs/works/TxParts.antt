@@ -1,25 +1,19 @@
--- The sender of a run over one path, by itself: its run is one of those that the laws of a sender speak of.
-use Rattle.std.proofs.Common.{◌≡◌, ◌⊎◌, inl, inr, ℕ, ◌+◌, Option, None, Some, List, [], ◌∷◌, ◌++◌, refl, ap, sym, ◌∙◌, subst, arith}
+-- The sender of the loop's works, by itself: its run is one of those that the laws of a sender speak of.
+use Rattle.std.proofs.Common.{◌≡◌, ◌⊎◌, inl, inr, ℕ, ◌+◌, ◌≤◌, Option, None, Some, List, [], ◌∷◌, ◌++◌, refl, ap, sym, ◌∙◌, subst, arith}
 use Rattle.hub_core.proofs.Turns.{happened-front}
-use Rattle.hub_core.specs.Turns.{Part, came_by, records_by, state_after, tick_after as tick_past, turns_of as turns_in_parts}
-use Rattle.tp_sender.specs.Runs.{HasSent, box_after, controls_in, left_by}
+use Rattle.hub_core.specs.Turns.{Part, state_after, tick_after as tick_past, turns_of as turns_in_parts}
+use Rattle.sender_law.proofs.TxParts.{idle-box}
+use Rattle.sender_law.specs.Parts.{FrameLeaves, IsStepIn, IsTxPart, SendsIn}
+use Rattle.sender_law.specs.Runs.{AreTxParts, IsTxIdle, IsTxRun, TxRun, turns_in}
+use Rattle.tp_sender.specs.Runs.{HasSent, box_after}
 use Rattle.tp_sender.specs.State.{TxTurn, tx_new}
 use Rattle.tp_sender.specs.declared.event.TxEvent.TheVariants.{Left}
 use Rattle.tp_sender.specs.declared.set.TxSet.{TxSet}
-use Rattle.tp_unit.proofs.Rises.{Rise}
 use Rattle.tp_unit.specs.Box.{Leaves, Nothing, Went}
 use Rattle.tp_unit.specs.Unit.{Meaning}
-use Rattle.gw_law.specs.Run.{AreTicks, IsIdle, Work, moments_of, tick_after}
-use Rattle.gw_law.proofs.runs.WholeRun.{WholeRun, route, works_of}
-use Rattle.sender_law.proofs.records.DestRecords.{dest_records}
-use Rattle.sender_law.proofs.Emission.{run-rises}
-use Rattle.sender_law.proofs.causes.TransmissionCauses.{causes}
-use Rattle.sender_law.proofs.TxParts.{idle-box}
-use Rattle.sender_law.specs.Channel.{DestChannel, never_full}
-use Rattle.sender_law.specs.Emission.{DestRecords}
-use Rattle.sender_law.specs.TransmissionCauses.{TransmissionCauses}
-use Rattle.sender_law.specs.Parts.{FrameLeaves, IsStepIn, IsTxPart, SendsIn}
-use Rattle.sender_law.specs.Runs.{AreTxParts, HasLimits, IsTxIdle, IsTxRun, TxRun, leg_of, turns_in}
+use Rattle.gw_run.specs.Works.{AreTicks, IsIdle, Work, moments_of, tick_after}
+use Rattle.gw_run.proofs.works.RxParts.{never}
+use Rattle.gw_run.proofs.works.SerialRun.{SerialRun, works_of}
 
 -- the sender's part of each tick
 abbrev pub tx_part : Work → Part TxTurn
@@ -38,12 +32,12 @@ parts-tick [] = refl
 parts-tick (work ∷ earlier) = refl
 
 -- what lies in its box leaves
-leaves : (tick : ℕ) (lies : Option Meaning) (left : List TxTurn) → FrameLeaves tick lies left → Leaves (IsStepIn tick Left) never_full tick lies left
+leaves : (tick : ℕ) (lies : Option Meaning) (left : List TxTurn) → FrameLeaves tick lies left → Leaves (IsStepIn tick Left) never tick lies left
 leaves tick None left is = Nothing refl is
 leaves tick (Some meaning) [] is = absurd is
 leaves tick (Some meaning) (turn ∷ more) is = Went meaning turn refl (ap (λ l. turn ∷ l) is.1) is.0
 
-part-is : (earlier : List TxTurn) (work : Work) → SendsIn work.tick earlier work.moments → IsTxPart never_full earlier (tx_part work)
+part-is : (earlier : List TxTurn) (work : Work) → SendsIn work.tick earlier work.moments → IsTxPart never earlier (tx_part work)
 part-is earlier work sends = record {
   answers = sends.answers;
   turn = sends.turn;
@@ -63,11 +57,11 @@ rests : (set : TxSet) (works : List Work) (tick : ℕ) → HasSent set (moments_
 rests set works tick sent (inl idle) = let P : List TxTurn → Type 0 = λ l. IsTxIdle l in inl (subst P (sym (parts-turns works)) (idle-is set (moments_of works) sent idle.sender))
 rests set works tick sent (inr at) = inr (at ∙ sym (parts-tick works))
 
-pub are-parts : (set : TxSet) (sizes : List ℕ) (works : List Work) → AreTicks sizes works → HasSent set (moments_of works) → AreTxParts never_full (tx_parts works)
+pub are-parts : (set : TxSet) (sizes : List ℕ) (works : List Work) → AreTicks sizes works → HasSent set (moments_of works) → AreTxParts never (tx_parts works)
 are-parts set sizes [] ticks sent = tt
 are-parts set sizes (work ∷ earlier) ticks sent =
     let before : HasSent set (moments_of earlier) = happened-front _ work.moments (moments_of earlier) sent in
-    let P : List TxTurn → Type 0 = λ l. IsTxPart never_full l (tx_part work) in (
+    let P : List TxTurn → Type 0 = λ l. IsTxPart never l (tx_part work) in (
       record {
         later = omega (arith, ticks.0.later, parts-tick earlier);
         next = rests set earlier work.tick before ticks.0.next;
@@ -77,17 +71,17 @@ are-parts set sizes (work ∷ earlier) ticks sent =
     )
 
 -- the sender's own run
-abbrev pub tx_run : WholeRun → TxRun
-tx_run o = record { set = o.tx; full = never_full; last = o.last; parts = tx_parts o.ticks; end = o.end.moments }
+abbrev pub tx_run : SerialRun → TxRun
+tx_run o = record { set = o.tx; full = never; last = o.last; parts = tx_parts o.ticks; end = o.end.moments }
 
-pub run-turns : (o : WholeRun) → turns_in (tx_run o) ≡ moments_of (works_of o)
+pub run-turns : (o : SerialRun) → turns_in (tx_run o) ≡ moments_of (works_of o)
 run-turns o = ap (λ l. o.end.moments ++ l) (parts-turns o.ticks)
 
-reached-by : (o : WholeRun) → HasSent o.tx (moments_of o.ticks) → IsIdle o.ticks ⊎ (tick_after o.ticks ≡ o.last + 1) → IsTxIdle (turns_in_parts (tx_parts o.ticks)) ⊎ (tick_past (tx_parts o.ticks) ≡ o.last + 1)
+reached-by : (o : SerialRun) → HasSent o.tx (moments_of o.ticks) → IsIdle o.ticks ⊎ (tick_after o.ticks ≡ o.last + 1) → IsTxIdle (turns_in_parts (tx_parts o.ticks)) ⊎ (tick_past (tx_parts o.ticks) ≡ o.last + 1)
 reached-by o sent (inl idle) = let P : List TxTurn → Type 0 = λ l. IsTxIdle l in inl (subst P (sym (parts-turns o.ticks)) (idle-is o.tx (moments_of o.ticks) sent idle.sender))
 reached-by o sent (inr at) = inr (parts-tick o.ticks ∙ at)
 
-pub is-tx-run : (o : WholeRun) → IsTxRun (tx_run o)
+pub is-tx-run : (o : SerialRun) → IsTxRun (tx_run o)
 is-tx-run o =
     let before : HasSent o.tx (moments_of o.ticks) = happened-front _ o.end.moments (moments_of o.ticks) o.run.sent in
     let H : List TxTurn → Type 0 = λ l. HasSent o.tx l in
@@ -101,21 +95,3 @@ is-tx-run o =
       ends = o.run.ends.sends;
       idle = subst L (sym (run-turns o)) o.run.ends.idle.sender;
     }
-
--- what holds of its channel holds of the destination's channel that the run tells of
-pub of-leg : (P : DestChannel → Type 0) (o : WholeRun) → P (leg_of o.budget (tx_run o)) → P (route o).leg
-of-leg P o is =
-    let Q : List TxTurn → Type 0 = λ turns. P (record { tx = o.tx; budget = o.budget; last = o.last; answers = came_by controls_in turns; frames = left_by o.tx.shape turns; dests = records_by turns }) in
-    subst Q (run-turns o) is
-
--- the sender's laws
-pub frames-of-run : (o : WholeRun) → Rise 0 (left_by o.tx.shape (moments_of (works_of o))) (o.last + 1)
-frames-of-run o =
-    let P : List TxTurn → Type 0 = λ turns. Rise 0 (left_by o.tx.shape turns) (o.last + 1) in
-    subst P (run-turns o) (run-rises (tx_run o) (is-tx-run o))
-
-pub records-of-run : (o : WholeRun) → DestRecords (route o).leg
-records-of-run o = of-leg DestRecords o (dest_records (tx_run o) o.budget (is-tx-run o))
-
-pub causes-of-run : (o : WholeRun) → HasLimits o.tx → TransmissionCauses never_full (route o).leg
-causes-of-run o some = of-leg (TransmissionCauses never_full) o (causes (tx_run o) o.budget (is-tx-run o) some)

@@ -14,16 +14,17 @@ use Rattle.hub_core.specs.View.{View, Event, Session, at_one, change_at, empty_v
 use Rattle.tp_receiver.specs.declared.set.RxSet.{RxSet}
 use Rattle.tp_sender.specs.declared.set.TxSet.{TxSet}
 use Rattle.receiver_law.specs.Parts.{AreLooks, LooksCount}
-use Rattle.gw_law.specs.Run.{AreTicks, Work, moments_of, turns_of, view_of}
+use Rattle.gw_run.specs.Works.{AreTicks, Work, moments_of, turns_of, view_of}
 use Rattle.receiver_law.specs.Looks.{AllLook, LooksWell}
 use Rattle.receiver_law.proofs.sessions.Sessions.{AllFilled, all-filled, stored_in}
-use Rattle.gw_law.proofs.runs.Wholes.{OwnSessions, sessions-own}
+use Rattle.gw_run.proofs.works.Wholes.{OwnSessions, sessions-own}
 use Rattle.gw_base.proofs.Lists.{all-front}
 use Rattle.hub_core.proofs.Growing.{grows-append}
+use Rattle.hub_core.proofs.OneGroup.{alone}
 use Rattle.hub_core.proofs.Turns.{calls-append, happened-front}
 use Rattle.hub_core.proofs.Beside.{sessions-grown}
 use Rattle.receiver_law.proofs.sessions.Entries.{IsBelow}
-use Rattle.gw_law.proofs.runs.WholeRun.{WholeRun, works_of}
+use Rattle.gw_run.proofs.works.SerialRun.{SerialRun, works_of}
 
 -- the cells of the buffers of a path's sessions
 abbrev sizes_at : ℕ → View → List ℕ
@@ -52,14 +53,14 @@ longer-changed path p seq f sessions keeps = longer-at path p (change_at seq f (
 
 longer-grow : (path : ℕ) (event : Event) (v : View) → Longer (sizes_at path v) (sizes_at path (grow event v))
 unfolding grow
-longer-grow path (Took number buf size need) v = longer-same (sizes_at path v)
-longer-grow path (Refused number free need) v = longer-same (sizes_at path v)
+longer-grow path (Took group number buf size need) v = longer-same (sizes_at path v)
+longer-grow path (Refused group number free need) v = longer-same (sizes_at path v)
 longer-grow path (Entered p seq buf number size len readers) v = longer-at path p (v.sessions p ++ session_new buf number size len readers ∷ []) v.sessions (size ∷ [], map-append (λ (s : Session). s.size) (v.sessions p) (session_new buf number size len readers ∷ []))
 longer-grow path (Asked p seq cells readers) v = longer-changed path p seq (λ s. record s { room = cells; readers = readers }) v.sessions (λ s. refl)
 longer-grow path (Put p seq cell) v = longer-changed path p seq _ v.sessions (λ s. refl)
 longer-grow path (Published p seq bytes) v = longer-changed path p seq (λ s. record s { shown = length s.cells; told = s.told + bytes }) v.sessions (λ s. refl)
 longer-grow path (Joining p dest seq buf len) v = longer-same (sizes_at path v)
-longer-grow path (Missed p dest seq) v = longer-same (sizes_at path v)
+longer-grow path (Missed group p dest seq) v = longer-same (sizes_at path v)
 longer-grow path (Saw p dest seq cells bytes writer) v = longer-same (sizes_at path v)
 longer-grow path (Read p dest seq cell) v = longer-same (sizes_at path v)
 longer-grow path (Closed p seq freed) v = longer-changed path p seq (λ s. record s { stands = false }) v.sessions (λ s. refl)
@@ -148,10 +149,10 @@ looks-ticks rx tx sizes (work ∷ earlier) ticks received sent four =
     looks-turns rx work.turns (turns_of earlier) (view_of earlier) ticks.0.looks received (sessions-own rx tx earlier before sent_before) four
     (looks-ticks rx tx sizes earlier ticks.1 before sent_before (four-front rx work.turns (turns_of earlier) four))
 
-pub all-look : (o : WholeRun) → o.sizes ≡ 4 ∷ [] → AllLook o.rx (turns_of o.ticks)
+pub all-look : (o : SerialRun) → o.sizes ≡ 4 ∷ [] → AllLook o.rx (turns_of o.ticks)
 all-look o one =
     let v : View = view_of (works_of o) in
     let P : List Session → Type 0 = λ sessions. AllByRecursion (λ (size : ℕ). size ≡ 4) (map (λ (s : Session). s.size) sessions) in
     let four : AreFour o.rx.path.0 (grows (calls_by (turns_of (works_of o))) empty_view) = subst P (sessions-own o.rx o.tx (works_of o) o.run.received o.run.sent) (four-all (v.sessions o.rx.path.0) (λ place s is.
-    let taken = o.run.joint.owned.taken o.rx.path.0 place s is in only-size o.sizes s.buf s.size one taken.size)) in
+    let taken = (alone o.sizes (view_of (works_of o)) o.run.joint).owned.taken o.rx.path.0 place s is in only-size o.sizes s.buf s.size one taken.size)) in
     looks-ticks o.rx o.tx o.sizes o.ticks o.run.ticks_are (happened-front _ o.end.turns (turns_of o.ticks) o.run.received) (happened-front _ o.end.moments (moments_of o.ticks) o.run.sent) (four-front o.rx o.end.turns (turns_of o.ticks) four)

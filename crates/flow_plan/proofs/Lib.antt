@@ -1,3 +1,4 @@
 mod Examples
 mod Granted
+pub mod Paces
 mod Payloads

@@ -1,5 +1,5 @@
 -- How many ticks lie between two consecutive frames.
-use Rattle.std.specs.Prelude.{ℕ, ◌*◌, ◌-◌, ◌≤◌, ◌&&◌, nat_le, if◌then◌else◌}
+use Rattle.std.specs.Prelude.{ℕ, ◌+◌, ◌*◌, ◌-◌, ◌/◌, ◌%◌, ◌≤◌, ◌&&◌, max, min, nat_le, if◌then◌else◌}
 
 -- a separation time in microseconds: 0 to 127 are milliseconds, F1 to F9 hex are hundreds of microseconds, and each reserved
 -- value is as the longest
@@ -11,3 +11,8 @@ pub record IsGap (micros period ticks : ℕ) : Type 0 where
   pub some : 1 ≤ ticks
   pub enough : micros ≤ ticks * period
   pub least : (fewer : ℕ) → 1 ≤ fewer → micros ≤ fewer * period → ticks ≤ fewer
+
+-- the ticks of so many microseconds that a sender lets pass between two consecutive frames for a separation time: it divided by the
+-- tick and rounded up, and one at least
+abbrev pub gap_in : (st period : ℕ) → ℕ
+gap_in st period = max (separation st / period + min 1 (separation st % period)) 1

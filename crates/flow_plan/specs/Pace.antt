@@ -56,9 +56,13 @@ abbrev pub after_frames : List Control → Pace → List ℕ → Pace
 after_frames controls pace [] = pace
 after_frames controls pace (tick ∷ later) = after_frames controls (gone_on (answered_all pace (came_to tick controls)) tick) later
 
+-- what a transmission whose first frame left in tick `first` is at in a tick, once these consecutive frames left
+abbrev pub pace_once : (tick first : ℕ) → List Control → (frames : List ℕ) → Pace
+pace_once tick first controls frames = answered_all (after_frames controls (Awaits first first) frames) (came_to tick controls)
+
 -- and in a tick, after the frames that left up to it
 abbrev pub pace_in : (tick first : ℕ) → List Control → (frames : List ℕ) → Pace
-pace_in tick first controls frames = answered_all (after_frames controls (Awaits first first) (filter (λ at. nat_le at tick) frames)) (came_to tick controls)
+pace_in tick first controls frames = pace_once tick first controls (filter (λ at. nat_le at tick) frames)
 
 -- the next frame may leave in that tick
 abbrev pub MayLeave : Pace → (tick : ℕ) → Type 0

@@ -1,11 +1,13 @@
-ghost use Rattle.std.specs.Prelude.{◌≡◌, ◌<◌};
-ghost use Rattle.flow_plan.specs.Gap.{IsGap, separation};
+ghost use Rattle.std.specs.Prelude.{◌≡◌, ◌<◌, ◌≤◌};
+ghost use Rattle.flow_plan.specs.Gap.{IsGap, gap_in, separation};
 
 /// How many ticks of `period` microseconds a sender lets pass between two consecutive frames where a flow control asks for the
 /// separation time `st`: the fewest that last so long, and one at least (ISO 15765-2, separation time).
 pub fn gap_ticks(st: u8, period: u32) -> u64
     requires some { 0 < period }
-    ensures { IsGap (separation st) period result }
+    ensures gap { IsGap (separation st) period result }
+    ensures ticks { result ≡ gap_in st period }
+    ensures most { result ≤ 127000 }
 {
     separation_micros(st).div_ceil(u64::from(period)).max(1)
 }

@@ -1,5 +1,5 @@
 -- The laws of each path's source channel and one of its destinations, by both machines' runs.
-use Rattle.std.proofs.Common.{◌≡◌, ℕ, ◌≤◌, false, Some, List, [], ◌∷◌, length, refl, ap, sym, ◌∙◌, subst, arith}
+use Rattle.std.proofs.Common.{Bool, ◌≡◌, ℕ, ◌≤◌, false, Some, List, [], ◌∷◌, length, refl, ap, sym, ◌∙◌, subst, arith}
 use Rattle.std.specs.Prelude.{slice_get}
 use Rattle.gw_base.proofs.Lists.{all-at, zip-at}
 use Rattle.hub_core.specs.Turns.{state_after}
@@ -11,7 +11,9 @@ use Rattle.receiver_law.specs.Source.{SourceLaw}
 use Rattle.sender_law.proofs.causes.TransmissionCauses.{causes}
 use Rattle.sender_law.proofs.transfers.TxWritten.{ticks-counted}
 use Rattle.sender_law.specs.Channel.{DestChannel}
-use Rattle.sender_law.specs.Runs.{TxRun, leg_of, turns_in as sent_in}
+use Rattle.sender_law.specs.TransmissionCauses.{TransmissionCauses}
+use Rattle.std.proofs.Math.Path.{fun_ext}
+use Rattle.sender_law.specs.Runs.{HasLimits, TxRun, leg_of, turns_in as sent_in}
 use Rattle.sender_law.specs.Transfer.{has_sent, transfer_of}
 use Rattle.std.specs.Prelude.{filter}
 use Rattle.tp_attempts.specs.Attempts.{attempts_in}
@@ -42,7 +44,7 @@ pub record Crossing : Type 0 where
   pub idle : AreIdle whole
   pub served : length (whole.view.sessions whole.pair.rx.set.path.0) ≤ (state_after tx_new (sent whole)).next
   pub never : IsNeverFull whole.pair.tx.full
-  pub n_bs : 1 ≤ whole.pair.tx.set.n_bs
+  pub limits : HasLimits whole.pair.tx.set
 
 -- what both tell
 abbrev pub route_told : (source_budget budget : ℕ) → Whole → Route
@@ -88,7 +90,7 @@ route-law c b e =
       joint = record {
         unread = all-unread o r known;
         short = all-short o r known;
-        in_time = none-waits r o.far.shape source (causes o.pair.tx e o.pair.tx_run c.never c.n_bs) timely delivers;
+        in_time = none-waits r o.far.shape source (subst (λ (full : ℕ → Bool). TransmissionCauses full r.leg) (fun_ext c.never) (causes o.pair.tx e o.pair.tx_run c.limits)) timely delivers;
       };
     }
 
@@ -144,7 +146,7 @@ crossing a d windows v place other r s rx tx is never rx_there tx_there rx_is tx
       idle = record { rx = ends-idle rx rx_is.run_is; tx = tx_is.run_is.idle };
       served = omega (arith, served, ap length same);
       never = all-at (λ (run : TxRun). IsNeverFull run.full) d.senders other tx never.senders tx_there;
-      n_bs = omega (arith, plan.n_bs, ap (λ (x : TxSet). x.n_bs) tx_set);
+      limits = record { n_as = omega (arith, plan.n_as, ap (λ (x : TxSet). x.n_as) tx_set); n_bs = omega (arith, plan.n_bs, ap (λ (x : TxSet). x.n_bs) tx_set) };
     }
 
 pub all-routes : (a : Account) (d : Deeds) (windows : List Window) (v : View) (place other : ℕ) (r : Receiving) (s : Sending) → IsRun a d windows v → IsNeverBusy d → slice_get a.plan.receivers place ≡ Some r → slice_get a.plan.senders other ≡ Some s → s.set.path.0 ≡ r.set.path.0 →

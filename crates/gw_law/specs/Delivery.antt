@@ -1,6 +1,6 @@
 -- What a destination delivers of a source channel's units, by the records of both (ISO 15765-2, segmentation and reassembly).
 use Rattle.std.specs.Prelude.{◌≡◌, ℕ, ◌≤◌, ◌↔◌, Bool, false, Some, None, List, filter, map, slice_get, take}
-use Rattle.tp_unit.specs.Box.{Answer}
+use Rattle.flow_plan.specs.Pace.{Control}
 use Rattle.tp_sender.specs.Runs.{HasSent}
 use Rattle.tp_sender.specs.State.{TxTurn, tx_new}
 use Rattle.tp_receiver.specs.State.{RxTurn, rx_new}
@@ -21,7 +21,8 @@ use Rattle.tp_receiver.specs.declared.set.RxSet.{RxSet}
 use Rattle.tp_sender.specs.declared.set.TxSet.{TxSet}
 use Rattle.tp_unit.specs.Shape.{IsShape}
 use Rattle.receiver_law.specs.Source.{CountsFrom, sessions_in}
-use Rattle.sender_law.specs.Transfer.{NumberedFrom, Paced, has_sent, transfer_of}
+use Rattle.sender_law.specs.Transfer.{NumberedFrom, has_sent, transfer_of}
+use Rattle.sender_law.specs.Pacing.{Paced}
 
 -- what is told of a source channel, and of one destination of its path
 pub record Delivery : Type 0 where
@@ -30,10 +31,10 @@ pub record Delivery : Type 0 where
   pub source : ℕ
   pub seen : List Seen
   pub received : List SessionRecord
-  -- the destination's channel: the address bytes of its frames, the frames that left, the flow controls that came, and the destination's records
+  -- the destination's channel: the address bytes of its frames, the frames that left, what the flow controls that came ask for, and the destination's records
   pub address : ℕ
   pub frames : List Seen
-  pub answers : List Answer
+  pub answers : List Control
   pub records : List DestRecord
 
 -- the source unit that a session's number names: an attempt of the source, and the record at its place, which opened that session

@@ -17,6 +17,7 @@ use Rattle.tp_unit.specs.Shape.{address_size}
 use Rattle.gw_law.specs.Delivery.{IsNamed}
 use Rattle.gw_law.specs.Account.{Route}
 use Rattle.gw_law.specs.Timely.{bytes_below, delivery_of_route}
+use Rattle.sender_law.specs.Pacing.{controls_of}
 use Rattle.sender_law.specs.Transfer.{has_sent}
 use Rattle.sender_law.specs.TransmissionCauses.{IsLate}
 
@@ -98,7 +99,7 @@ came_by r unit session tick = min (bytes_below (tick + r.window) (walk_of r.sour
 -- and fewer bytes of the session came in ticks below a window from it on than were sent and the next frame carries
 pub record WaitsTooLong (r : Route) (unit : Cut Seen) (session : SessionRecord) (begin : ℕ) (pieces : List Piece) (tick : ℕ) : Type 0 where
   pub started : 0 < length (left_before tick pieces)
-  pub late : IsLate r.leg.tx.n_cs r.leg.answers begin (map (λ (piece : Piece). piece.at) (left_before tick pieces)) tick
+  pub late : IsLate r.leg.tx.n_cs (controls_of r.leg.tx.period r.leg.answers) begin (map (λ (piece : Piece). piece.at) (left_before tick pieces)) tick
   pub lacks : came_by r unit session tick < length (joined (left_before tick pieces)) + part_after r.leg.tx.shape session.len (length (joined (left_before tick pieces)))
 
 -- a transmission doesn't wait so in a tick below its record's end

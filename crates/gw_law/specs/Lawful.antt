@@ -4,6 +4,7 @@ use Rattle.std.specs.List.{AllByRecursion}
 use Rattle.receiver_law.specs.FlowControls.{FlowControlLaw}
 use Rattle.receiver_law.specs.ReceptionCauses.{AreCaused, AreNeverBoxed}
 use Rattle.receiver_law.specs.Source.{SourceLaw}
+use Rattle.sender_law.specs.Channel.{never_full}
 use Rattle.sender_law.specs.Emission.{DataEmission, DestRecords}
 use Rattle.sender_law.specs.TransmissionCauses.{TransmissionCauses}
 use Rattle.gw_law.specs.Account.{Account, Route, dest_in, is_full_for, route_in, source_in}
@@ -36,7 +37,8 @@ pub record IsLawfulSource (a : Account) (r : Receiving) : Type 0 where
 pub record IsLawfulDest (a : Account) (s : Sending) : Type 0 where
   pub records : DestRecords (dest_in a s)
   pub emission : DataEmission (dest_in a s)
-  pub transmissions : TransmissionCauses (dest_in a s)
+  -- each record comes of its cause, and no earlier one is passed over; no data frame waits for its bus
+  pub transmissions : TransmissionCauses never_full (dest_in a s)
 
 -- a path from its source channel to one of its destinations
 pub record IsLawfulRoute (r : Route) : Type 0 where

@@ -42,9 +42,10 @@ pub record IsLawfulReceiving (p : Plan) (r : Receiving) : Type 0 where
   pub n_cr : 1 ≤ r.set.n_cr
   pub budget : 1 ≤ p.budget r.bus
 
--- a destination is one of those of a source channel's path, and has a lawful shape and limit
+-- a destination is one of those of a source channel's path, and has a lawful shape and limits
 pub record IsLawfulSending (p : Plan) (s : Sending) : Type 0 where
   pub shape : IsShape s.set.shape
+  pub n_as : 1 ≤ s.set.n_as
   pub n_bs : 1 ≤ s.set.n_bs
   pub budget : 1 ≤ p.budget s.bus
 

@@ -11,6 +11,7 @@ use Rattle.tp_attempts.specs.Walk.{Piece, joined, walk_of}
 use Rattle.tp_unit.specs.Shape.{address_size}
 use Rattle.gw_law.specs.Delivery.{Delivery, IsNamed}
 use Rattle.sender_law.specs.Channel.{IsOfChannel}
+use Rattle.sender_law.specs.Pacing.{controls_of}
 use Rattle.gw_law.specs.Account.{Route}
 use Rattle.sender_law.specs.Transfer.{has_sent, seen_of}
 
@@ -23,7 +24,7 @@ delivery_of_route r = record {
   received = r.source.sessions;
   address = address_size r.leg.tx.shape;
   frames = map (seen_of (address_size r.leg.tx.shape)) r.leg.frames;
-  answers = r.leg.answers;
+  answers = controls_of r.leg.tx.period r.leg.answers;
   records = r.leg.dests;
 }
 

@@ -12,7 +12,7 @@ use Rattle.gw_base.specs.declared.numbers.PathNo.{PathNo}
 use Rattle.hub_core.specs.View.{View}
 use Rattle.tp_attempts.specs.Seen.{Seen}
 use Rattle.tp_receiver.specs.declared.set.RxSet.{RxSet}
-use Rattle.tp_sender.specs.State.{HasFrame, IsPlain, state_of, TxTurn}
+use Rattle.tp_sender.specs.State.{HasFrame, state_of, TxTurn}
 use Rattle.tp_sender.specs.declared.event.TxEvent.{TxEvent}
 use Rattle.tp_sender.specs.declared.event.TxEvent.TheVariants.{Left}
 use Rattle.tp_sender.specs.declared.set.TxSet.{TxSet}
@@ -54,8 +54,8 @@ can-receive g seen answers tick frame lawful few at =
     )
 
 pub can-tell-sender : (g : Gateway) (t tick : ℕ) (turns : List RxTurn) (moments : List TxTurn) (view : View) (event : TxEvent) → Stands g t turns moments view → t ≤ tick → tick ≤ 10000000 →
-    (event ≡ Left → HasFrame (state_of g.sender).live) → IsPlain event → CanTellSender g.sender g.hub event tick
-can-tell-sender g t tick turns moments view event s by low left plain =
+    (event ≡ Left → HasFrame (state_of g.sender).live) → CanTellSender g.sender g.hub event tick
+can-tell-sender g t tick turns moments view event s by low left =
     let set = s.sends.set in
     let path : g.sender.set.path.0 ≡ 0 = ap (λ (r : TxSet). r.path.0) set ∙ ap (λ (p : PathNo). p.0) g.machines.are.same_path ∙ g.machines.are.path in
     let group : g.sender.set.group.0 ≡ 0 = ap (λ (r : TxSet). r.group.0) set ∙ ap (λ (k : GroupNo). k.0) g.machines.are.same_group ∙ g.machines.are.group in
@@ -69,5 +69,4 @@ can-tell-sender g t tick turns moments view event s by low left plain =
       since = omega (arith, s.sends.since);
       tick_is = low;
       left = left;
-      plain = plain;
     }

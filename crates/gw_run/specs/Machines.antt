@@ -1,5 +1,5 @@
 -- How the receiver and the sender of a run are configured (this project's own).
-use Rattle.std.specs.Prelude.{◌≡◌, ◌≤◌, false, None}
+use Rattle.std.specs.Prelude.{◌≡◌, ◌<◌, ◌≤◌, false, None}
 use Rattle.tp_receiver.specs.declared.set.RxSet.{RxSet}
 use Rattle.tp_sender.specs.declared.set.TxSet.{TxSet}
 use Rattle.tp_unit.specs.Shape.{IsShape}
@@ -33,3 +33,4 @@ pub record AreMachines (rx : RxSet) (shape : Shape) (tx : TxSet) : Type 0 where
   pub n_as : 1 ≤ tx.n_as
   pub n_bs : 1 ≤ tx.n_bs
   pub n_cs : 1 ≤ tx.n_cs
+  pub period : 0 < tx.period

@@ -19,7 +19,7 @@ use Rattle.hub_core.specs.View.{View, grows}
 use Rattle.hub_core.specs.declared.plain.PlainHub.{PlainHub}
 use Rattle.tick_clock.specs.declared.clock.Clock.{Clock}
 use Rattle.tp_receiver.specs.declared.receiver.Receiver.{Receiver}
-use Rattle.tp_sender.specs.State.{HasFrame, IsInBox, IsPlain, StillHasFrame, set_of, since_of, state_of as sender_state, TxTurn}
+use Rattle.tp_sender.specs.State.{HasFrame, IsInBox, StillHasFrame, set_of, since_of, state_of as sender_state, TxTurn}
 use Rattle.tp_sender.specs.Table.{TxStep}
 use Rattle.tp_sender.specs.declared.event.TxEvent.{TxEvent}
 use Rattle.tp_sender.specs.declared.event.TxEvent.TheVariants.{Left, RunEnd}
@@ -79,7 +79,6 @@ pub record CanTellSender (sender : Sender) (hub : PlainHub) (event : TxEvent) (t
   pub since : since_of (sender_state sender).live ≤ tick
   pub tick_is : tick ≤ 10000000
   pub left : event ≡ Left → HasFrame (sender_state sender).live
-  pub plain : IsPlain event
 
 -- a step of the sender over the hub
 pub record TxStepped (sender : Sender) (hub : PlainHub) (next : Sender) (later : PlainHub) (event : TxEvent) (tick : ℕ) (turn : TxTurn) : Type 0 where

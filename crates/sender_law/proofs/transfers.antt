@@ -1,6 +1,7 @@
 -- The transmissions.
 pub mod OtherFrames
 pub mod TxAnswers
+pub mod TxBoxed
 pub mod TxFrames
 pub mod TxLaw
 pub mod TxLeaves
@@ -8,7 +9,9 @@ pub mod TxLeft
 pub mod TxMoves
 pub mod TxPaces
 pub mod TxReadings
+pub mod TxSources
 pub mod TxStages
+pub mod TxStarts
 pub mod TxSteps
 pub mod TxWorld
 pub mod TxWritten

@@ -6,7 +6,6 @@ use Rattle.tp_sender.specs.Runs.{HasSent, box_after, controls_in, left_by}
 use Rattle.tp_sender.specs.State.{TxTurn, tx_new}
 use Rattle.tp_sender.specs.declared.event.TxEvent.TheVariants.{RunEnd}
 use Rattle.tp_sender.specs.declared.set.TxSet.{TxSet}
-use Rattle.tp_unit.specs.Box.{IsNeverFull}
 use Rattle.tp_unit.specs.Shape.{IsShape}
 use Rattle.sender_law.specs.Channel.{DestChannel}
 use Rattle.sender_law.specs.Parts.{IsStepIn, IsTxPart}
@@ -49,11 +48,10 @@ pub record IsTxRun (run : TxRun) : Type 0 where
   pub ends : AllByRecursion (IsStepIn run.last RunEnd) run.end
   pub idle : (state_after tx_new (turns_in run)).live ≡ None
 
--- a run whose bus is full in no tick, with a limit of at least a tick for a flow control
-pub record IsFreeRun (run : TxRun) : Type 0 where
-  pub run_is : IsTxRun run
-  pub never : IsNeverFull run.full
-  pub n_bs : 1 ≤ run.set.n_bs
+-- the limits of a flow control and of a frame in its box are of at least a tick
+pub record HasLimits (set : TxSet) : Type 0 where
+  pub n_as : 1 ≤ set.n_as
+  pub n_bs : 1 ≤ set.n_bs
 
 -- what its flow controls, its frames and its records are, on a bus that sends so many frames in a tick
 abbrev pub leg_of : (budget : ℕ) → TxRun → DestChannel

@@ -1,6 +1,7 @@
 -- What a destination's channel wrote, by the records of its sessions (ISO 15765-2, segmentation and flow control).
-use Rattle.std.specs.Prelude.{◌≡◌, ℕ, ◌+◌, ◌<◌, ◌≤◌, ◌↔◌, ◌==◌, not, ◌&&◌, nat_lt, if◌then◌else◌, Bool, true, false, Option, Some, None, List, [], ◌∷◌, ◌++◌, length, map, filter, slice_get, take}
-use Rattle.tp_unit.specs.Box.{Answer, Written}
+use Rattle.std.specs.Prelude.{◌≡◌, ℕ, ◌+◌, ◌<◌, ◌≤◌, ◌↔◌, nat_lt, Bool, true, false, Option, Some, None, List, [], ◌∷◌, ◌++◌, length, map, filter, slice_get, take}
+use Rattle.flow_plan.specs.Pace.{Control}
+use Rattle.tp_unit.specs.Box.{Written}
 use Rattle.tp_sender.specs.Runs.{controls_in, cells_in, left_by, lens_in}
 use Rattle.tp_sender.specs.State.{TxTurn, tx_new, Transmission}
 use Rattle.hub_core.specs.Turns.{came_by, calls_by, now_of, state_after, records_by}
@@ -11,17 +12,18 @@ use Rattle.hub_core.specs.declared.record.DestResult.TheVariants.{Sent}
 use Rattle.tp_attempts.specs.Attempts.{attempts_in}
 use Rattle.tp_attempts.specs.Cuts.{Cut}
 use Rattle.tp_attempts.specs.Seen.{Seen, seen_frame, len_of, is_data}
-use Rattle.tp_attempts.specs.Walk.{Piece, walk_of, reassembled}
+use Rattle.tp_attempts.specs.Walk.{walk_of, reassembled}
 use Rattle.tp_sender.specs.declared.set.TxSet.{TxSet}
 use Rattle.tp_unit.specs.Shape.{address_size}
+use Rattle.sender_law.specs.Pacing.{Paced, controls_of}
 use Rattle.tp_unit.specs.Unit.{Meaning, SingleFrame, FirstFrame, ConsecutiveFrame, FlowControl, NoUnit}
 
 -- what is told of a destination and its channel
 pub record Transfer : Type 0 where
-  -- the address bytes of the channel's frames, the frames that left, and the flow controls that came
+  -- the address bytes of the channel's frames, the frames that left, and what the flow controls that came ask for
   pub address : ℕ
   pub frames : List Seen
-  pub answers : List Answer
+  pub answers : List Control
   -- the length of each session that was joined, in bytes, and the bytes that were read of it, by its number
   pub lens : List ℕ
   pub read : ℕ → List ℕ
@@ -30,28 +32,6 @@ pub record Transfer : Type 0 where
   pub live : Option Transmission
   -- the present tick
   pub now : ℕ
-
--- the flow control that answers a wait which began in that tick: the first of a later tick that doesn't ask for a pause
-abbrev pub answer_after : ℕ → List Answer → Option Answer
-answer_after since [] = None
-answer_after since (answer ∷ later) = if nat_lt since answer.tick && not (answer.status == 1) then Some answer else answer_after since later
-
--- a consecutive frame may leave in that tick: the answer lets frames come, and isn't of a later tick
-abbrev pub Permits : Option Answer → ℕ → Type 0
-Permits None tick = ⊥
-Permits (Some answer) tick = (answer.status ≡ 0) × (answer.tick ≤ tick)
-
--- each further frame leaves at least a tick after the one before
-abbrev pub Spaced : List Piece → Type 0
-Spaced [] = Unit {0}
-Spaced (piece ∷ []) = Unit {0}
-Spaced (piece ∷ next ∷ later) = (piece.at < next.at) × Spaced (next ∷ later)
-
--- the frames of a transmission leave as the flow controls permit: after the first one none until it is answered
-abbrev pub Paced : List Answer → List Piece → Type 0
-Paced answers [] = Unit {0}
-Paced answers (first ∷ []) = Unit {0}
-Paced answers (first ∷ next ∷ later) = Permits (answer_after first.at answers) next.at × Spaced (next ∷ later)
 
 -- a consecutive frame
 abbrev pub is_consecutive : Meaning → Bool
@@ -121,7 +101,7 @@ abbrev pub transfer_of : TxSet → List TxTurn → Transfer
 transfer_of set moments = record {
   address = address_size set.shape;
   frames = map (seen_of (address_size set.shape)) (left_by set.shape moments);
-  answers = came_by controls_in moments;
+  answers = controls_of set.period (came_by controls_in moments);
   lens = lens_in (calls_by moments);
   read = λ number. bytes_of (cells_in number (calls_by moments));
   records = records_by moments;

@@ -1,5 +1,6 @@
 ghost use Rattle.std.specs.Prelude.{List, ℕ};
-ghost use Rattle.sender_law.specs.Runs.{IsFreeRun, TxRun, leg_of};
+ghost use Rattle.sender_law.specs.Boxed.{BoxedLaw};
+ghost use Rattle.sender_law.specs.Runs.{HasLimits, IsTxRun, TxRun, leg_of, turns_in};
 ghost use Rattle.sender_law.specs.TransmissionCauses.{CausesAmong, TransmissionCauses};
 ghost use Rattle.tp_unit.specs.Box.{Written};
 
@@ -7,9 +8,11 @@ ghost use Rattle.tp_unit.specs.Box.{Written};
 ///
 /// Each record tells the cause of its end, as far as the channel's frames and flow controls tell it, and none stood
 /// before. The same holds of all that left on the channel, with frames between that carry no data, such as the flow
-/// controls of the channel's receiver. The bus always has a place for the channel's frame: what waits in its box while the bus is full isn't
-/// accounted for yet. The limit of a flow control is at least a tick.
+/// controls of the channel's receiver. Whatever the ticks in which the bus is full for the channel's frame; the limits of
+/// a flow control and of a frame in its box are at least a tick. Where a record tells that the bus was awaited, the next
+/// frame lay in the box, with all bytes that it carries.
 pub fn transmission_law()
-    ensures own { (run : TxRun) (budget : ℕ) → IsFreeRun run → TransmissionCauses (leg_of budget run) }
-    ensures channel { (run : TxRun) (budget : ℕ) (out : List Written) → IsFreeRun run → CausesAmong budget run out }
+    ensures own { (run : TxRun) (budget : ℕ) → IsTxRun run → HasLimits run.set → TransmissionCauses run.full (leg_of budget run) }
+    ensures boxed { (run : TxRun) → IsTxRun run → BoxedLaw run.set (turns_in run) }
+    ensures channel { (run : TxRun) (budget : ℕ) (out : List Written) → IsTxRun run → HasLimits run.set → CausesAmong budget run out }
 {}

@@ -5,7 +5,7 @@ use Rattle.tp_sender.specs.declared.event.TxEvent.{TxEvent}
 use Rattle.tp_sender.specs.declared.set.TxSet.{TxSet}
 use Rattle.tp_sender.specs.State.{Transmission, TxDid, TxState}
 use Rattle.tp_sender.specs.Table.{TxStep}
-use Rattle.tp_sender.specs.Effects.{AreEffects, IsEffect, IsMade, IsSettled, MayBe, TxStage, TxDone, TxEffect, done_by, done_then, done_by_all, found_by, nothing_at, first_stage}
+use Rattle.tp_sender.specs.Effects.{AreEffects, IsMade, IsSettled, MayBe, TxStage, TxDone, TxEffect, done_by, done_then, done_by_all, found_by, nothing_at, first_stage}
 use Rattle.tp_sender.proofs.Made.{amid, made}
 
 -- a law of what is done: it holds of nothing, of one after another, and of each effect

@@ -1,6 +1,7 @@
 -- Each step is made of effects: the one walk over the rows of the table.
-use Rattle.std.proofs.Common.{◌≡◌, ℕ, ◌+◌, ◌<◌, false, Option, None, Some, List, [], ◌∷◌, ◌++◌, length, refl, ap, sym, ◌∙◌, subst, arith, append-nil}
+use Rattle.std.proofs.Common.{◌≡◌, ℕ, ◌+◌, ◌-◌, ◌%◌, Option, None, Some, List, [], ◌∷◌, ◌++◌, refl, ap, sym, ◌∙◌, subst, arith}
 use Rattle.std.specs.Prelude.{map}
+use Rattle.flow_plan.specs.Gap.{gap_in}
 use Rattle.gw_base.specs.declared.numbers.Tick.{Tick}
 use Rattle.hub_core.specs.View.{Event, Read}
 use Rattle.hub_core.specs.declared.port.Seen.{Seen}
@@ -14,10 +15,10 @@ use Rattle.tp_sender.specs.declared.transmission.Phase.{Phase}
 use Rattle.tp_sender.specs.declared.transmission.Phase.TheVariants.{Start, Bytes, Box, Fc, Gap}
 use Rattle.tp_sender.specs.declared.set.TxSet.{TxSet}
 use Rattle.tp_sender.specs.State.{Transmission, TxDid, TxState}
-use Rattle.tp_sender.specs.Table.{Answered, Ends as EndsRow, FrameLeft, GoesOn, IdleRow, InAnswer, InBytes, InGap, InStart, InTurn, InWait, Lacks, LiveRow, NoneStands, TxRow, TxStep, all_sent, fetched, in_phase, is_reached, joined_in, next_part, revoked, wait_of}
-use Rattle.tp_sender.specs.Table.{AsksToWait, Continues, Due, Enough, FindsOne, FirstLeft, GapLasts, GapOver, IsInvalid, Joins as JoinsRow, LastLeft, MayCome, NeverReached, NextLeft, NotDue, NotReached, NothingStands, NothingToSend, Overflows, Reached, Short, TooLate, WriterGone}
-use Rattle.tp_sender.specs.Effects.{AreEffects, Awaits, IsAwaiting, IsEffect, IsMade, IsSettled, IsShort, MayEnd, TxStage, ShowsEnd, TxDone, TxEffect, act_then, done_by, done_then, done_by_all, nothing_at, first_stage}
-use Rattle.tp_sender.specs.Effects.{Misses, Joins, Looks, Reads, Offers, Leaves, Waits, Ends, AfterFirst, AfterNext, IsReached, GapIsOver, IsContinued, IsPaused, NoNext, NoStart, IsWhole, IsCut}
+use Rattle.tp_sender.specs.Table.{Answered, Ends as EndsRow, FrameLeft, GoesOn, IdleRow, InAnswer, InBytes, InGap, InStart, InTurn, InWait, Lacks, LiveRow, NoneStands, TxRow, TxStep, continued, fetched, in_phase, joined_in, next_part, revoked, wait_of}
+use Rattle.tp_sender.specs.Table.{AsksToWait, BlockLeft, Continues, Due, Enough, FindsOne, FirstLeft, GapLasts, GapOver, IsInvalid, Joins as JoinsRow, LastLeft, MayCome, NeverReached, NextLeft, NotDue, NotReached, NothingStands, NothingToSend, Overflows, Reached, Short, TooLate, WriterGone}
+use Rattle.tp_sender.specs.Effects.{AreEffects, IsAwaiting, IsEffect, IsMade, IsSettled, IsShort, MayEnd, TxStage, ShowsEnd, TxDone, TxEffect, act_then, done_by, done_by_all, nothing_at}
+use Rattle.tp_sender.specs.Effects.{Misses, Joins, Looks, Reads, Offers, Leaves, Waits, Ends, AfterBlock, AfterFirst, AfterNext, IsReached, GapIsOver, IsContinued, IsPaused, NoNext, NoStart, IsWhole, IsCut}
 
 -- the rest of a step, from where it is with these calls left, is made of effects
 record IsMadeOf (set : TxSet) (p : TxStage) (calls : List Event) (did : TxDid) : Type 0 where
@@ -127,7 +128,7 @@ of-bytes set look next s calls did phase (Short seen cells more fetches short ro
 of-start : (set : TxSet) (look : Option Seen) (next : ℕ) (s : Transmission) (calls : List Event) (did : TxDid) → s.phase ≡ Start → InStart set s calls did → IsMadeOf set (amid Turn look next (Some s)) calls did
 of-start set look next s calls did phase (Reached seen more are reached row) =
     first-then set (amid Turn look next (Some s)) (Looks s seen) calls more did (record { event = Turn; told = refl; finds = refl; may = refl }) refl refl refl are
-    (first-then set (amid Turn (Some seen) next (Some s)) (Waits s Bytes) more more did (record { event = Turn; told = refl; finds = refl; may = IsReached refl phase refl }) refl refl refl refl
+    (first-then set (amid Turn (Some seen) next (Some s)) (Waits s Bytes s.block s.gap) more more did (record { event = Turn; told = refl; finds = refl; may = IsReached refl phase refl (refl, refl) }) refl refl refl refl
     (of-bytes set (Some seen) next (in_phase Bytes did.tick s) more did refl row))
 of-start set look next s calls did phase (NeverReached seen more are reached gone row) =
     first-then set (amid Turn look next (Some s)) (Looks s seen) calls more did (record { event = Turn; told = refl; finds = refl; may = refl }) refl refl refl are
@@ -141,7 +142,7 @@ of-wait set next s limit result calls did other shows (NotDue early row) = stays
 
 of-gap : (set : TxSet) (next : ℕ) (s : Transmission) (until : Tick) (calls : List Event) (did : TxDid) → s.phase ≡ Gap until → InGap set s until.0 calls did → IsMadeOf set (amid Turn None next (Some s)) calls did
 of-gap set next s until calls did phase (GapOver over row) =
-    first-then set (amid Turn None next (Some s)) (Waits s Bytes) calls calls did (record { event = Turn; told = refl; finds = refl; may = GapIsOver until refl phase over refl }) refl refl refl refl
+    first-then set (amid Turn None next (Some s)) (Waits s Bytes s.block s.gap) calls calls did (record { event = Turn; told = refl; finds = refl; may = GapIsOver until refl phase over refl (refl, refl) }) refl refl refl refl
     (of-bytes set None next (in_phase Bytes did.tick s) calls did refl row)
 of-gap set next s until calls did phase (GapLasts before row) = stays set Turn None next s calls did tt row
 
@@ -153,20 +154,20 @@ of-turn set next s Fc calls did at row = of-wait set next s set.n_bs BsTimeout c
 of-turn set next s (Gap until) calls did at row = of-gap set next s until calls did at row
 
 -- the rows of a flow control
-of-answered : (set : TxSet) (next : ℕ) (s : Transmission) (fs bs st : ℕ) (calls : List Event) (did : TxDid) → s.phase ≡ Fc → Answered set s fs calls did → IsMadeOf set (amid (CameFc fs bs st) None next (Some s)) calls did
+of-answered : (set : TxSet) (next : ℕ) (s : Transmission) (fs bs st : ℕ) (calls : List Event) (did : TxDid) → s.phase ≡ Fc → Answered set s fs bs st calls did → IsMadeOf set (amid (CameFc fs bs st) None next (Some s)) calls did
 of-answered set next s fs bs st calls did at (Continues is row) =
-    goes-on set (CameFc fs bs st) None next s (in_phase Bytes did.tick s) (Waits s Bytes) calls did
-    (record { event = CameFc fs bs st; told = refl; finds = refl; may = IsContinued bs st (ap (λ n. CameFc n bs st) is) at refl }) refl row
+    goes-on set (CameFc fs bs st) None next s (in_phase Bytes did.tick (continued set bs st s)) (Waits s Bytes bs (gap_in st set.period)) calls did
+    (record { event = CameFc fs bs st; told = refl; finds = refl; may = IsContinued bs st (ap (λ n. CameFc n bs st) is) at refl refl refl }) refl row
 of-answered set next s fs bs st calls did at (AsksToWait is row) =
-    goes-on set (CameFc fs bs st) None next s (in_phase Fc did.tick s) (Waits s Fc) calls did
-    (record { event = CameFc fs bs st; told = refl; finds = refl; may = IsPaused bs st (ap (λ n. CameFc n bs st) is) at refl }) refl row
+    goes-on set (CameFc fs bs st) None next s (in_phase Fc did.tick s) (Waits s Fc s.block s.gap) calls did
+    (record { event = CameFc fs bs st; told = refl; finds = refl; may = IsPaused bs st (ap (λ n. CameFc n bs st) is) at refl (refl, refl) }) refl row
 of-answered set next s fs bs st calls did at (Overflows is row) = cut set (CameFc fs bs st) None next s FcOverflow calls did (λ e. cc) (λ e. cc) at (keeps-at set s Fc FcOverflow calls did at row)
 of-answered set next s fs bs st calls did at (IsInvalid is row) = cut set (CameFc fs bs st) None next s (InvalidFs fs) calls did (λ e. cc) (λ e. cc) at (keeps-at set s Fc (InvalidFs fs) calls did at row)
 
 ignored : (set : TxSet) (next : ℕ) (s : Transmission) (phase : Phase) (fs bs st : ℕ) (calls : List Event) (did : TxDid) → s.phase ≡ phase → (IsAwaiting phase → ⊥) → GoesOn s calls did → IsMadeOf set (amid (CameFc fs bs st) None next (Some s)) calls did
 ignored set next s phase fs bs st calls did at out row = stays set (CameFc fs bs st) None next s calls did (let P : Phase → Type 0 = λ p. IsAwaiting p → ⊥ in subst P (sym at) out) row
 
-of-answer : (set : TxSet) (next : ℕ) (s : Transmission) (phase : Phase) (fs bs st : ℕ) (calls : List Event) (did : TxDid) → s.phase ≡ phase → InAnswer set s phase fs calls did → IsMadeOf set (amid (CameFc fs bs st) None next (Some s)) calls did
+of-answer : (set : TxSet) (next : ℕ) (s : Transmission) (phase : Phase) (fs bs st : ℕ) (calls : List Event) (did : TxDid) → s.phase ≡ phase → InAnswer set s phase fs bs st calls did → IsMadeOf set (amid (CameFc fs bs st) None next (Some s)) calls did
 of-answer set next s Start fs bs st calls did at row = ignored set next s Start fs bs st calls did at (λ a. a) row
 of-answer set next s Bytes fs bs st calls did at row = ignored set next s Bytes fs bs st calls did at (λ a. a) row
 of-answer set next s Box fs bs st calls did at row = ignored set next s Box fs bs st calls did at (λ a. a) row
@@ -177,11 +178,14 @@ of-answer set next s (Gap until) fs bs st calls did at row = ignored set next s 
 of-left : (set : TxSet) (next : ℕ) (s : Transmission) (calls : List Event) (did : TxDid) → s.phase ≡ Box → FrameLeft set s calls did → IsMadeOf set (amid Left None next (Some s)) calls did
 of-left set next s calls did box (LastLeft whole row) = ends set Left None next s s.len Keeps Sent calls did (IsWhole refl box whole refl refl refl) row
 of-left set next s calls did box (FirstLeft first more row) =
-    goes-on set Left None next s (in_phase Fc did.tick (record s { sent = next_part set s })) (Leaves s (next_part set s) s.number Fc) calls did
-    (record { event = Left; told = refl; finds = refl; may = record { left = refl; box = box; more = omega (arith, first, more); next = AfterFirst first refl refl refl } }) refl row
-of-left set next s calls did box (NextLeft some more row) =
-    goes-on set Left None next s _ (Leaves s (s.sent + next_part set s) _ (Gap (record { 0 = did.tick + 1 }))) calls did
-    (record { event = Left; told = refl; finds = refl; may = record { left = refl; box = box; more = more; next = AfterNext some refl refl refl } }) refl row
+    goes-on set Left None next s (in_phase Fc did.tick (record s { sent = next_part set s })) (Leaves s (next_part set s) s.number s.block Fc) calls did
+    (record { event = Left; told = refl; finds = refl; may = record { left = refl; box = box; more = omega (arith, first, more); next = AfterFirst first refl refl refl refl } }) refl row
+of-left set next s calls did box (BlockLeft some more one row) =
+    goes-on set Left None next s _ (Leaves s (s.sent + next_part set s) ((s.number + 1) % 16) (s.block - 1) Fc) calls did
+    (record { event = Left; told = refl; finds = refl; may = record { left = refl; box = box; more = more; next = AfterBlock (record { some = some; sent_is = refl; number_is = refl; block_is = refl }) one refl } }) refl row
+of-left set next s calls did box (NextLeft some more out row) =
+    goes-on set Left None next s _ (Leaves s (s.sent + next_part set s) ((s.number + 1) % 16) (s.block - 1) (Gap (record { 0 = did.tick + s.gap }))) calls did
+    (record { event = Left; told = refl; finds = refl; may = record { left = refl; box = box; more = more; next = AfterNext (record { some = some; sent_is = refl; number_is = refl; block_is = refl }) out refl } }) refl row
 
 -- a session's rows
 of-live : (set : TxSet) (next : ℕ) (s : Transmission) (event : TxEvent) (calls : List Event) (did : TxDid) → LiveRow set s event calls did → IsMadeOf set (amid event None next (Some s)) calls did

@@ -1,11 +1,10 @@
 -- Every step offers data frames of its channel alone, and tells of one session of its own at the most.
-use Rattle.std.proofs.Common.{◌≡◌, ℕ, ◌+◌, ◌≤◌, Bool, true, false, if◌then◌else◌, Option, None, Some, List, [], ◌∷◌, ◌++◌, length, inl, inr, ◌⊎◌, refl, ap, sym, ◌∙◌, subst, arith, append-nil}
+use Rattle.std.proofs.Common.{◌≡◌, ℕ, ◌≤◌, Bool, true, false, if◌then◌else◌, Option, None, Some, List, [], ◌∷◌, ◌++◌, length, inl, inr, ◌⊎◌, refl, sym, ◌∙◌, subst, arith, append-nil}
 use Rattle.std.specs.Prelude.{◌==◌, map}
 use Rattle.hub_core.specs.View.{Read}
 use Rattle.std.specs.List.{AllByRecursion}
 use Rattle.gw_base.proofs.Lists.{all-join}
 use Rattle.hub_core.specs.declared.port.Seen.{Seen}
-use Rattle.hub_core.specs.declared.record.DestRecord.{DestRecord}
 use Rattle.hub_core.specs.declared.record.DestResult.{DestResult}
 use Rattle.tp_unit.specs.Shape.{part_of_start}
 use Rattle.tp_unit.specs.Unit.{BoxMeaning, Keeps, Offers as OffersUnit, Revokes, SingleFrame, FirstFrame, ConsecutiveFrame}
@@ -14,7 +13,7 @@ use Rattle.tp_sender.specs.declared.event.TxEvent.TheVariants.{Turn, Left}
 use Rattle.tp_sender.specs.declared.set.TxSet.{TxSet}
 use Rattle.tp_sender.specs.declared.transmission.Phase.{Phase}
 use Rattle.tp_sender.specs.declared.transmission.Phase.TheVariants.{Start, Bytes, Box, Fc, Gap}
-use Rattle.tp_sender.specs.Effects.{AreEffects, IsEffect, IsMade, IsSettled, MayBe, MayEnd, TxStage, TxDone, TxEffect, act_then, done_by, done_by_all, done_then, found_by, nothing_at}
+use Rattle.tp_sender.specs.Effects.{AreEffects, IsEffect, IsMade, IsSettled, MayBe, MayEnd, TxStage, TxDone, TxEffect, act_then, done_by, done_by_all, done_then, found_by}
 use Rattle.tp_sender.specs.Effects.{Misses, Joins, Looks, Reads, Offers, Leaves, Waits, Ends, GapIsOver, IsContinued, IsPaused, IsReached, IsWhole, IsCut}
 use Rattle.tp_sender.specs.Own.{OfDest, IsFittingAct, IsToldIn, KeepsToOwn}
 use Rattle.tp_unit.specs.Box.{IsNoData}
@@ -91,8 +90,8 @@ each set tick event look next (Offers s) may = record {
   idle = λ none. cc;
   next = omega arith;
 }
-each set tick event look next (Leaves s sent number phase) may = record { calls = tt; act = tt; records = tt; last = inl refl; idle = λ none. cc; next = omega arith }
-each set tick event look next (Waits s phase) may = record { calls = tt; act = tt; records = tt; last = inl refl; idle = λ none. cc; next = omega arith }
+each set tick event look next (Leaves s sent number block phase) may = record { calls = tt; act = tt; records = tt; last = inl refl; idle = λ none. cc; next = omega arith }
+each set tick event look next (Waits s phase block gap) may = record { calls = tt; act = tt; records = tt; last = inl refl; idle = λ none. cc; next = omega arith }
 each set tick event look next (Ends s sent act result left) may = record {
   calls = ((refl, refl), tt);
   act = act-ends set event look s sent act result may;
@@ -139,11 +138,11 @@ boxed-by set tick look (Joins buf len) may = absurd may.0
 boxed-by set tick look (Looks s seen) may = cc
 boxed-by set tick look (Reads s cells) may = let no : Left ≡ Turn = may.0 in cc
 boxed-by set tick look (Offers s) may = let no : Left ≡ Turn = may.turn in cc
-boxed-by set tick look (Leaves s sent number phase) may = record { s = s; is = refl; box = may.box }
-boxed-by set tick look (Waits s phase) (IsReached at was is) = cc
-boxed-by set tick look (Waits s phase) (GapIsOver until at was over is) = cc
-boxed-by set tick look (Waits s phase) (IsContinued bs st at was is) = cc
-boxed-by set tick look (Waits s phase) (IsPaused bs st at was is) = cc
+boxed-by set tick look (Leaves s sent number block phase) may = record { s = s; is = refl; box = may.box }
+boxed-by set tick look (Waits s phase block gap) (IsReached at was is kept) = cc
+boxed-by set tick look (Waits s phase block gap) (GapIsOver until at was over is kept) = cc
+boxed-by set tick look (Waits s phase block gap) (IsContinued bs st at was is size gap_is) = cc
+boxed-by set tick look (Waits s phase block gap) (IsPaused bs st at was is kept) = cc
 boxed-by set tick look (Ends s sent act result left) (IsWhole told box whole all keeps is) = record { s = s; is = refl; box = box }
 boxed-by set tick look (Ends s sent act result left) (IsCut told other all keeps shows) = absurd (told refl)
 

@@ -23,9 +23,9 @@ wanted-more wanted carried (first ∷ cells) cell are few =
     (are.0, wanted-more wanted (carried + count_of first) cells cell are.1 (omega (arith, few, sum_by-cons count_of first cells)))
 
 -- a session that differs in its cells and bytes alone
-pub sending-with : (s : Transmission) (at : ℕ) (carried : List ℕ) (t : Transmission) → t.seq ≡ s.seq → t.len ≡ s.len → t.at ≡ at → t.carried ≡ carried → t.begin ≡ s.begin → t.sent ≡ s.sent → t.number ≡ s.number →
+pub sending-with : (s : Transmission) (at : ℕ) (carried : List ℕ) (t : Transmission) → t.seq ≡ s.seq → t.len ≡ s.len → t.at ≡ at → t.carried ≡ carried → t.begin ≡ s.begin → t.sent ≡ s.sent → t.number ≡ s.number → t.block ≡ s.block → t.gap ≡ s.gap →
     t.phase ≡ s.phase → t.since ≡ s.since → t ≡ record s { at = at; carried = carried }
-sending-with s at carried t seq len ats bytes begin sent number phase since = rw (← seq, ← len, ← ats, ← bytes, ← begin, ← sent, ← number, ← phase, ← since) refl
+sending-with s at carried t seq len ats bytes begin sent number block gap phase since = rw (← seq, ← len, ← ats, ← bytes, ← begin, ← sent, ← number, ← block, ← gap, ← phase, ← since) refl
 
 pub reads-none : (wanted : ℕ) (was : HeldTransmission) (v : View) (m : Means) → Reads v was.at → ReadsSome wanted was was v v m m
 reads-none wanted was v m reads = record {
@@ -34,7 +34,7 @@ reads-none wanted was v m reads = record {
     view = refl;
     cells_only = All-nil IsCell;
     wanted_all = tt;
-    state = sending-with (transmission_of was) (was.at.at + 0) (was.carry ++ []) (transmission_of was) refl refl (omega arith) (sym (append-nil was.carry)) refl refl refl refl refl;
+    state = sending-with (transmission_of was) (was.at.at + 0) (was.carry ++ []) (transmission_of was) refl refl (omega arith) (sym (append-nil was.carry)) refl refl refl refl refl refl refl;
     path = refl;
     dest = refl;
     seen = refl;
@@ -52,6 +52,8 @@ pub record OneMore (now next : HeldTransmission) (cell : ℕ) : Type 0 where
   pub begin : next.begin ≡ now.begin
   pub sent : next.sent ≡ now.sent
   pub number : next.number ≡ now.number
+  pub block : next.block ≡ now.block
+  pub gap : next.gap ≡ now.gap
   pub phase : next.phase ≡ now.phase
   pub since : next.since ≡ now.since
 
@@ -63,6 +65,7 @@ state-more was now next cells cell so more =
     sending-with (transmission_of was) (was.at.at + length (cells ++ cell ∷ [])) (was.carry ++ bytes_of (cells ++ cell ∷ [])) (transmission_of next)
     (more.token.seq ∙ ap (λ (s : Transmission). s.seq) so) (more.token.len ∙ ap (λ (s : Transmission). s.len) so) at carried
     (ap (λ (t : Tick). t.0) more.begin ∙ ap (λ (s : Transmission). s.begin) so) (more.sent ∙ ap (λ (s : Transmission). s.sent) so) (more.number ∙ ap (λ (s : Transmission). s.number) so)
+    (more.block ∙ ap (λ (s : Transmission). s.block) so) (more.gap ∙ ap (λ (s : Transmission). s.gap) so)
     (more.phase ∙ ap (λ (s : Transmission). s.phase) so) (ap (λ (t : Tick). t.0) more.since ∙ ap (λ (s : Transmission). s.since) so)
 
 pub reads-more : (wanted : ℕ) (was now next : HeldTransmission) (cell : ℕ) (v w x : View) (l m n : Means) → ReadsSome wanted was now v w l m → length now.carry < wanted → now.at.at < now.at.seen → IsCell cell → OneMore now next cell →

@@ -1,12 +1,12 @@
 -- After a step the phase lasts since its tick at most, and its act says whether a frame lies in the box.
-use Rattle.std.proofs.Common.{◌≡◌, ℕ, ◌≤◌, Option, None, Some, List, refl, ap, sym, ◌∙◌, subst, arith}
+use Rattle.std.proofs.Common.{◌≡◌, ℕ, ◌≤◌, Option, None, Some, refl, ap, subst, arith}
 use Rattle.tp_sender.specs.declared.transmission.Transmission.{Transmission as HeldTransmission}
 use Rattle.tp_sender.specs.declared.transmission.Phase.{Phase}
 use Rattle.tp_sender.specs.declared.transmission.Phase.TheVariants.{Start, Bytes, Box, Fc, Gap}
 use Rattle.tp_sender.specs.Port.{StepOver, did_by}
 use Rattle.std.specs.Prelude.{option_map}
 use Rattle.hub_core.specs.Floors.{Floors}
-use Rattle.hub_core.specs.View.{Event, View}
+use Rattle.hub_core.specs.View.{View}
 use Rattle.hub_core.specs.declared.port.Seen.{Seen}
 use Rattle.hub_core.specs.declared.record.DestResult.{DestResult}
 use Rattle.tp_unit.specs.Unit.{BoxMeaning, Keeps, Offers as OffersUnit, Revokes}
@@ -14,8 +14,8 @@ use Rattle.tp_sender.specs.declared.event.TxActs.{TxActs}
 use Rattle.tp_sender.specs.declared.event.TxEvent.{TxEvent}
 use Rattle.tp_sender.specs.declared.event.TxEvent.TheVariants.{Turn, Fc as CameFc, Left, RunEnd}
 use Rattle.tp_sender.specs.declared.set.TxSet.{TxSet}
-use Rattle.tp_sender.specs.Effects.{AwaitsNext, IsSettled, MayBe, MayEnd, MayWait, TxStage, TxDone, TxEffect, act_then, done_by, done_then, found_by, nothing_at, first_stage}
-use Rattle.tp_sender.specs.Effects.{Misses, Joins, Looks, Reads, Offers, Leaves, Waits, Ends, AfterFirst, AfterNext, IsReached, GapIsOver, IsContinued, IsPaused, IsWhole, IsCut}
+use Rattle.tp_sender.specs.Effects.{AwaitsNext, IsSettled, MayBe, MayEnd, MayWait, TxStage, TxDone, TxEffect, act_then, done_by, found_by}
+use Rattle.tp_sender.specs.Effects.{Misses, Joins, Looks, Reads, Offers, Leaves, Waits, Ends, AfterBlock, AfterFirst, AfterNext, IsReached, GapIsOver, IsContinued, IsPaused, IsWhole, IsCut}
 use Rattle.tp_sender.specs.State.{HasFrame, IsInBox, TxState, StillHasFrame, in_box, since_of, Transmission, transmission_of, TxDid}
 use Rattle.tp_sender.specs.Table.{LiveRow, TxRow, TxStep, revoked}
 use Rattle.tp_sender.proofs.Effects.{HoldsOf, IsDoneLaw, of-step}
@@ -63,15 +63,16 @@ tells-revoked Box was now out gone = gone
 tells-revoked Fc was now out gone = (λ w. absurd (out w), λ n. absurd (gone n))
 tells-revoked (Gap until) was now out gone = (λ w. absurd (out w), λ n. absurd (gone n))
 
-waits-out : (tick : ℕ) (event : TxEvent) (was phase : Phase) → MayWait tick event was phase → (in_box was → ⊥) × (in_box phase → ⊥)
-waits-out tick event was phase (IsReached at is now) = (out-of was Start is (λ b. b), out-of phase Bytes now (λ b. b))
-waits-out tick event was phase (GapIsOver until at is le now) = (out-of was (Gap until) is (λ b. b), out-of phase Bytes now (λ b. b))
-waits-out tick event was phase (IsContinued bs st at is now) = (out-of was Fc is (λ b. b), out-of phase Bytes now (λ b. b))
-waits-out tick event was phase (IsPaused bs st at is now) = (out-of was Fc is (λ b. b), out-of phase Fc now (λ b. b))
+waits-out : (set : TxSet) (tick : ℕ) (event : TxEvent) (s : Transmission) (phase : Phase) (block gap : ℕ) → MayWait set tick event s phase block gap → (in_box s.phase → ⊥) × (in_box phase → ⊥)
+waits-out set tick event s phase block gap (IsReached at is now kept) = (out-of s.phase Start is (λ b. b), out-of phase Bytes now (λ b. b))
+waits-out set tick event s phase block gap (GapIsOver until at is le now kept) = (out-of s.phase (Gap until) is (λ b. b), out-of phase Bytes now (λ b. b))
+waits-out set tick event s phase block gap (IsContinued bs st at is now size gap_is) = (out-of s.phase Fc is (λ b. b), out-of phase Bytes now (λ b. b))
+waits-out set tick event s phase block gap (IsPaused bs st at is now kept) = (out-of s.phase Fc is (λ b. b), out-of phase Fc now (λ b. b))
 
-awaits-out : {set : TxSet} {tick : ℕ} {s : Transmission} {sent number : ℕ} (phase : Phase) → AwaitsNext set tick s sent number phase → in_box phase → ⊥
-awaits-out phase (AfterFirst none more same is) = out-of phase Fc is (λ b. b)
-awaits-out phase (AfterNext some more same is) = out-of phase (Gap _) is (λ b. b)
+awaits-out : {set : TxSet} {tick : ℕ} {s : Transmission} {sent number block : ℕ} (phase : Phase) → AwaitsNext set tick s sent number block phase → in_box phase → ⊥
+awaits-out phase (AfterFirst none more same kept is) = out-of phase Fc is (λ b. b)
+awaits-out phase (AfterBlock more one is) = out-of phase Fc is (λ b. b)
+awaits-out phase (AfterNext more out is) = out-of phase (Gap _) is (λ b. b)
 
 ends-tells : (set : TxSet) (event : TxEvent) (look : Option Seen) (s : Transmission) (sent : ℕ) (act : BoxMeaning) (result : DestResult) (now : Type 0) → MayEnd set event look s sent act result → (now → ⊥) → Tells act ((Some event ≡ Some Left → ⊥) × in_box s.phase) now
 ends-tells set event look s sent act result now (IsWhole left box whole all keeps is) gone = rw keeps (λ was. absurd (was.0 (ap (λ e. Some e) left)), λ n. absurd (gone n))
@@ -83,9 +84,9 @@ each set tick event look next (Joins buf len) may = record { time = λ le. omega
 each set tick event look next (Looks s seen) may = record { time = λ le. le; box = (λ was. was, λ now. now) }
 each set tick event look next (Reads s cells) may = record { time = λ le. le; box = (λ was. was, λ now. now) }
 each set tick event look next (Offers s) may = record { time = λ le. omega arith; box = (λ e. cc, tt) }
-each set tick event look next (Leaves s sent number phase) may = record { time = λ le. omega arith; box = (λ was. absurd (was.0 (ap (λ e. Some e) may.left)), λ now. absurd (awaits-out phase may.next now.1)) }
-each set tick event look next (Waits s phase) may =
-    let out = waits-out tick event s.phase phase may in
+each set tick event look next (Leaves s sent number block phase) may = record { time = λ le. omega arith; box = (λ was. absurd (was.0 (ap (λ e. Some e) may.left)), λ now. absurd (awaits-out phase may.next now.1)) }
+each set tick event look next (Waits s phase block gap) may =
+    let out = waits-out set tick event s phase block gap may in
     record { time = λ le. omega arith; box = (λ was. absurd (out.0 was.1), λ now. absurd (out.1 now.1)) }
 each set tick event look next (Ends s sent act result left) may = record { time = λ le. omega arith; box = ends-tells set event look s sent act result _ may (λ now. now.1) }
 

@@ -33,12 +33,14 @@ pub record Looks (live next : HeldTransmission) (look : Seen) : Type 0 where
   pub begin : next.begin ≡ live.begin
   pub sent : next.sent ≡ live.sent
   pub number : next.number ≡ live.number
+  pub block : next.block ≡ live.block
+  pub gap : next.gap ≡ live.gap
   pub phase : next.phase ≡ live.phase
   pub since : next.since ≡ live.since
 
 looked : (live next : HeldTransmission) (look : Seen) → Looks live next look → transmission_of next ≡ transmission_of live
 looked live next look is =
-    sending-with (transmission_of live) live.at.at live.carry (transmission_of next) is.token.seq is.token.len is.token.at is.carry (ap (λ (t : Tick). t.0) is.begin) is.sent is.number is.phase (ap (λ (t : Tick). t.0) is.since)
+    sending-with (transmission_of live) live.at.at live.carry (transmission_of next) is.token.seq is.token.len is.token.at is.carry (ap (λ (t : Tick). t.0) is.begin) is.sent is.number is.block is.gap is.phase (ap (λ (t : Tick). t.0) is.since)
 
 -- a look of the session, by the destination's own numbers
 look-of : (set : TxSet) (live : HeldTransmission) (look : Seen) (u v : View) → live.at.path ≡ set.path → live.at.dest ≡ set.dest → v ≡ grow (Saw live.at.path.0 live.at.dest.0 live.at.seq look.cells look.bytes look.writer) u →
@@ -54,7 +56,7 @@ abbrev pub with_token : Joined → HeldTransmission → Transmission
 with_token at live = record (transmission_of live) { seq = at.seq; len = at.len; at = at.at }
 
 pub looked-at : (live : HeldTransmission) (at : Joined) (look : Seen) → SameJoined at (saw look live.at) → with_token at live ≡ transmission_of live
-looked-at live at look is = sending-with (transmission_of live) live.at.at live.carry (with_token at live) is.seq is.len is.at refl refl refl refl refl refl
+looked-at live at look is = sending-with (transmission_of live) live.at.at live.carry (with_token at live) is.seq is.len is.at refl refl refl refl refl refl refl refl
 
 not-there : (b : Bool) → not b ≡ true → b ≡ false
 not-there true is = sym is

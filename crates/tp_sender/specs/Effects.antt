@@ -1,6 +1,7 @@
 -- What a step of a sender is made of: eight effects, one after another. A row of the table is a list of them, so that a law of all
 -- steps is one of eight effects, and a further row changes none of those laws.
-use Rattle.std.specs.Prelude.{◌≡◌, ℕ, ◌+◌, ◌%◌, ◌<◌, ◌≤◌, false, true, List, [], ◌∷◌, ◌++◌, length, map, take, drop, All, Option, Some, None}
+use Rattle.std.specs.Prelude.{◌≡◌, ℕ, ◌+◌, ◌-◌, ◌%◌, ◌<◌, ◌≤◌, false, true, List, [], ◌∷◌, ◌++◌, length, map, take, drop, All, Option, Some, None}
+use Rattle.flow_plan.specs.Gap.{gap_in}
 use Rattle.gw_base.specs.Cell.{IsCell}
 use Rattle.gw_base.specs.declared.numbers.Tick.{Tick}
 use Rattle.hub_core.specs.Calls.{freed_by}
@@ -38,11 +39,11 @@ pub data TxEffect : Type 0 where
   -- the session looks at what is published of it, and reads cells
   Looks : (s : Transmission) → (look : Seen) → TxEffect
   Reads : (s : Transmission) → (cells : List ℕ) → TxEffect
-  -- its next frame is offered into the box, or has left, which makes so many sent bytes
+  -- its next frame is offered into the box, or has left, which makes so many sent bytes and leaves so many frames of the block
   Offers : (s : Transmission) → TxEffect
-  Leaves : (s : Transmission) → (sent number : ℕ) → (phase : Phase) → TxEffect
-  -- it waits for something else
-  Waits : (s : Transmission) → (phase : Phase) → TxEffect
+  Leaves : (s : Transmission) → (sent number block : ℕ) → (phase : Phase) → TxEffect
+  -- it waits for something else, by such a block and gap
+  Waits : (s : Transmission) → (phase : Phase) → (block gap : ℕ) → TxEffect
   -- it ends with so many sent bytes, and its destination leaves
   Ends : (s : Transmission) → (sent : ℕ) → (act : BoxMeaning) → (result : DestResult) → (left : LeftOver) → TxEffect
 
@@ -53,8 +54,8 @@ found_by (Joins buf len) = None
 found_by (Looks s look) = Some s
 found_by (Reads s cells) = Some s
 found_by (Offers s) = Some s
-found_by (Leaves s sent number phase) = Some s
-found_by (Waits s phase) = Some s
+found_by (Leaves s sent number block phase) = Some s
+found_by (Waits s phase block gap) = Some s
 found_by (Ends s sent act result left) = Some s
 
 -- what is left of an event once a session waits for something else: a turn goes on
@@ -76,8 +77,12 @@ next_unit set s = unit_after set.shape s.len s.sent s.number (next_bytes set s)
 abbrev pub once_offered : TxSet → (tick : ℕ) → Transmission → Transmission
 once_offered set tick s = in_phase Box tick (record s { carried = drop (next_part set s) s.carried })
 
-abbrev pub once_left : (tick sent number : ℕ) → Phase → Transmission → Transmission
-once_left tick sent number phase s = in_phase phase tick (record s { sent = sent; number = number })
+abbrev pub once_left : (tick sent number block : ℕ) → Phase → Transmission → Transmission
+once_left tick sent number block phase s = in_phase phase tick (record s { sent = sent; number = number; block = block })
+
+-- and once it waits for something else
+abbrev pub once_waiting : (tick : ℕ) → Phase → (block gap : ℕ) → Transmission → Transmission
+once_waiting tick phase block gap s = in_phase phase tick (record s { block = block; gap = gap })
 
 -- the record of a session that ends in that tick
 abbrev pub record_of : TxSet → (tick : ℕ) → Transmission → (sent : ℕ) → DestResult → DestRecord
@@ -100,8 +105,8 @@ done_by set tick p (Joins buf len) =
 done_by set tick p (Looks s look) = record (nothing_at tick (record p { look = Some look; live = Some s })) { calls = look_at set s look ∷ [] }
 done_by set tick p (Reads s cells) = record (nothing_at tick (record p { live = Some (fetched cells s) })) { calls = map (Read set.path.0 set.dest.0 s.seq) cells }
 done_by set tick p (Offers s) = record (nothing_at tick (record p { event = None; live = Some (once_offered set tick s) })) { act = OffersUnit (next_unit set s) }
-done_by set tick p (Leaves s sent number phase) = nothing_at tick (record p { event = None; live = Some (once_left tick sent number phase s) })
-done_by set tick p (Waits s phase) = nothing_at tick (record p { event = once_waited p.event; live = Some (in_phase phase tick s) })
+done_by set tick p (Leaves s sent number block phase) = nothing_at tick (record p { event = None; live = Some (once_left tick sent number block phase s) })
+done_by set tick p (Waits s phase block gap) = nothing_at tick (record p { event = once_waited p.event; live = Some (once_waiting tick phase block gap s) })
 done_by set tick p (Ends s sent act result left) =
     record (nothing_at tick (record p { event = None; live = None })) { calls = Parted set.path.0 set.dest.0 s.seq (freed_by left) ∷ []; act = act; records = record_of set tick s sent result ∷ [] }
 
@@ -130,17 +135,29 @@ AsksForOne (CameFc fs bs st) = ⊥
 AsksForOne Left = ⊥
 AsksForOne RunEnd = Unit {0}
 
--- after a frame that isn't the last one left, a first frame awaits a flow control, a consecutive frame one tick
-pub data AwaitsNext (set : TxSet) (tick : ℕ) (s : Transmission) (sent number : ℕ) (phase : Phase) : Type 0 where
-  AfterFirst : s.sent ≡ 0 → sent ≡ next_part set s → number ≡ s.number → phase ≡ Fc → AwaitsNext set tick s sent number phase
-  AfterNext : 0 < s.sent → sent ≡ s.sent + next_part set s → number ≡ (s.number + 1) % 16 → phase ≡ Gap (record { 0 = tick + 1 }) → AwaitsNext set tick s sent number phase
+-- a consecutive frame is one more of the transmission, and one less of its block
+pub record IsOneMore (set : TxSet) (s : Transmission) (sent number block : ℕ) : Type 0 where
+  pub some : 0 < s.sent
+  pub sent_is : sent ≡ s.sent + next_part set s
+  pub number_is : number ≡ (s.number + 1) % 16
+  pub block_is : block ≡ s.block - 1
 
--- when a session waits for something else
-pub data MayWait (tick : ℕ) (event : TxEvent) (was phase : Phase) : Type 0 where
-  IsReached : event ≡ Turn → was ≡ Start → phase ≡ Bytes → MayWait tick event was phase
-  GapIsOver : (until : Tick) → event ≡ Turn → was ≡ Gap until → until.0 ≤ tick → phase ≡ Bytes → MayWait tick event was phase
-  IsContinued : (bs st : ℕ) → event ≡ CameFc 0 bs st → was ≡ Fc → phase ≡ Bytes → MayWait tick event was phase
-  IsPaused : (bs st : ℕ) → event ≡ CameFc 1 bs st → was ≡ Fc → phase ≡ Fc → MayWait tick event was phase
+-- after a frame that isn't the last one left, a first frame and the last one of a block await a flow control, each other one its gap
+pub data AwaitsNext (set : TxSet) (tick : ℕ) (s : Transmission) (sent number block : ℕ) (phase : Phase) : Type 0 where
+  AfterFirst : s.sent ≡ 0 → sent ≡ next_part set s → number ≡ s.number → block ≡ s.block → phase ≡ Fc → AwaitsNext set tick s sent number block phase
+  AfterBlock : IsOneMore set s sent number block → s.block ≡ 1 → phase ≡ Fc → AwaitsNext set tick s sent number block phase
+  AfterNext : IsOneMore set s sent number block → (s.block ≡ 1 → ⊥) → phase ≡ Gap (record { 0 = tick + s.gap }) → AwaitsNext set tick s sent number block phase
+
+-- what is kept of the last flow control that let frames come
+abbrev pub KeepsBlock : Transmission → (block gap : ℕ) → Type 0
+KeepsBlock s block gap = (block ≡ s.block) × (gap ≡ s.gap)
+
+-- when a session waits for something else, and by which block and gap
+pub data MayWait (set : TxSet) (tick : ℕ) (event : TxEvent) (s : Transmission) (phase : Phase) (block gap : ℕ) : Type 0 where
+  IsReached : event ≡ Turn → s.phase ≡ Start → phase ≡ Bytes → KeepsBlock s block gap → MayWait set tick event s phase block gap
+  GapIsOver : (until : Tick) → event ≡ Turn → s.phase ≡ Gap until → until.0 ≤ tick → phase ≡ Bytes → KeepsBlock s block gap → MayWait set tick event s phase block gap
+  IsContinued : (bs st : ℕ) → event ≡ CameFc 0 bs st → s.phase ≡ Fc → phase ≡ Bytes → block ≡ bs → gap ≡ gap_in st set.period → MayWait set tick event s phase block gap
+  IsPaused : (bs st : ℕ) → event ≡ CameFc 1 bs st → s.phase ≡ Fc → phase ≡ Fc → KeepsBlock s block gap → MayWait set tick event s phase block gap
 
 -- all that was seen is read, and it is fewer bytes than the next frame takes
 pub record IsShort (set : TxSet) (s : Transmission) (look : Seen) : Type 0 where
@@ -183,11 +200,11 @@ pub record MayOffer (set : TxSet) (event : TxEvent) (s : Transmission) : Type 0 
   pub fits : fits_shape set.shape (next_unit set s) ≡ true
 
 -- the frame in the box leaves, and more bytes are to come
-pub record MayLeave (set : TxSet) (tick : ℕ) (event : TxEvent) (s : Transmission) (sent number : ℕ) (phase : Phase) : Type 0 where
+pub record MayLeave (set : TxSet) (tick : ℕ) (event : TxEvent) (s : Transmission) (sent number block : ℕ) (phase : Phase) : Type 0 where
   pub left : event ≡ Left
   pub box : s.phase ≡ Box
   pub more : s.sent + next_part set s < s.len
-  pub next : AwaitsNext set tick s sent number phase
+  pub next : AwaitsNext set tick s sent number block phase
 
 -- when an effect may be, by the event and what was seen last
 abbrev pub MayBe : TxSet → (tick : ℕ) → TxEvent → Option Seen → TxEffect → Type 0
@@ -196,8 +213,8 @@ MayBe set tick event look (Joins buf len) = AsksForOne event × (0 < len)
 MayBe set tick event look (Looks s seen) = event ≡ Turn
 MayBe set tick event look (Reads s cells) = (event ≡ Turn) × All IsCell cells
 MayBe set tick event look (Offers s) = MayOffer set event s
-MayBe set tick event look (Leaves s sent number phase) = MayLeave set tick event s sent number phase
-MayBe set tick event look (Waits s phase) = MayWait tick event s.phase phase
+MayBe set tick event look (Leaves s sent number block phase) = MayLeave set tick event s sent number block phase
+MayBe set tick event look (Waits s phase block gap) = MayWait set tick event s phase block gap
 MayBe set tick event look (Ends s sent act result left) = MayEnd set event look s sent act result
 
 -- the next effect of a step

@@ -1,5 +1,5 @@
 -- What a sender is at.
-use Rattle.std.specs.Prelude.{◌≡◌, ℕ, List, Option, Some, None}
+use Rattle.std.specs.Prelude.{ℕ, List, Option, Some, None}
 use Rattle.std.specs.Prelude.{option_map}
 use Rattle.hub_core.specs.Turns.{Did, Turn as TurnOf}
 use Rattle.hub_core.specs.View.{Event}
@@ -25,6 +25,9 @@ pub record Transmission : Type 0 where
   pub begin : ℕ
   pub sent : ℕ
   pub number : ℕ
+  -- how many frames may still leave before a flow control is awaited again, where that isn't 0, and the ticks between two of them
+  pub block : ℕ
+  pub gap : ℕ
   -- what it waits for, and since which tick
   pub phase : Phase
   pub since : ℕ
@@ -43,6 +46,8 @@ transmission_of live = record {
   begin = live.begin.0;
   sent = live.sent;
   number = live.number;
+  block = live.block;
+  gap = live.gap;
   phase = live.phase;
   since = live.since.0;
 }
@@ -94,10 +99,3 @@ abbrev pub IsInBox : BoxMeaning → (was : Type 0) → Option Transmission → T
 IsInBox Keeps was live = (was → HasFrame live) × (HasFrame live → was)
 IsInBox (Offers meaning) was live = HasFrame live
 IsInBox Revokes was live = HasFrame live → ⊥
-
--- a flow control that permits everything at once: what is built of continues
-abbrev pub IsPlain : TxEvent → Type 0
-IsPlain Turn = Unit {0}
-IsPlain (CameFc fs bs st) = fs ≡ 0 → (bs ≡ 0) × (st ≡ 0)
-IsPlain Left = Unit {0}
-IsPlain RunEnd = Unit {0}

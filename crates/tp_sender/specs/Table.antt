@@ -1,5 +1,6 @@
 -- What a step of a sender comes to: a row for each phase, event and case.
-use Rattle.std.specs.Prelude.{◌≡◌, ℕ, ◌+◌, ◌%◌, ◌<◌, ◌≤◌, Bool, true, false, not, ◌&&◌, ◌||◌, ◌==◌, nat_le, List, [], ◌∷◌, ◌++◌, length, map, take, drop, All, Option, Some, None}
+use Rattle.std.specs.Prelude.{◌≡◌, ℕ, ◌+◌, ◌-◌, ◌%◌, ◌<◌, ◌≤◌, Bool, true, false, not, ◌&&◌, ◌||◌, ◌==◌, nat_le, List, [], ◌∷◌, ◌++◌, length, map, take, drop, All, Option, Some, None}
+use Rattle.flow_plan.specs.Gap.{gap_in}
 use Rattle.gw_base.specs.Cell.{IsCell, bytes_of, count_of}
 use Rattle.hub_core.specs.Calls.{freed_by}
 use Rattle.hub_core.specs.View.{Event, Joining, Missed, Saw, Read, Parted}
@@ -124,7 +125,7 @@ InTurn set s (Gap until) calls did = InGap set s until.0 calls did
 
 -- a session as it is joined
 abbrev pub joined_in : (tick seq len : ℕ) → Transmission
-joined_in tick seq len = record { seq = seq; len = len; at = 0; carried = []; begin = tick; sent = 0; number = 1; phase = Start; since = tick }
+joined_in tick seq len = record { seq = seq; len = len; at = 0; carried = []; begin = tick; sent = 0; number = 1; block = 0; gap = 0; phase = Start; since = tick }
 
 -- no session stands, and none is sent
 pub record NoneStands (set : TxSet) (next : ℕ) (did : TxDid) : Type 0 where
@@ -155,27 +156,36 @@ pub data IdleEnd (set : TxSet) (next : ℕ) (did : TxDid) : Type 0 where
 abbrev pub all_sent : Transmission → Transmission
 all_sent s = record s { sent = s.len }
 
--- the frame in the box left: the last one ends the session, a first frame awaits a flow control, a consecutive frame one tick
+-- a consecutive frame left: so many bytes were sent with it, and one frame less of its block may leave
+abbrev pub next_sent : TxSet → Transmission → Transmission
+next_sent set s = record s { sent = s.sent + next_part set s; number = (s.number + 1) % 16; block = s.block - 1 }
+
+-- the frame in the box left: the last one ends the session, a first frame and the last one of a block await a flow control, each
+-- other one its gap
 pub data FrameLeft (set : TxSet) (s : Transmission) (calls : List Event) (did : TxDid) : Type 0 where
   LastLeft : s.sent + next_part set s ≡ s.len → Ends set (all_sent s) Keeps Sent calls did → FrameLeft set s calls did
   FirstLeft : s.sent ≡ 0 → next_part set s < s.len → GoesOn (in_phase Fc did.tick (record s { sent = next_part set s })) calls did → FrameLeft set s calls did
-  NextLeft : 0 < s.sent → s.sent + next_part set s < s.len →
-      GoesOn (in_phase (Gap (record { 0 = did.tick + 1 })) did.tick (record s { sent = s.sent + next_part set s; number = (s.number + 1) % 16 })) calls did → FrameLeft set s calls did
+  BlockLeft : 0 < s.sent → s.sent + next_part set s < s.len → s.block ≡ 1 → GoesOn (in_phase Fc did.tick (next_sent set s)) calls did → FrameLeft set s calls did
+  NextLeft : 0 < s.sent → s.sent + next_part set s < s.len → (s.block ≡ 1 → ⊥) → GoesOn (in_phase (Gap (record { 0 = did.tick + s.gap })) did.tick (next_sent set s)) calls did → FrameLeft set s calls did
+
+-- the session with the block size and the separation time of a flow control that lets frames come
+abbrev pub continued : TxSet → (bs st : ℕ) → Transmission → Transmission
+continued set bs st s = record s { block = bs; gap = gap_in st set.period }
 
 -- a flow control where one is awaited
-pub data Answered (set : TxSet) (s : Transmission) (fs : ℕ) (calls : List Event) (did : TxDid) : Type 0 where
-  Continues : fs ≡ 0 → GoesOn (in_phase Bytes did.tick s) calls did → Answered set s fs calls did
-  AsksToWait : fs ≡ 1 → GoesOn (in_phase Fc did.tick s) calls did → Answered set s fs calls did
-  Overflows : fs ≡ 2 → Ends set s Keeps FcOverflow calls did → Answered set s fs calls did
-  IsInvalid : 2 < fs → Ends set s Keeps (InvalidFs fs) calls did → Answered set s fs calls did
+pub data Answered (set : TxSet) (s : Transmission) (fs bs st : ℕ) (calls : List Event) (did : TxDid) : Type 0 where
+  Continues : fs ≡ 0 → GoesOn (in_phase Bytes did.tick (continued set bs st s)) calls did → Answered set s fs bs st calls did
+  AsksToWait : fs ≡ 1 → GoesOn (in_phase Fc did.tick s) calls did → Answered set s fs bs st calls did
+  Overflows : fs ≡ 2 → Ends set s Keeps FcOverflow calls did → Answered set s fs bs st calls did
+  IsInvalid : 2 < fs → Ends set s Keeps (InvalidFs fs) calls did → Answered set s fs bs st calls did
 
 -- a flow control: in every phase but Fc it is ignored
-abbrev pub InAnswer : TxSet → Transmission → Phase → ℕ → List Event → TxDid → Type 0
-InAnswer set s Start fs calls did = GoesOn s calls did
-InAnswer set s Bytes fs calls did = GoesOn s calls did
-InAnswer set s Box fs calls did = GoesOn s calls did
-InAnswer set s Fc fs calls did = Answered set s fs calls did
-InAnswer set s (Gap until) fs calls did = GoesOn s calls did
+abbrev pub InAnswer : TxSet → Transmission → Phase → (fs bs st : ℕ) → List Event → TxDid → Type 0
+InAnswer set s Start fs bs st calls did = GoesOn s calls did
+InAnswer set s Bytes fs bs st calls did = GoesOn s calls did
+InAnswer set s Box fs bs st calls did = GoesOn s calls did
+InAnswer set s Fc fs bs st calls did = Answered set s fs bs st calls did
+InAnswer set s (Gap until) fs bs st calls did = GoesOn s calls did
 
 -- what a phase waits for, in a record of the run's end
 abbrev pub wait_of : Phase → TxWait
@@ -188,7 +198,7 @@ wait_of (Gap until) = ForGap
 -- what happens to a session, event by event
 abbrev pub LiveRow : TxSet → Transmission → TxEvent → List Event → TxDid → Type 0
 LiveRow set s Turn calls did = InTurn set s s.phase calls did
-LiveRow set s (CameFc fs bs st) calls did = InAnswer set s s.phase fs calls did
+LiveRow set s (CameFc fs bs st) calls did = InAnswer set s s.phase fs bs st calls did
 LiveRow set s Left calls did = (s.phase ≡ Box) × FrameLeft set s calls did
 LiveRow set s RunEnd calls did = Ends set s (revoked s.phase) (EndOfRun (wait_of s.phase) (record { 0 = s.since })) calls did
 

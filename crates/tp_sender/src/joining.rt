@@ -40,6 +40,8 @@ fn live_of(at: Joined, tick: Tick) -> Transmission
         begin: tick,
         sent: 0,
         number: FIRST_NUMBER,
+        block: 0,
+        gap: 0,
         phase: Phase::Start,
         since: tick,
     }

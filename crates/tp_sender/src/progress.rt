@@ -1,4 +1,4 @@
-ghost use Rattle.std.specs.Prelude.{◌≡◌, ◌+◌, ◌≤◌};
+ghost use Rattle.std.specs.Prelude.{◌≡◌, ◌+◌, ◌<◌, ◌≤◌};
 ghost use Rattle.tp_sender.specs.Port.{KnowsToken, KeepsPort, RowOver, did_of};
 ghost use Rattle.hub_core.specs.Stays.{IsSamePort};
 ghost use Rattle.tp_unit.specs.Shape.{IsShape};
@@ -13,15 +13,13 @@ use crate::frame::next_part;
 use crate::transmission::{Outcome, Phase, Transmission};
 use crate::turn::take_turn;
 use crate::{TxEvent, TxSet};
+use flow_plan::gap_ticks;
 use gw_base::Tick;
 use hub_core::{DestRecord, DestResult, Port};
 use tp_unit::BoxAct;
 
 /// The number of sequence numbers (ISO 15765-2, sequence number).
 const SEQUENCE_NUMBERS: u8 = 16;
-
-/// The ticks between two consecutive frames where no separation time is asked for.
-const LEAST_GAP: u64 = 1;
 
 /// The flow status by which a receiver lets frames come.
 const CONTINUE: u8 = 0;
@@ -31,6 +29,14 @@ const WAIT: u8 = 1;
 
 /// The flow status by which a receiver refuses a message.
 const OVERFLOW: u8 = 2;
+
+/// A flow control: its status, block size and separation time.
+#[derive(Clone, Copy, Debug, PartialEq, Eq)]
+pub struct Control {
+    pub fs: u8,
+    pub bs: u8,
+    pub st: u8,
+}
 
 /// The frame in the box left.
 pub fn frame_left<P: Port>(set: &TxSet, mut live: Transmission, tick: Tick, port: &mut P) -> Outcome
@@ -53,8 +59,14 @@ pub fn frame_left<P: Port>(set: &TxSet, mut live: Transmission, tick: Tick, port
         return go_on(live, BoxAct::Keep);
     }
     live.number = (live.number + 1) % SEQUENCE_NUMBERS;
+    if live.block == 1 {
+        live.block = 0;
+        live.phase = Phase::Fc;
+        return go_on(live, BoxAct::Keep);
+    }
+    live.block = live.block.saturating_sub(1);
     live.phase = Phase::Gap {
-        until: Tick(tick.0 + LEAST_GAP),
+        until: Tick(tick.0 + live.gap),
     };
     go_on(live, BoxAct::Keep)
 }
@@ -79,14 +91,21 @@ fn all_left<P: Port>(set: &TxSet, live: Transmission, tick: Tick, port: &mut P) 
 }
 
 /// A flow control came: in every phase but Fc it is ignored.
-pub fn answer<P: Port>(set: &TxSet, live: Transmission, fs: u8, tick: Tick, port: &mut P) -> Outcome
+pub fn answer<P: Port>(
+    set: &TxSet,
+    live: Transmission,
+    control: Control,
+    tick: Tick,
+    port: &mut P,
+) -> Outcome
+    requires period { 0 < set.now.period }
     requires knows { KnowsToken (P.state port.old).view set.now (live.at.seq + 1) live }
-    ensures step { RowOver (InAnswer set.now (transmission_of live) live.phase fs) (P.state port.old) (P.state port.new) tick.0 (live.at.seq + 1) result }
+    ensures step { RowOver (InAnswer set.now (transmission_of live) live.phase control.fs control.bs control.st) (P.state port.old) (P.state port.new) tick.0 (live.at.seq + 1) result }
     ensures port { KeepsPort set.now (live.at.seq + 1) result.live (P.state port.old).view (P.state port.new).view (P.state port.old).means (P.state port.new).means }
     ensures home { IsSamePort (P.state port.old) (P.state port.new) }
 {
     match live.phase {
-        Phase::Fc => obey(set, live, fs, tick, port),
+        Phase::Fc => obey(set, live, control, tick, port),
         Phase::Start | Phase::Bytes | Phase::Box | Phase::Gap { until: _ } => {
             go_on(live, BoxAct::Keep)
         }
@@ -94,14 +113,23 @@ pub fn answer<P: Port>(set: &TxSet, live: Transmission, fs: u8, tick: Tick, port
 }
 
 /// A flow control came that is awaited.
-fn obey<P: Port>(set: &TxSet, mut live: Transmission, fs: u8, tick: Tick, port: &mut P) -> Outcome
+fn obey<P: Port>(
+    set: &TxSet,
+    mut live: Transmission,
+    control: Control,
+    tick: Tick,
+    port: &mut P,
+) -> Outcome
+    requires period { 0 < set.now.period }
     requires knows { KnowsToken (P.state port.old).view set.now (live.at.seq + 1) live }
-    ensures step { RowOver (Answered set.now (transmission_of live) fs) (P.state port.old) (P.state port.new) tick.0 (live.at.seq + 1) result }
+    ensures step { RowOver (Answered set.now (transmission_of live) control.fs control.bs control.st) (P.state port.old) (P.state port.new) tick.0 (live.at.seq + 1) result }
     ensures port { KeepsPort set.now (live.at.seq + 1) result.live (P.state port.old).view (P.state port.new).view (P.state port.old).means (P.state port.new).means }
     ensures home { IsSamePort (P.state port.old) (P.state port.new) }
 {
-    match fs {
+    match control.fs {
         CONTINUE => {
+            live.block = control.bs;
+            live.gap = gap_ticks(control.st, set.period);
             live.phase = Phase::Bytes;
             live.since = tick;
             go_on(live, BoxAct::Keep)
@@ -116,7 +144,7 @@ fn obey<P: Port>(set: &TxSet, mut live: Transmission, fs: u8, tick: Tick, port: 
             set,
             live,
             BoxAct::Keep,
-            DestResult::InvalidFs(fs),
+            DestResult::InvalidFs(control.fs),
             tick,
             port,
         ),
@@ -147,6 +175,7 @@ pub fn step_live<P: Port>(
     port: &mut P,
 ) -> Outcome
     requires shape { IsShape set.now.shape }
+    requires period { 0 < set.now.period }
     requires knows { KnowsToken (P.state port.old).view set.now (live.at.seq + 1) live }
     requires since { live.since.0 ≤ tick.0 }
     requires tick { tick.0 ≤ 10000000 }
@@ -157,7 +186,7 @@ pub fn step_live<P: Port>(
 {
     match event {
         TxEvent::Turn => take_turn(set, live, tick, port),
-        TxEvent::Fc { fs, bs: _, st: _ } => answer(set, live, fs, tick, port),
+        TxEvent::Fc { fs, bs, st } => answer(set, live, Control { fs, bs, st }, tick, port),
         TxEvent::Left => frame_left(set, live, tick, port),
         TxEvent::RunEnd => run_out(set, live, tick, port),
     }

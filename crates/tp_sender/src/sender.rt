@@ -1,3 +1,4 @@
+ghost use Rattle.std.specs.Prelude.{◌<◌};
 ghost use Rattle.tp_unit.specs.Shape.{IsShape};
 
 use crate::ending::end;
@@ -19,21 +20,23 @@ pub struct Sender {
     next: u32,
     live: Option<Transmission>,
     ghost shape: { IsShape set.shape },
+    ghost period: { 0 < set.period },
 }
 
 impl Sender {
-    ghost use Rattle.std.specs.Prelude.{◌≡◌, ◌+◌, ◌≤◌, ℕ, is_some, length, None, Some};
+    ghost use Rattle.std.specs.Prelude.{◌≡◌, ◌+◌, ◌<◌, ◌≤◌, ℕ, is_some, length, None, Some};
     ghost use Rattle.tp_sender.specs.Port.{ActsFor, Knows, KnowsLive, KnowsToken, OthersStay, StepOverPort};
     ghost use Rattle.hub_core.specs.Calls.{SameMeans};
     ghost use Rattle.hub_core.specs.Stays.{IsSamePort};
     ghost use Rattle.hub_core.specs.View.{View};
     ghost use Rattle.tp_unit.specs.Unit.{box_meaning_of};
     ghost use Rattle.tp_sender.specs.declared.event.TxEvent.TheVariants.{Left};
-    ghost use Rattle.tp_sender.specs.State.{HasFrame, IsInBox, IsPlain, StillHasFrame, transmission_of, set_of, since_of, state_of, tx_new};
+    ghost use Rattle.tp_sender.specs.State.{HasFrame, IsInBox, StillHasFrame, transmission_of, set_of, since_of, state_of, tx_new};
 
     /// A sender that sends nothing yet.
     pub fn new(set: TxSet) -> Sender
-        requires { IsShape set.shape }
+        requires shape { IsShape set.shape }
+        requires period { 0 < set.period }
         ensures set { set_of result ≡ set }
         ensures state { state_of result ≡ tx_new }
         ensures knows { (v : View) → length (v.readings set.path.0 set.dest.0) ≡ 0 → Knows v result }
@@ -54,15 +57,13 @@ impl Sender {
 
     /// A step in a tick: what the event, the state and the port's answers come to.
     ///
-    /// Ticks never fall, and `Left` comes only where a frame of this sender lay in its box. Of the flow controls that
-    /// continue only those with block size 0 and separation time 0 may come.
+    /// Ticks never fall, and `Left` comes only where a frame of this sender lay in its box.
     pub fn step<P: Port>(&mut self, event: TxEvent, tick: Tick, port: &mut P) -> TxActs
         requires knows { Knows (P.state port.old).view self.old }
         requires acts { ActsFor (P.state port.old).means self.old }
         requires since { since_of (state_of self.old).live ≤ tick.0 }
         requires tick { tick.0 ≤ 10000000 }
         requires left { event ≡ Left → HasFrame (state_of self.old).live }
-        requires plain { IsPlain event }
         ensures step { StepOverPort (set_of self.old) (state_of self.old) (state_of self.new) event tick.0 (P.state port.old) (P.state port.new) result }
         ensures knows { Knows (P.state port.new).view self.new }
         ensures acts { ActsFor (P.state port.new).means self.new }

@@ -22,6 +22,6 @@ pub struct TxSet {
     pub n_bs: u32,
     /// How many ticks the next frame's bytes may be awaited (ISO 15765-2, N_Cs).
     pub n_cs: u32,
-    /// A tick in microseconds. Not read yet: frames follow one another by one tick.
+    /// A tick in microseconds, by which a separation time becomes ticks.
     pub period: u32,
 }

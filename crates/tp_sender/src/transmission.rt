@@ -32,11 +32,16 @@ pub struct Transmission {
     pub sent: u32,
     /// The sequence number of the next consecutive frame.
     pub number: u8,
+    /// The frames that may still leave before a flow control is awaited again; 0 is no limit.
+    pub block: u8,
+    /// The ticks between two consecutive frames.
+    pub gap: u64,
     pub phase: Phase,
     /// The tick since which the phase lasts.
     pub since: Tick,
     ghost unfinished: { sent < at.len },
     ghost numbered: { number ≤ 15 },
+    ghost gapped: { gap ≤ 127000 },
 }
 
 /// What a step comes to: the session that goes on, where one does, and what is done.

@@ -2,4 +2,6 @@
 #![tactic(auto)]
 
 #[cfg(test)]
+mod pacing;
+#[cfg(test)]
 mod tests;

@@ -2,7 +2,7 @@ ghost use Rattle.std.specs.Prelude.{◌≡◌, ◌+◌, ◌<◌, ◌≤◌, Opti
 ghost use Rattle.tp_sender.specs.Port.{ActsFor, Knows};
 ghost use Rattle.hub_core.specs.Tokens.{Writes};
 ghost use Rattle.tp_unit.specs.Unit.{box_meaning_of};
-ghost use Rattle.tp_sender.specs.State.{HasFrame, IsInBox, IsPlain, StillHasFrame, state_of, Transmission};
+ghost use Rattle.tp_sender.specs.State.{HasFrame, IsInBox, StillHasFrame, state_of, Transmission};
 ghost use Rattle.tp_sender.specs.declared.event.TxEvent.{TxEvent as Came};
 ghost use Rattle.tp_sender.specs.declared.event.TxEvent.TheVariants.{Left as FrameLeft};
 
@@ -108,19 +108,22 @@ fn write<P: Port>(port: &mut P, source: Source) -> bool
 
 /// Whether the event may come to a sender with a frame in its box, or without.
 fn may_come(event: TxEvent, full: bool) -> bool
-    ensures plain { result ≡ true → IsPlain event }
     ensures left { result ≡ true → event ≡ FrameLeft → full ≡ true }
 {
     match event {
         TxEvent::Turn => true,
-        TxEvent::Fc { fs, bs, st } => fs != 0 || bs == 0 && st == 0,
+        TxEvent::Fc {
+            fs: _,
+            bs: _,
+            st: _,
+        } => true,
         TxEvent::Left => full,
         TxEvent::RunEnd => true,
     }
 }
 
 /// Whether the box still holds a frame once the event came.
-fn still_full(event: TxEvent, full: bool) -> bool
+pub fn still_full(event: TxEvent, full: bool) -> bool
     ensures { (live : Option Transmission) → (full ≡ true → HasFrame live) → result ≡ true → StillHasFrame event live }
 {
     match event {
@@ -136,7 +139,7 @@ fn still_full(event: TxEvent, full: bool) -> bool
 }
 
 /// Whether the box holds a frame after the act.
-fn full_after(boxed: &BoxAct, still: bool) -> bool
+pub fn full_after(boxed: &BoxAct, still: bool) -> bool
     ensures { (event : Came) (old new : Option Transmission) → (still ≡ true → StillHasFrame event old) → IsInBox (box_meaning_of boxed.now) (StillHasFrame event old) new → result ≡ true → HasFrame new }
 {
     match boxed {

@@ -1,6 +1,8 @@
 -- No destination waits longer for the next frame's bytes than its limit.
-use Rattle.std.proofs.Common.{◌≡◌, ℕ, ◌+◌, ◌-◌, ◌<◌, ◌≤◌, Bool, true, false, ◌==◌, nat_le, Option, Some, None, List, [], ◌∷◌, ◌++◌, length, map, min, inl, inr, refl, ap, sym, ◌∙◌, subst, arith, append-nil}
-use Rattle.tp_unit.specs.Box.{Answer, Written}
+use Rattle.std.proofs.Common.{◌≡◌, ℕ, ◌+◌, ◌-◌, ◌<◌, ◌≤◌, Bool, true, false, ◌==◌, nat_le, Some, List, [], ◌∷◌, ◌++◌, length, map, min, inl, inr, refl, ap, sym, ◌∙◌, subst, arith, append-nil}
+use Rattle.flow_plan.proofs.Paces.{AreInOrder, in-order}
+use Rattle.flow_plan.specs.Pace.{Control}
+use Rattle.tp_unit.specs.Box.{Written}
 use Rattle.std.specs.Prelude.{filter, nat_lt, slice_get}
 use Rattle.std.specs.List.{AllByRecursion}
 use Rattle.std.proofs.lemmas.Bool.{cases_lt}
@@ -28,11 +30,13 @@ use Rattle.gw_law.specs.Account.{Route}
 use Rattle.receiver_law.specs.Source.{SourceLaw, Tells}
 use Rattle.sender_law.specs.Channel.{IsOfChannel}
 use Rattle.gw_law.specs.Timely.{IsTimely, TimelyLaw, bytes_below, bytes_to, delivery_of_route}
-use Rattle.sender_law.specs.Transfer.{Paced, Permits, Spaced, answer_after, has_sent, seen_of}
+use Rattle.sender_law.specs.Transfer.{has_sent, seen_of}
+use Rattle.sender_law.specs.Pacing.{Paced, controls_of}
+use Rattle.sender_law.specs.Channel.{never_full}
 use Rattle.sender_law.specs.TransmissionCauses.{IsCausedWith, IsLate, TransmissionCauses, left_in, left_up_to}
 use Rattle.gw_law.proofs.causes.JointEnds.{once}
 use Rattle.gw_law.proofs.times.Pieces.{CutIn, bytes-most, cuts-in}
-use Rattle.sender_law.proofs.causes.TxCausesLists.{answer-above, left-all}
+use Rattle.sender_law.proofs.causes.TxCausesLists.{left-all}
 use Rattle.gw_base.proofs.Lists.{all-at, all-map, all-weaker, zip-index, zip-pair}
 use Rattle.tp_attempts.proofs.Cuts.{cuts-starts}
 use Rattle.gw_law.proofs.causes.SizedPieces.{IsSized, SizedFrom, sized-at, sized-walk}
@@ -61,18 +65,13 @@ Ordered [] = Unit {0}
 Ordered (piece ∷ []) = Unit {0}
 Ordered (piece ∷ next ∷ later) = (piece.at ≤ next.at) × Ordered (next ∷ later)
 
-spaced-ordered : (piece : Piece) (pieces : List Piece) → Spaced (piece ∷ pieces) → Ordered (piece ∷ pieces)
-spaced-ordered piece [] spaced = tt
-spaced-ordered piece (next ∷ pieces) spaced = (omega (arith, spaced.0), spaced-ordered next pieces spaced.1)
+ordered-from : (piece : Piece) (pieces : List Piece) → AreInOrder piece.at (map (λ (p : Piece). p.at) pieces) → Ordered (piece ∷ pieces)
+ordered-from piece [] is = tt
+ordered-from piece (next ∷ pieces) is = (is.0, ordered-from next pieces is.1)
 
-permits-after : (first next : ℕ) (answers : List Answer) (found : Option Answer) → answer_after first answers ≡ found → Permits found next → first ≤ next
-permits-after first next answers None is permits = absurd permits
-permits-after first next answers (Some answer) is permits = omega (arith, permits.1, answer-above first answers answer is)
-
-paced-ordered : (answers : List Answer) (pieces : List Piece) → Paced answers pieces → Ordered pieces
-paced-ordered answers [] paced = tt
-paced-ordered answers (first ∷ []) paced = tt
-paced-ordered answers (first ∷ next ∷ later) paced = (permits-after first.at next.at answers (answer_after first.at answers) refl paced.0, spaced-ordered next later paced.1)
+paced-ordered : (controls : List Control) (pieces : List Piece) → Paced controls pieces → Ordered pieces
+paced-ordered controls [] paced = tt
+paced-ordered controls (first ∷ later) paced = ordered-from first later (in-order controls first.at (map (λ (p : Piece). p.at) later) paced)
 
 later-all : (tick : ℕ) (piece : Piece) (pieces : List Piece) → tick ≤ piece.at → Ordered (piece ∷ pieces) → AllByRecursion (λ (p : Piece). tick ≤ p.at) (piece ∷ pieces)
 later-all tick piece [] le ordered = (le, tt)
@@ -175,7 +174,7 @@ part-same cap other len start sent part bytes part_is bytes_are le same = elim (
 -- what is known of a transmission and of the unit that its record names
 record Sending (r : Route) (unit cut : Cut Seen) (session : SessionRecord) (told : DestRecord) : Type 0 where
   sound : IsShape r.leg.tx.shape
-  caused : IsCausedWith r.leg cut told
+  caused : IsCausedWith never_full r.leg cut told
   timely : (tick : ℕ) → bytes_to tick (walk_of (address_size r.leg.tx.shape) cut).pieces ≤ bytes_below (tick + r.window) (walk_of r.source.rx.a unit).pieces
   start : (0 < length (bytes_of cut.start.meaning)) × (length (bytes_of cut.start.meaning) < len_of cut.start.meaning → cut.start.size ≡ r.leg.tx.shape.dl)
   len : len_of cut.start.meaning ≡ session.len
@@ -193,8 +192,8 @@ late-none r unit cut session told tick split so above below waits =
     let same : map (λ (p : Piece). p.at) (left_before tick pieces) ≡ left_up_to tick (left_in (address_size r.leg.tx.shape) cut) = ap (map (λ (p : Piece). p.at)) before ∙ sym (none-now tick pieces split.early split.later split.is split.below above) in
     let P : List Piece → Type 0 = λ l. AllByRecursion (λ (p : Piece). told.begin.0 ≤ p.at) l in
     let begun : told.begin.0 ≤ tick = begins-below told.begin.0 tick split.early split.later some split.below (subst P split.is so.begins) in
-    let Q : List ℕ → Type 0 = λ l. IsLate r.leg.tx.n_cs r.leg.answers told.begin.0 l tick in
-    (so.caused.in_time tick begun below).leaves (omega (arith, some, ap length (sym same), length-map (left_before tick pieces) (λ (p : Piece). p.at), ap length before)) (subst Q same waits.late)
+    let Q : List ℕ → Type 0 = λ l. IsLate r.leg.tx.n_cs (controls_of r.leg.tx.period r.leg.answers) told.begin.0 l tick in
+    (so.caused.in_time tick begun below).leaves refl (omega (arith, some, ap length (sym same), length-map (left_before tick pieces) (λ (p : Piece). p.at), ap length before)) (subst Q same waits.late)
 
 -- a frame leaves in the tick
 late-one : (r : Route) (unit cut : Cut Seen) (session : SessionRecord) (told : DestRecord) (tick : ℕ) (split : SplitAt tick (walk_of (address_size r.leg.tx.shape) cut).pieces) (piece : Piece) (rest : List Piece) → Sending r unit cut session told → split.later ≡ piece ∷ rest → piece.at ≤ tick →
@@ -241,18 +240,18 @@ len-named : (r : Route) (seq : ℕ) (unit : Cut Seen) (session : SessionRecord) 
 len-named r seq unit session law named = (zip-pair (Tells r.source.rx.chan.0 r.source.rx.a) (attempts_in r.source.rx.functional r.source.seen) r.source.sessions named.place unit session law.tells named.unit_is named.session_is).len
 
 -- by the laws of the source, of a destination's ends, of time and of delivery
-pub none-waits : (r : Route) → IsShape r.leg.tx.shape → SourceLaw r.source.rx.chan.0 r.source.rx.a r.source.rx.functional r.source.seen r.source.sessions → TransmissionCauses r.leg → TimelyLaw r → DeliveryLaw (delivery_of_route r) → NoneWaitsTooLong r
+pub none-waits : (r : Route) → IsShape r.leg.tx.shape → SourceLaw r.source.rx.chan.0 r.source.rx.a r.source.rx.functional r.source.seen r.source.sessions → TransmissionCauses never_full r.leg → TimelyLaw r → DeliveryLaw (delivery_of_route r) → NoneWaitsTooLong r
 none-waits r sound source causes timely law =
     let frames : List Seen = (delivery_of_route r).frames in
     let starts = cuts-in (IsStartOf r.leg.tx.shape) (λ (s : Seen). is_start false s.meaning) frames (all-map (IsStartOf r.leg.tx.shape) (seen_of (address_size r.leg.tx.shape)) r.leg.frames (all-weaker (IsOfChannel r.leg.tx.shape) (λ w. IsStartOf r.leg.tx.shape (seen_of (address_size r.leg.tx.shape) w)) r.leg.frames (λ w own. start-of r.leg.tx.shape w sound own) timely.own)) in
     let begin = cuts-starts (λ (s : Seen). is_start false s.meaning) frames in
     zip-index (Delivers (delivery_of_route r)) (EndsInTime r) (attempts_in false frames) (filter has_sent r.leg.dests) (λ k cut told cut_is told_is delivers unit session named tick below waits.
-    let caused = zip-pair (IsCausedWith r.leg) (attempts_in false frames) (filter has_sent r.leg.dests) k cut told causes.sent cut_is told_is in
+    let caused = zip-pair (IsCausedWith never_full r.leg) (attempts_in false frames) (filter has_sent r.leg.dests) k cut told causes.sent cut_is told_is in
     let time = zip-pair (IsTimely r.window (delivery_of_route r)) (attempts_in false frames) (filter has_sent r.leg.dests) k cut told timely.timely cut_is told_is in
     let start = all-at (CutIn (IsStartOf r.leg.tx.shape)) (attempts_in false frames) k cut starts cut_is in
     let is_so = all-at (λ (c : Cut Seen). is_start false c.start.meaning ≡ true) (attempts_in false frames) k cut begin cut_is in
     let same : (delivers.names.unit ≡ unit) × (delivers.names.session ≡ session) = named-once r told.seq delivers.names.unit unit delivers.names.session session law delivers.names.named named in
-    let ordered : Ordered (walk_of (address_size r.leg.tx.shape) cut).pieces = paced-ordered r.leg.answers (walk_of (address_size r.leg.tx.shape) cut).pieces delivers.paced in
+    let ordered : Ordered (walk_of (address_size r.leg.tx.shape) cut).pieces = paced-ordered (controls_of r.leg.tx.period r.leg.answers) (walk_of (address_size r.leg.tx.shape) cut).pieces delivers.paced in
     let so : Sending r unit cut session told = record {
       sound = sound;
       caused = caused;

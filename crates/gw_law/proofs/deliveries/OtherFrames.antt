@@ -8,7 +8,8 @@ use Rattle.tp_attempts.specs.Walk.{Piece, Walk, joined, walk_of}
 use Rattle.hub_core.specs.declared.record.DestRecord.{DestRecord}
 use Rattle.gw_law.specs.Delivery.{Delivers, Delivery, DeliveryLaw, Names}
 use Rattle.gw_base.proofs.Lists.{all-weaker}
-use Rattle.sender_law.specs.Transfer.{Paced, has_sent}
+use Rattle.sender_law.specs.Transfer.{has_sent}
+use Rattle.sender_law.specs.Pacing.{Paced}
 use Rattle.tp_attempts.proofs.Kept.{kept_of, walk-kept, zip-kept}
 
 -- what a transmission delivers

@@ -218,7 +218,7 @@ plan-is : (p : Played) → IsLawfulPlan (plan_of p.m p.last)
 plan-is p = record {
   window = omega arith;
   receivers = (record { shape = p.are.controls.shape_is; n_ar = p.are.n_ar; n_cr = p.are.n_cr; budget = omega arith }, tt);
-  senders = (record { shape = p.are.frames.shape_is; n_bs = p.are.n_bs; budget = omega arith }, tt);
+  senders = (record { shape = p.are.frames.shape_is; n_as = p.are.n_as; n_bs = p.are.n_bs; budget = omega arith }, tt);
   apart = λ place other r another at there same. (only-one (receiving_of p.m) r place at).0 ∙ sym (only-one (receiving_of p.m) another other there).0;
   each_dest = λ place dest r at below.
       let is = (only-one (receiving_of p.m) r place at).1 in

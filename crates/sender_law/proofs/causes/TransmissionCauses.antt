@@ -1,6 +1,6 @@
 -- Each record of a destination is caused, in every run.
-use Rattle.std.proofs.Common.{◌≡◌, ℕ, ◌+◌, ◌≤◌, Bool, true, false, Option, Some, None, List, [], ◌∷◌, ◌++◌, refl, ap, sym, subst, ◌∙◌, arith, append-nil, inl, inr}
-use Rattle.tp_unit.specs.Box.{Answer, IsNeverFull}
+use Rattle.std.proofs.Common.{◌≡◌, ℕ, ◌+◌, Bool, true, false, Option, Some, None, List, [], ◌∷◌, ◌++◌, refl, ap, sym, subst, ◌∙◌, arith, append-nil, inl, inr}
+use Rattle.tp_unit.specs.Box.{Answer}
 use Rattle.tp_sender.specs.Runs.{HasSent, controls_in}
 use Rattle.tp_sender.specs.State.{TxTurn, tx_new, Transmission}
 use Rattle.hub_core.specs.Turns.{came_by, records_by, state_after}
@@ -14,7 +14,7 @@ use Rattle.tp_attempts.specs.Cuts.{Cut}
 use Rattle.tp_attempts.specs.Seen.{Seen}
 use Rattle.tp_sender.specs.declared.set.TxSet.{TxSet}
 use Rattle.tp_unit.specs.Shape.{IsShape, address_size}
-use Rattle.sender_law.specs.Runs.{IsTxRun, TxRun, leg_of, turns_in}
+use Rattle.sender_law.specs.Runs.{HasLimits, IsTxRun, TxRun, leg_of, turns_in}
 use Rattle.sender_law.specs.Transfer.{SendsFor, Transfer, TransferLaw, has_sent, ticks_of, transfer_of}
 use Rattle.sender_law.specs.TransmissionCauses.{IsCaused, TransmissionCauses, left_in}
 use Rattle.sender_law.proofs.transfers.TxLaw.{law, none-going}
@@ -22,6 +22,7 @@ use Rattle.sender_law.proofs.causes.TxCausesFrames.{ended_ticks, frames_by, is_l
 use Rattle.sender_law.proofs.causes.TxCausesMoments.{Holds, Lives}
 use Rattle.sender_law.proofs.causes.TxCausesSteps.{Counted, Opens, Tells}
 use Rattle.gw_base.proofs.Lists.{zip-both}
+use Rattle.sender_law.proofs.causes.TxCausesLists.{asked}
 use Rattle.sender_law.proofs.causes.TxCausesParts.{in-run}
 
 -- the records with sent bytes are those of which frames left
@@ -40,20 +41,20 @@ zip-by : (R : List ℕ → DestRecord → Type 0) (ticks : List ℕ) (told : Des
 zip-by R ticks told closed records true left sent is later = rw (left, sent) (is, later)
 zip-by R ticks told closed records false left sent is later = rw (left, sent) later
 
-zip-left : (tx : TxSet) (all : List Answer) (last : ℕ) (closed : List (List ℕ)) (records : List DestRecord) → AllZip (Tells tx all last) closed records → AllZip (Tells tx all last) (filter is_left closed) (filter has_sent records)
-zip-left tx all last [] [] zip = tt
-zip-left tx all last [] (told ∷ records) zip = absurd zip
-zip-left tx all last (ticks ∷ closed) [] zip = absurd zip
-zip-left tx all last (ticks ∷ closed) (told ∷ records) zip =
-    zip-by (Tells tx all last) ticks told closed records (is_left ticks) refl (has-sent-by told.sent ticks zip.0.counted) zip.0 (zip-left tx all last closed records zip.1)
+zip-left : (full : ℕ → Bool) (tx : TxSet) (all : List Answer) (last : ℕ) (closed : List (List ℕ)) (records : List DestRecord) → AllZip (Tells full tx all last) closed records → AllZip (Tells full tx all last) (filter is_left closed) (filter has_sent records)
+zip-left full tx all last [] [] zip = tt
+zip-left full tx all last [] (told ∷ records) zip = absurd zip
+zip-left full tx all last (ticks ∷ closed) [] zip = absurd zip
+zip-left full tx all last (ticks ∷ closed) (told ∷ records) zip =
+    zip-by (Tells full tx all last) ticks told closed records (is_left ticks) refl (has-sent-by told.sent ticks zip.0.counted) zip.0 (zip-left full tx all last closed records zip.1)
 
-zip-unsent : (tx : TxSet) (all : List Answer) (last : ℕ) (closed : List (List ℕ)) (records : List DestRecord) → AllZip (Tells tx all last) closed records → AllByRecursion (λ (told : DestRecord). told.sent ≡ 0 → IsCaused tx all last [] told) records
-zip-unsent tx all last [] [] zip = tt
-zip-unsent tx all last [] (told ∷ records) zip = absurd zip
-zip-unsent tx all last (ticks ∷ closed) [] zip = absurd zip
-zip-unsent tx all last (ticks ∷ closed) (told ∷ records) zip =
-    let C : List ℕ → Type 0 = λ l. IsCaused tx all last l told in
-    (λ none. subst C (zip.0.counted.none none) zip.0.caused, zip-unsent tx all last closed records zip.1)
+zip-unsent : (full : ℕ → Bool) (tx : TxSet) (all : List Answer) (last : ℕ) (closed : List (List ℕ)) (records : List DestRecord) → AllZip (Tells full tx all last) closed records → AllByRecursion (λ (told : DestRecord). told.sent ≡ 0 → IsCaused full tx (asked tx all) last [] told) records
+zip-unsent full tx all last [] [] zip = tt
+zip-unsent full tx all last [] (told ∷ records) zip = absurd zip
+zip-unsent full tx all last (ticks ∷ closed) [] zip = absurd zip
+zip-unsent full tx all last (ticks ∷ closed) (told ∷ records) zip =
+    let C : List ℕ → Type 0 = λ l. IsCaused full tx (asked tx all) last l told in
+    (λ none. subst C (zip.0.counted.none none) zip.0.caused, zip-unsent full tx all last closed records zip.1)
 
 zip-of : {A B C : Type 0} (f : A → B) (R : B → C → Type 0) (xs : List A) (ys : List C) → AllZip R (map f xs) ys → AllZip (λ x y. R (f x) y) xs ys
 zip-of f R [] [] zip = tt
@@ -66,29 +67,29 @@ none-left P ticks None is lives = lives
 none-left P ticks (Some s) is lives = cc
 
 -- of moments after which nothing is sent
-of-moments : (tx : TxSet) (last next : ℕ) (moments : List TxTurn) → IsShape tx.shape → HasSent tx moments → (state_after tx_new moments).live ≡ None → Holds tx (came_by controls_in moments) last (Opens tx (came_by controls_in moments) (came_by controls_in moments) next) moments →
-    AllZip (λ cut told. IsCaused tx (came_by controls_in moments) last (left_in (address_size tx.shape) cut) told) (attempts_in false (frames_by tx moments)) (filter has_sent (records_by moments))
-of-moments tx last next moments sound happened idle holds =
+of-moments : (full : ℕ → Bool) (tx : TxSet) (last next : ℕ) (moments : List TxTurn) → IsShape tx.shape → HasSent tx moments → (state_after tx_new moments).live ≡ None → Holds full tx (came_by controls_in moments) last (Opens full tx (came_by controls_in moments) (came_by controls_in moments) next) moments →
+    AllZip (λ cut told. IsCaused full tx (asked tx (came_by controls_in moments)) last (left_in (address_size tx.shape) cut) told) (attempts_in false (frames_by tx moments)) (filter has_sent (records_by moments))
+of-moments full tx last next moments sound happened idle holds =
     let t : Transfer = transfer_of tx moments in
     let all : List Answer = came_by controls_in moments in
     let sends : TransferLaw t = law tx moments sound happened in
     let whole : attempts_in false (frames_by tx moments) ≡ sends.ended = sends.cut ∙ ap (λ l. sends.ended ++ l) (none-going t t.now t.live sends.going idle sends.goes_on) ∙ append-nil sends.ended in
-    let none : live_ticks moments ≡ [] = none-left (Opens tx all all next) (live_ticks moments) (state_after tx_new moments).live idle holds.live in
+    let none : live_ticks moments ≡ [] = none-left (Opens full tx all all next) (live_ticks moments) (state_after tx_new moments).live idle holds.live in
     let ticks : map ticks_of sends.ended ≡ filter is_left (ended_ticks moments) =
     ap (λ l. map ticks_of l) (sym whole) ∙ holds.cuts ∙ ap (λ l. filter is_left (ended_ticks moments) ++ filter is_left (l ∷ [])) none ∙ append-nil (filter is_left (ended_ticks moments)) in
-    let Z : List (List ℕ) → Type 0 = λ l. AllZip (Tells tx all last) l (filter has_sent (records_by moments)) in
-    let C : List (Cut Seen) → Type 0 = λ l. AllZip (λ cut told. IsCaused tx all last (left_in (address_size tx.shape) cut) told) l (filter has_sent (records_by moments)) in
-    let told : AllZip (λ cut d. Tells tx all last (ticks_of cut) d) sends.ended (filter has_sent (records_by moments)) =
-    zip-of ticks_of (Tells tx all last) sends.ended (filter has_sent (records_by moments)) (subst Z (sym ticks) (zip-left tx all last (ended_ticks moments) (records_by moments) holds.told)) in
+    let Z : List (List ℕ) → Type 0 = λ l. AllZip (Tells full tx all last) l (filter has_sent (records_by moments)) in
+    let C : List (Cut Seen) → Type 0 = λ l. AllZip (λ cut told. IsCaused full tx (asked tx all) last (left_in (address_size tx.shape) cut) told) l (filter has_sent (records_by moments)) in
+    let told : AllZip (λ cut d. Tells full tx all last (ticks_of cut) d) sends.ended (filter has_sent (records_by moments)) =
+    zip-of ticks_of (Tells full tx all last) sends.ended (filter has_sent (records_by moments)) (subst Z (sym ticks) (zip-left full tx all last (ended_ticks moments) (records_by moments) holds.told)) in
     subst C (sym whole)
-    (zip-both (SendsFor t) (λ cut d. Tells tx all last (ticks_of cut) d) (λ cut d. IsCaused tx all last (left_in (address_size tx.shape) cut) d) sends.ended (filter has_sent (records_by moments))
-    (λ cut d sent is. let T : List ℕ → Type 0 = λ l. IsCaused tx all last l d in subst T (sym sent.counts) is.caused) sends.sends told)
+    (zip-both (SendsFor t) (λ cut d. Tells full tx all last (ticks_of cut) d) (λ cut d. IsCaused full tx (asked tx all) last (left_in (address_size tx.shape) cut) d) sends.ended (filter has_sent (records_by moments))
+    (λ cut d sent is. let T : List ℕ → Type 0 = λ l. IsCaused full tx (asked tx all) last l d in subst T (sym sent.counts) is.caused) sends.sends told)
 
-pub causes : (run : TxRun) (budget : ℕ) → IsTxRun run → IsNeverFull run.full → 1 ≤ run.set.n_bs → TransmissionCauses (leg_of budget run)
-causes run budget is never some =
+pub causes : (run : TxRun) (budget : ℕ) → IsTxRun run → HasLimits run.set → TransmissionCauses run.full (leg_of budget run)
+causes run budget is some =
     let turns : List TxTurn = turns_in run in
-    let holds = in-run run never some is in
+    let holds = in-run run some is in
     record {
-      sent = of-moments run.set run.last (run.last + 1) turns is.shape is.happened is.idle holds;
-      unsent = zip-unsent run.set (came_by controls_in turns) run.last (ended_ticks turns) (records_by turns) holds.told;
+      sent = of-moments run.full run.set run.last (run.last + 1) turns is.shape is.happened is.idle holds;
+      unsent = zip-unsent run.full run.set (came_by controls_in turns) run.last (ended_ticks turns) (records_by turns) holds.told;
     }

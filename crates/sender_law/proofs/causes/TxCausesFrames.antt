@@ -2,7 +2,8 @@
 use Rattle.std.proofs.Common.{◌≡◌, ℕ, ◌<◌, Bool, true, false, Some, List, [], ◌∷◌, ◌++◌, length, refl, ap, sym, subst, ◌∙◌, arith, append-nil}
 use Rattle.tp_sender.specs.declared.transmission.Phase.{Phase}
 use Rattle.tp_sender.specs.declared.transmission.Phase.TheVariants.{Box}
-use Rattle.tp_unit.specs.Box.{Answer, Written}
+use Rattle.flow_plan.specs.Pace.{Control}
+use Rattle.tp_unit.specs.Box.{Written}
 use Rattle.tp_sender.specs.Runs.{box_after, left_by, written_at}
 use Rattle.tp_sender.specs.State.{TxTurn, tx_new, Transmission}
 use Rattle.hub_core.specs.Turns.{state_after}
@@ -113,16 +114,16 @@ left-some : (ticks : List ℕ) → 0 < length ticks → filter is_left (ticks �
 left-some [] some = absurd (omega (arith, some))
 left-some (first ∷ later) some = refl
 
-cuts-by : (shape : Shape) (all : List Answer) (clear begin was now len number sent : ℕ) (taken : List ℕ) (since : ℕ) (frames : List Seen) (ended going : List (Cut Seen)) (offered : List ℕ) (closed : List (List ℕ)) (ticks : List ℕ) → IsShape shape →
+cuts-by : (shape : Shape) (all : List Control) (clear begin was now len number sent block gap : ℕ) (taken : List ℕ) (since : ℕ) (frames : List Seen) (ended going : List (Cut Seen)) (offered : List ℕ) (closed : List (List ℕ)) (ticks : List ℕ) → IsShape shape →
     attempts_in false frames ≡ ended ++ going → length offered ≡ part_after shape len sent → fits_shape shape (unit_after shape len sent number offered) ≡ true → Counted sent ticks → AreCuts frames closed ticks →
-    Way shape all clear begin was len number sent taken Box since going → AreCuts (frames ++ seen_unit shape now (unit_after shape len sent number offered) ∷ []) closed (ticks ++ now ∷ [])
-cuts-by shape all clear begin was now len number sent taken since frames ended going offered closed ticks sound cut part fits counted are (Unsent none first bytes cuts early) =
+    Way shape all clear begin was len number sent block gap taken Box since going → AreCuts (frames ++ seen_unit shape now (unit_after shape len sent number offered) ∷ []) closed (ticks ++ now ∷ [])
+cuts-by shape all clear begin was now len number sent block gap taken since frames ended going offered closed ticks sound cut part fits counted are (Unsent none first bytes cuts early) =
     let x : Seen = seen_unit shape now (unit_after shape len sent number offered) in
     let no_ticks : ticks ≡ [] = counted.none none in
     let old : map ticks_of (attempts_in false frames) ≡ filter is_left closed = are ∙ ap (λ l. filter is_left closed ++ filter is_left (l ∷ [])) no_ticks ∙ append-nil (filter is_left closed) in
     ap (λ l. map ticks_of l) (cuts-begin (λ (s : Seen). is_start false s.meaning) frames x (starts-one shape now len sent number offered sound none part fits))
     ∙ map-append ticks_of (attempts_in false frames) (record { start = x; after = [] } ∷ []) ∙ ap (λ l. l ++ (now ∷ []) ∷ []) old ∙ ap (λ l. filter is_left closed ++ filter is_left ((l ++ now ∷ []) ∷ [])) (sym no_ticks)
-cuts-by shape all clear begin was now len number sent taken since frames ended going offered closed ticks sound cut part fits counted are (UnderWay one some cuts count way every ready) =
+cuts-by shape all clear begin was now len number sent block gap taken since frames ended going offered closed ticks sound cut part fits counted are (UnderWay one some cuts count way every ready) =
     let x : Seen = seen_unit shape now (unit_after shape len sent number offered) in
     let kind = goes-on shape now len sent number offered sound some fits in
     let was_cut : attempts_in false frames ≡ ended ++ one ∷ [] = cut ∙ ap (λ l. ended ++ l) cuts in
@@ -139,11 +140,11 @@ cuts-left tx m earlier s sound at is phase so counted are =
     let w = world_of tx earlier in
     let on : GoesOn tx.shape w s so.going = lives-some tx.shape w (state_after tx_new earlier).live s so.going is so.lives in
     let boxed : IsBoxed tx.shape s.len s.sent s.number (box_after earlier) on.offered = in-box tx.shape s.len s.sent s.number s.phase (box_after earlier) on.offered phase on.box in
-    let W : Phase → Type 0 = λ p. Way tx.shape w.told.answers w.clear s.begin w.told.now s.len s.number s.sent on.taken p s.since so.going in
+    let W : Phase → Type 0 = λ p. Way tx.shape w.told.answers w.clear s.begin w.told.now s.len s.number s.sent s.block s.gap on.taken p s.since so.going in
     let f : Written → Seen = seen_of (address_size tx.shape) in
     let unit : Meaning = unit_after tx.shape s.len s.sent s.number on.offered in
     let new : AreCuts (frames_by tx earlier ++ seen_unit tx.shape m.did.tick unit ∷ []) (ended_ticks earlier) (live_ticks earlier ++ m.did.tick ∷ []) =
-    cuts-by tx.shape w.told.answers w.clear s.begin w.told.now m.did.tick s.len s.number s.sent on.taken s.since (frames_by tx earlier) so.ended so.going on.offered (ended_ticks earlier) (live_ticks earlier) sound so.cut boxed.part boxed.fits counted are (subst W phase on.way) in
+    cuts-by tx.shape w.told.answers w.clear s.begin w.told.now m.did.tick s.len s.number s.sent s.block s.gap on.taken s.since (frames_by tx earlier) so.ended so.going on.offered (ended_ticks earlier) (live_ticks earlier) sound so.cut boxed.part boxed.fits counted are (subst W phase on.way) in
     let F : List Seen → Type 0 = λ l. AreCuts l (ended_ticks earlier) (live_ticks earlier ++ m.did.tick ∷ []) in
     let E : TxEvent → Type 0 = λ e. AreCuts (map f (left_by tx.shape earlier ++ written_at tx.shape e m.did.tick (box_after earlier))) (ended_ticks earlier) (ticks_then e m.did.tick (live_ticks earlier)) in
     subst E (sym at) (subst F (sym (map-append f (left_by tx.shape earlier) (written_at tx.shape Left m.did.tick (box_after earlier)) ∙ ap (λ b. map f (left_by tx.shape earlier) ++ map f (written_at tx.shape Left m.did.tick b)) boxed.lies)) new)

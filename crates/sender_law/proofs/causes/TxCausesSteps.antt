@@ -1,5 +1,6 @@
 -- A destination's session in a tick, step by step: since when it waits, and why it ends.
-use Rattle.std.proofs.Common.{◌≡◌, ℕ, ◌+◌, ◌<◌, ◌≤◌, Option, Some, None, List, [], ◌∷◌, ◌++◌, length, refl, ap, sym, subst, ◌∙◌, arith}
+use Rattle.std.proofs.Common.{◌≡◌, ℕ, ◌+◌, ◌<◌, ◌≤◌, Bool, Option, Some, None, List, [], ◌∷◌, ◌++◌, length, zero, suc, refl, ap, sym, subst, ◌∙◌, arith}
+use Rattle.flow_plan.specs.Pace.{Awaits, May, Refused, answered_by, block_of}
 use Rattle.tp_sender.specs.declared.transmission.Phase.{Phase}
 use Rattle.tp_sender.specs.declared.transmission.Phase.TheVariants.{Start, Bytes, Box, Fc, Gap}
 use Rattle.tp_unit.specs.Box.{Answer}
@@ -10,201 +11,190 @@ use Rattle.hub_core.specs.declared.record.DestRecord.{DestRecord}
 use Rattle.hub_core.specs.declared.record.DestResult.{DestResult}
 use Rattle.hub_core.specs.declared.record.DestResult.TheVariants.{FcOverflow, InvalidFs}
 use Rattle.tp_sender.specs.declared.set.TxSet.{TxSet}
-use Rattle.tp_sender.specs.Table.{Answered, Ends, GoesOn, InAnswer, in_phase}
+use Rattle.tp_sender.specs.Table.{Answered, Ends, GoesOn, InAnswer, continued, in_phase}
 use Rattle.tp_sender.specs.Table.{AsksToWait, Continues, IsInvalid, Overflows}
 use Rattle.tp_unit.specs.Unit.{BoxMeaning, Keeps}
-use Rattle.sender_law.specs.Transfer.{answer_after}
-use Rattle.sender_law.specs.TransmissionCauses.{AwaitsSince, CauseOf, IsAllowed, IsCaused, IsInTime, IsRefused, NoneRefuses, last_of}
-use Rattle.sender_law.proofs.causes.TxCausesLists.{Splits, answer-late, answer-now, answer-stays, answer-waits, latest-next}
+use Rattle.sender_law.specs.Pacing.{control_of}
+use Rattle.sender_law.specs.Runs.{HasLimits}
+use Rattle.sender_law.specs.TransmissionCauses.{AllowedFrom, CauseOf, IsAllowed, IsCaused, IsFullFrom, IsInTime, IsRefused, LeftIn}
+use Rattle.sender_law.proofs.causes.TxCausesLists.{Splits, asked, pace-counted, pace-may, pace-now, pace-refused, pace_by}
 
 -- frames left exactly where bytes were sent
 pub record Counted (sent : ℕ) (ticks : List ℕ) : Type 0 where
   pub none : sent ≡ 0 → ticks ≡ []
   pub some : 0 < sent → 0 < length ticks
 
--- the flow control that answers the first frame lets frames come
-abbrev pub Continued : List Answer → List ℕ → Type 0
-Continued all [] = Unit {0}
-Continued all (first ∷ later) = (a : Answer) × (answer_after first all ≡ Some a) × (a.status ≡ 0)
+-- by the flow controls so far the next frame may leave from that tick on, and after the first one each at least a tick after the other
+abbrev pub MayFrom : TxSet → (all so_far : List Answer) → (begin : ℕ) → List ℕ → (block gap from : ℕ) → Type 0
+MayFrom tx all so_far begin [] block gap from = begin ≤ from
+MayFrom tx all so_far begin (first ∷ later) block gap from = (1 ≤ gap) × (pace_by tx all so_far first later ≡ May from gap (block_of block))
 
--- the next frame is allowed from that tick on, and not before where one left
-abbrev pub AllowedFrom : List Answer → ℕ → List ℕ → ℕ → Type 0
-AllowedFrom all begin [] since = begin ≤ since
-AllowedFrom all begin (first ∷ []) since = (a : Answer) × (answer_after first all ≡ Some a) × (a.status ≡ 0) × (a.tick ≡ since)
-AllowedFrom all begin (first ∷ next ∷ later) since = Continued all (first ∷ next ∷ later) × (since ≡ last_of next later + 1)
+-- from a tick that isn't after that one
+pub record MayBy (tx : TxSet) (all so_far : List Answer) (begin : ℕ) (ticks : List ℕ) (block gap by : ℕ) : Type 0 where
+  pub from : ℕ
+  pub may : MayFrom tx all so_far begin ticks block gap from
+  pub by_is : from ≤ by
 
 -- a flow control is awaited, and the limit isn't over below the next tick
-pub record Waits (tx : TxSet) (so_far : List Answer) (next : ℕ) (ticks : List ℕ) (since : ℕ) : Type 0 where
-  pub awaits : AwaitsSince so_far ticks since
+pub record Waits (tx : TxSet) (all so_far : List Answer) (next : ℕ) (ticks : List ℕ) (since : ℕ) : Type 0 where
+  pub first : ℕ
+  pub later : List ℕ
+  pub are : ticks ≡ first ∷ later
+  pub left : ℕ
+  pub pace : pace_by tx all so_far first later ≡ Awaits left since
+  pub before : left < next
   pub in_time : next ≤ since + tx.n_bs
 
--- two or more frames left, and the gap lasts up to the next tick
-pub record InGapNow (all : List Answer) (next : ℕ) (ticks : List ℕ) (since until : ℕ) : Type 0 where
-  pub first : ℕ
-  pub second : ℕ
-  pub later : List ℕ
-  pub are : ticks ≡ first ∷ second ∷ later
-  pub last : since ≡ last_of second later
-  pub now : next ≡ since + 1
-  pub until_is : until ≡ since + 1
-  pub continued : Continued all (first ∷ second ∷ later)
+-- the gap isn't over below the next tick
+pub record InGapNow (tx : TxSet) (all so_far : List Answer) (next begin : ℕ) (ticks : List ℕ) (block gap since until : ℕ) : Type 0 where
+  pub may : MayFrom tx all so_far begin ticks block gap until
+  pub some : 0 < length ticks
+  pub last : LeftIn ticks since
+  pub in_time : next ≤ until
 
--- before the turn of the next tick
-abbrev pub OpensIn : TxSet → (all so_far : List Answer) → (next begin : ℕ) → List ℕ → (since : ℕ) → Phase → Type 0
-OpensIn tx all so_far next begin ticks since Start = (ticks ≡ []) × (since ≡ begin)
-OpensIn tx all so_far next begin ticks since Bytes = AllowedFrom all begin ticks since × (next ≤ since + tx.n_cs)
-OpensIn tx all so_far next begin ticks since Box = ⊥
-OpensIn tx all so_far next begin ticks since Fc = Waits tx so_far next ticks since
-OpensIn tx all so_far next begin ticks since (Gap until) = InGapNow all next ticks since until.0
+-- the next frame lies in the box, the bus is full for it since it was offered, and the limit isn't over below the next tick
+pub record InBoxNow (full : ℕ → Bool) (tx : TxSet) (all so_far : List Answer) (next to begin : ℕ) (ticks : List ℕ) (block gap since : ℕ) : Type 0 where
+  pub may : MayBy tx all so_far begin ticks block gap since
+  pub blocked : IsFullFrom full since to
+  pub in_time : next ≤ since + tx.n_as
 
--- after the turn of a tick
-abbrev pub TurnedIn : TxSet → (all so_far : List Answer) → (tick begin : ℕ) → List ℕ → (since : ℕ) → Phase → Type 0
-TurnedIn tx all so_far tick begin ticks since Start = (ticks ≡ []) × (since ≡ begin)
-TurnedIn tx all so_far tick begin ticks since Bytes = AllowedFrom all begin ticks since × (tick + 1 ≤ since + tx.n_cs)
-TurnedIn tx all so_far tick begin ticks since Box = Continued all ticks
-TurnedIn tx all so_far tick begin ticks since Fc = Waits tx so_far (tick + 1) ticks since
-TurnedIn tx all so_far tick begin ticks since (Gap until) = ⊥
+-- by the phase, below the next tick: `to` is the tick up to which a frame in the box didn't leave
+abbrev pub PhaseIn : (full : ℕ → Bool) → TxSet → (all so_far : List Answer) → (next to begin : ℕ) → List ℕ → (block gap since : ℕ) → Phase → Type 0
+PhaseIn full tx all so_far next to begin ticks block gap since Start = (ticks ≡ []) × (since ≡ begin)
+PhaseIn full tx all so_far next to begin ticks block gap since Bytes = MayFrom tx all so_far begin ticks block gap since × (next ≤ since + tx.n_cs)
+PhaseIn full tx all so_far next to begin ticks block gap since Box = InBoxNow full tx all so_far next to begin ticks block gap since
+PhaseIn full tx all so_far next to begin ticks block gap since Fc = Waits tx all so_far next ticks since
+PhaseIn full tx all so_far next to begin ticks block gap since (Gap until) = InGapNow tx all so_far next begin ticks block gap since until.0
 
 -- the session so far: all of it below the next tick, and no limit was passed
-pub record Stands (tx : TxSet) (all : List Answer) (next : ℕ) (ticks : List ℕ) (begin sent since : ℕ) : Type 0 where
+pub record Stands (full : ℕ → Bool) (tx : TxSet) (all : List Answer) (next : ℕ) (ticks : List ℕ) (begin sent since : ℕ) : Type 0 where
   pub began : begin ≤ next
   pub waits : since ≤ next
   pub counted : Counted sent ticks
   pub past : AllByRecursion (λ (at : ℕ). at < next) ticks
-  pub in_time : (tick : ℕ) → begin ≤ tick → tick < next → IsInTime tx all begin ticks tick
+  pub in_time : (tick : ℕ) → begin ≤ tick → tick < next → IsInTime full tx (asked tx all) begin ticks tick
 
-pub record Opens (tx : TxSet) (all so_far : List Answer) (next : ℕ) (ticks : List ℕ) (s : Transmission) : Type 0 where
-  pub stands : Stands tx all next ticks s.begin s.sent s.since
-  pub phase : OpensIn tx all so_far next s.begin ticks s.since s.phase
+-- before the turn of the next tick, and after the turn of a tick
+pub record Opens (full : ℕ → Bool) (tx : TxSet) (all so_far : List Answer) (next : ℕ) (ticks : List ℕ) (s : Transmission) : Type 0 where
+  pub stands : Stands full tx all next ticks s.begin s.sent s.since
+  pub phase : PhaseIn full tx all so_far next next s.begin ticks s.block s.gap s.since s.phase
 
-pub record Turned (tx : TxSet) (all so_far : List Answer) (tick : ℕ) (ticks : List ℕ) (s : Transmission) : Type 0 where
-  pub stands : Stands tx all tick ticks s.begin s.sent s.since
-  pub phase : TurnedIn tx all so_far tick s.begin ticks s.since s.phase
+pub record Turned (full : ℕ → Bool) (tx : TxSet) (all so_far : List Answer) (tick : ℕ) (ticks : List ℕ) (s : Transmission) : Type 0 where
+  pub stands : Stands full tx all tick ticks s.begin s.sent s.since
+  pub phase : PhaseIn full tx all so_far (tick + 1) tick s.begin ticks s.block s.gap s.since s.phase
 
 -- a record that is caused, and that counts its frames
-pub record Tells (tx : TxSet) (all : List Answer) (last : ℕ) (ticks : List ℕ) (told : DestRecord) : Type 0 where
-  pub caused : IsCaused tx all last ticks told
+pub record Tells (full : ℕ → Bool) (tx : TxSet) (all : List Answer) (last : ℕ) (ticks : List ℕ) (told : DestRecord) : Type 0 where
+  pub caused : IsCaused full tx (asked tx all) last ticks told
   pub counted : Counted told.sent ticks
 
 -- what a step comes to: the session goes on, or it ends with its cause, or none is sent
-pub data Comes (tx : TxSet) (all : List Answer) (last : ℕ) (P : List ℕ → Transmission → Type 0) (ticks : List ℕ) (ended : List DestRecord) (live : Option Transmission) : Type 0 where
-  Goes : (s : Transmission) → ended ≡ [] → live ≡ Some s → P ticks s → Comes tx all last P ticks ended live
-  Closes : (told : DestRecord) → ended ≡ told ∷ [] → live ≡ None → Tells tx all last ticks told → Comes tx all last P ticks ended live
-  Rests : ended ≡ [] → live ≡ None → ticks ≡ [] → Comes tx all last P ticks ended live
+pub data Comes (full : ℕ → Bool) (tx : TxSet) (all : List Answer) (last : ℕ) (P : List ℕ → Transmission → Type 0) (ticks : List ℕ) (ended : List DestRecord) (live : Option Transmission) : Type 0 where
+  Goes : (s : Transmission) → ended ≡ [] → live ≡ Some s → P ticks s → Comes full tx all last P ticks ended live
+  Closes : (told : DestRecord) → ended ≡ told ∷ [] → live ≡ None → Tells full tx all last ticks told → Comes full tx all last P ticks ended live
+  Rests : ended ≡ [] → live ≡ None → ticks ≡ [] → Comes full tx all last P ticks ended live
 
-pub ends : (tx : TxSet) (all : List Answer) (last : ℕ) (P : List ℕ → Transmission → Type 0) (ticks : List ℕ) (s : Transmission) (act : BoxMeaning) (result : DestResult) (calls : List Event) (did : TxDid) → Ends tx s act result calls did →
-    CauseOf tx all last s.begin ticks did.tick s.sent result → NoneRefuses all ticks did.tick → Counted s.sent ticks → ((tick : ℕ) → s.begin ≤ tick → tick < did.tick → IsInTime tx all s.begin ticks tick) → Comes tx all last P ticks did.records did.new.live
-ends tx all last P ticks s act result calls did row cause none counted in_time =
+pub ends : (full : ℕ → Bool) (tx : TxSet) (all : List Answer) (last : ℕ) (P : List ℕ → Transmission → Type 0) (ticks : List ℕ) (s : Transmission) (act : BoxMeaning) (result : DestResult) (calls : List Event) (did : TxDid) → Ends tx s act result calls did →
+    CauseOf full tx (asked tx all) last s.begin ticks did.tick s.sent result → Counted s.sent ticks → ((tick : ℕ) → s.begin ≤ tick → tick < did.tick → IsInTime full tx (asked tx all) s.begin ticks tick) → Comes full tx all last P ticks did.records did.new.live
+ends full tx all last P ticks s act result calls did row cause counted in_time =
     Closes (record { path = tx.path; dest = tx.dest; seq = s.seq; begin = record { 0 = s.begin }; sent = s.sent; end = record { 0 = did.tick }; result = result }) row.records row.live
-    (record { caused = record { cause = cause; none_refuses = none; in_time = in_time }; counted = counted })
+    (record { caused = record { cause = cause; in_time = in_time }; counted = counted })
 
-pub waits-anew : (tx : TxSet) (all : List Answer) (next : ℕ) (ticks : List ℕ) (begin sent since anew : ℕ) → anew ≤ next → Stands tx all next ticks begin sent since → Stands tx all next ticks begin sent anew
-waits-anew tx all next ticks begin sent since anew le is = record { began = is.began; waits = le; counted = is.counted; past = is.past; in_time = is.in_time }
+pub waits-anew : (full : ℕ → Bool) (tx : TxSet) (all : List Answer) (next : ℕ) (ticks : List ℕ) (begin sent since anew : ℕ) → anew ≤ next → Stands full tx all next ticks begin sent since → Stands full tx all next ticks begin sent anew
+waits-anew full tx all next ticks begin sent since anew le is = record { began = is.began; waits = le; counted = is.counted; past = is.past; in_time = is.in_time }
 
--- no refusal counts before a tick
-pub none-by : (all : List Answer) (ticks : List ℕ) (end : ℕ) → Continued all ticks → NoneRefuses all ticks end
-none-by all [] end is = tt
-none-by all (first ∷ later) end is = λ a found lt. let same : a ≡ is.0 = cc (is.1, found) in ap (λ (x : Answer). x.status) same ∙ is.2
+-- the next frame is allowed by a tick, by all that came up to now
+pub allowed-now : (tx : TxSet) (all so_far : List Answer) (now begin : ℕ) (ticks : List ℕ) (block gap from by : ℕ) → Splits all so_far now (now + 1) → from ≤ by → MayFrom tx all so_far begin ticks block gap from → IsAllowed (asked tx all) begin ticks now by
+allowed-now tx all so_far now begin [] block gap from by splits le may = record { from = begin; allowed = refl; by_is = omega (arith, le, may) }
+allowed-now tx all so_far now begin (first ∷ later) block gap from by splits le may = record { from = from; allowed = (gap, block_of block, pace-now tx all so_far now first later splits ∙ may.1); by_is = le }
 
-pub continued-from : (all : List Answer) (begin : ℕ) (ticks : List ℕ) (since : ℕ) → AllowedFrom all begin ticks since → Continued all ticks
-continued-from all begin [] since is = tt
-continued-from all begin (first ∷ []) since is = (is.0, is.1, is.2)
-continued-from all begin (first ∷ next ∷ later) since is = is.0
-
-pub allowed-by : (all : List Answer) (begin : ℕ) (ticks : List ℕ) (since tick : ℕ) → since ≤ tick → AllowedFrom all begin ticks since → IsAllowed all begin ticks tick
-allowed-by all begin [] since tick le is = omega (arith, is)
-allowed-by all begin (first ∷ []) since tick le is = rw is.1 (is.2, omega (arith, is.3))
-allowed-by all begin (first ∷ next ∷ later) since tick le is = omega (arith, is.1)
-
--- the answer to the first frame comes now at the earliest
-pub none-unanswered : (all so_far : List Answer) (ticks : List ℕ) (since now next : ℕ) → Splits all so_far now next → AwaitsSince so_far ticks since → NoneRefuses all ticks next
-none-unanswered all so_far ticks since now next splits awaits =
-    let P : List ℕ → Type 0 = λ l. NoneRefuses all l next in
-    subst P (sym awaits.alone) (λ a found lt. absurd (omega (arith, lt, answer-late awaits.first all so_far now next a splits awaits.unanswered found)))
-
-pub none-sooner : (all : List Answer) (ticks : List ℕ) (end : ℕ) → NoneRefuses all ticks (end + 1) → NoneRefuses all ticks end
-none-sooner all [] end none = tt
-none-sooner all (first ∷ later) end none = λ a found lt. none a found (omega (arith, lt))
+pub allowed-some : (tx : TxSet) (all so_far : List Answer) (now begin : ℕ) (ticks : List ℕ) (block gap from : ℕ) → Splits all so_far now (now + 1) → 0 < length ticks → MayFrom tx all so_far begin ticks block gap from → AllowedFrom (asked tx all) begin ticks now from
+allowed-some tx all so_far now begin [] block gap from splits some may = absurd (omega (arith, some))
+allowed-some tx all so_far now begin (first ∷ later) block gap from splits some may = (gap, block_of block, pace-now tx all so_far now first later splits ∙ may.1)
 
 -- a flow control came in this tick
 abbrev pub came : TxDid → (fs bs st : ℕ) → Answer
 came did fs bs st = record { tick = did.tick; status = fs; block_size = bs; separation = st }
 
--- the first frame left before
-first-below : (ticks : List ℕ) (first now : ℕ) → ticks ≡ first ∷ [] → AllByRecursion (λ (at : ℕ). at < now) ticks → first < now
-first-below ticks first now alone past = let P : List ℕ → Type 0 = λ l. AllByRecursion (λ (at : ℕ). at < now) l in (subst P alone past).0
+-- where none is awaited it changes nothing
+pub may-more : (tx : TxSet) (all so_far : List Answer) (a : Answer) (begin : ℕ) (ticks : List ℕ) (block gap from : ℕ) → MayFrom tx all so_far begin ticks block gap from → MayFrom tx all (so_far ++ a ∷ []) begin ticks block gap from
+may-more tx all so_far a begin [] block gap from may = may
+may-more tx all so_far a begin (first ∷ later) block gap from may = (may.0, pace-may tx all so_far a first later from gap block may.1)
 
--- the flow control that came answers the first frame
-came-answers : (all so_far : List Answer) (ticks : List ℕ) (since fs bs st : ℕ) (did : TxDid) → (fs ≡ 1 → ⊥) → Splits all (so_far ++ came did fs bs st ∷ []) did.tick did.tick → AllByRecursion (λ (at : ℕ). at < did.tick) ticks →
-    (awaits : AwaitsSince so_far ticks since) → answer_after awaits.first all ≡ Some (came did fs bs st)
-came-answers all so_far ticks since fs bs st did out splits past awaits =
-    answer-stays awaits.first all (so_far ++ came did fs bs st ∷ []) did.tick did.tick (came did fs bs st) splits
-    (answer-now awaits.first so_far (came did fs bs st) awaits.unanswered (first-below ticks awaits.first did.tick awaits.alone past) out)
+refused : (tx : TxSet) (all so_far : List Answer) (next : ℕ) (ticks : List ℕ) (since fs bs st : ℕ) (did : TxDid) (status : ℕ) → next ≤ did.tick → fs ≡ status → Splits all (so_far ++ came did fs bs st ∷ []) did.tick did.tick → (waits : Waits tx all so_far next ticks since) →
+    answered_by (control_of tx.period (came did fs bs st)) waits.left status ≡ Refused did.tick status → IsRefused (asked tx all) ticks did.tick did.tick status
+refused tx all so_far next ticks since fs bs st did status le is splits waits by =
+    let a : Answer = came did fs bs st in
+    let P : List ℕ → Type 0 = λ l. IsRefused (asked tx all) l did.tick did.tick status in
+    subst P (sym waits.are) (pace-refused tx all (so_far ++ a ∷ []) did.tick waits.first waits.later did.tick status splits
+    (pace-counted tx all so_far a waits.first waits.later waits.left since (omega (arith, waits.before, le)) waits.pace ∙ ap (λ n. answered_by (control_of tx.period a) waits.left n) is ∙ by))
 
-refused : (tx : TxSet) (all so_far : List Answer) (ticks : List ℕ) (since fs bs st : ℕ) (did : TxDid) → (fs ≡ 1 → ⊥) → Splits all (so_far ++ came did fs bs st ∷ []) did.tick did.tick → AllByRecursion (λ (at : ℕ). at < did.tick) ticks →
-    (awaits : AwaitsSince so_far ticks since) → IsRefused all ticks did.tick fs × NoneRefuses all ticks did.tick
-refused tx all so_far ticks since fs bs st did out splits past awaits =
-    let found : answer_after awaits.first all ≡ Some (came did fs bs st) = came-answers all so_far ticks since fs bs st did out splits past awaits in
-    let P : List ℕ → Type 0 = λ l. NoneRefuses all l did.tick in (
-      record { first = awaits.first; alone = awaits.alone; answer = came did fs bs st; answer_is = found; tick_is = refl; status_is = refl },
-      subst P (sym awaits.alone) (λ a is lt. let same : a ≡ came did fs bs st = cc in absurd (omega (arith, lt, ap (λ (x : Answer). x.tick) same))),
-    )
+invalid : (tx : TxSet) (a : Answer) (left status : ℕ) → 1 < status → answered_by (control_of tx.period a) left status ≡ Refused a.tick status
+invalid tx a left zero more = absurd (omega (arith, more))
+invalid tx a left (suc zero) more = absurd (omega (arith, more))
+invalid tx a left (suc (suc status)) more = refl
 
-awaited : (tx : TxSet) (all so_far : List Answer) (last : ℕ) (ticks : List ℕ) (s : Transmission) (fs bs st : ℕ) (calls : List Event) (did : TxDid) → 1 ≤ tx.n_bs → Splits all (so_far ++ came did fs bs st ∷ []) did.tick did.tick →
-    AllByRecursion (λ (a : Answer). a.tick ≤ did.tick) so_far → Stands tx all did.tick ticks s.begin s.sent s.since → Waits tx so_far did.tick ticks s.since → Answered tx s fs calls did →
-    Comes tx all last (Opens tx all (so_far ++ came did fs bs st ∷ []) did.tick) ticks did.records did.new.live
-awaited tx all so_far last ticks s fs bs st calls did some splits past stands waits (Continues zero row) =
-    let P : List ℕ → Type 0 = λ l. AllowedFrom all s.begin l did.tick in
-    let found : answer_after waits.awaits.first all ≡ Some (came did fs bs st) = came-answers all so_far ticks s.since fs bs st did (λ e. omega (arith, e, zero)) splits stands.past waits.awaits in
-    Goes (in_phase Bytes did.tick s) row.records row.live (record {
-      stands = waits-anew tx all did.tick ticks s.begin s.sent s.since did.tick (omega arith) stands;
-      phase = (subst P (sym waits.awaits.alone) (came did fs bs st, found, zero, refl), omega arith);
+awaited : (full : ℕ → Bool) (tx : TxSet) (all so_far : List Answer) (last : ℕ) (ticks : List ℕ) (s : Transmission) (fs bs st : ℕ) (calls : List Event) (did : TxDid) → HasLimits tx → Splits all (so_far ++ came did fs bs st ∷ []) did.tick did.tick →
+    Stands full tx all did.tick ticks s.begin s.sent s.since → Waits tx all so_far did.tick ticks s.since → Answered tx s fs bs st calls did → Comes full tx all last (Opens full tx all (so_far ++ came did fs bs st ∷ []) did.tick) ticks did.records did.new.live
+awaited full tx all so_far last ticks s fs bs st calls did limits splits stands waits (Continues is row) =
+    let a : Answer = came did fs bs st in
+    let P : List ℕ → Type 0 = λ l. MayFrom tx all (so_far ++ a ∷ []) s.begin l bs (continued tx bs st s).gap did.tick in
+    Goes (in_phase Bytes did.tick (continued tx bs st s)) row.records row.live (record {
+      stands = waits-anew full tx all did.tick ticks s.begin s.sent s.since did.tick (omega arith) stands;
+      phase = (subst P (sym waits.are) (omega arith, pace-counted tx all so_far a waits.first waits.later waits.left s.since waits.before waits.pace ∙ ap (λ n. answered_by (control_of tx.period a) waits.left n) is), omega arith);
     })
-awaited tx all so_far last ticks s fs bs st calls did some splits past stands waits (AsksToWait one row) =
-    let below : waits.awaits.first < did.tick = first-below ticks waits.awaits.first did.tick waits.awaits.alone stands.past in
+awaited full tx all so_far last ticks s fs bs st calls did limits splits stands waits (AsksToWait is row) =
+    let a : Answer = came did fs bs st in
     Goes (in_phase Fc did.tick s) row.records row.live (record {
-      stands = waits-anew tx all did.tick ticks s.begin s.sent s.since did.tick (omega arith) stands;
+      stands = waits-anew full tx all did.tick ticks s.begin s.sent s.since did.tick (omega arith) stands;
       phase = record {
-        awaits = record {
-          first = waits.awaits.first;
-          alone = waits.awaits.alone;
-          unanswered = answer-waits waits.awaits.first so_far (came did fs bs st) waits.awaits.unanswered one;
-          since_is = sym (latest-next waits.awaits.first so_far (came did fs bs st) (omega (arith, below)) past);
-        };
+        first = waits.first;
+        later = waits.later;
+        are = waits.are;
+        left = waits.left;
+        pace = pace-counted tx all so_far a waits.first waits.later waits.left s.since waits.before waits.pace ∙ ap (λ n. answered_by (control_of tx.period a) waits.left n) is;
+        before = waits.before;
         in_time = omega arith;
       };
     })
-awaited tx all so_far last ticks s fs bs st calls did some splits past stands waits (Overflows two row) =
-    let is : IsRefused all ticks did.tick fs × NoneRefuses all ticks did.tick = refused tx all so_far ticks s.since fs bs st did (λ e. omega (arith, e, two)) splits stands.past waits.awaits in
-    let P : ℕ → Type 0 = λ status. IsRefused all ticks did.tick status in
-    ends tx all last (Opens tx all (so_far ++ came did fs bs st ∷ []) did.tick) ticks s Keeps FcOverflow calls did row (subst P two is.0) is.1 stands.counted stands.in_time
-awaited tx all so_far last ticks s fs bs st calls did some splits past stands waits (IsInvalid more row) =
-    let is : IsRefused all ticks did.tick fs × NoneRefuses all ticks did.tick = refused tx all so_far ticks s.since fs bs st did (λ e. omega (arith, e, more)) splits stands.past waits.awaits in
-    ends tx all last (Opens tx all (so_far ++ came did fs bs st ∷ []) did.tick) ticks s Keeps (InvalidFs fs) calls did row (is.0, more) is.1 stands.counted stands.in_time
+awaited full tx all so_far last ticks s fs bs st calls did limits splits stands waits (Overflows is row) =
+    ends full tx all last (Opens full tx all (so_far ++ came did fs bs st ∷ []) did.tick) ticks s Keeps FcOverflow calls did row
+    (refused tx all so_far did.tick ticks s.since fs bs st did 2 (omega arith) is splits waits (invalid tx (came did fs bs st) waits.left 2 (omega arith))) stands.counted stands.in_time
+awaited full tx all so_far last ticks s fs bs st calls did limits splits stands waits (IsInvalid more row) =
+    ends full tx all last (Opens full tx all (so_far ++ came did fs bs st ∷ []) did.tick) ticks s Keeps (InvalidFs fs) calls did row
+    (refused tx all so_far did.tick ticks s.since fs bs st did fs (omega arith) refl splits waits (invalid tx (came did fs bs st) waits.left fs (omega (arith, more))), more) stands.counted stands.in_time
 
 -- a phase in which none is awaited goes on
-goes-on : (tx : TxSet) (all more : List Answer) (last : ℕ) (ticks : List ℕ) (s : Transmission) (calls : List Event) (did : TxDid) → Stands tx all did.tick ticks s.begin s.sent s.since → OpensIn tx all more did.tick s.begin ticks s.since s.phase → GoesOn s calls did →
-    Comes tx all last (Opens tx all more did.tick) ticks did.records did.new.live
-goes-on tx all more last ticks s calls did stands opens row = Goes s row.records row.live (record { stands = stands; phase = opens })
+phase-more : (full : ℕ → Bool) (tx : TxSet) (all so_far : List Answer) (a : Answer) (next begin : ℕ) (ticks : List ℕ) (block gap since : ℕ) (phase : Phase) → (phase ≡ Fc → ⊥) →
+    PhaseIn full tx all so_far next next begin ticks block gap since phase → PhaseIn full tx all (so_far ++ a ∷ []) next next begin ticks block gap since phase
+phase-more full tx all so_far a next begin ticks block gap since Start out is = is
+phase-more full tx all so_far a next begin ticks block gap since Bytes out is = (may-more tx all so_far a begin ticks block gap since is.0, is.1)
+phase-more full tx all so_far a next begin ticks block gap since Box out is = record {
+  may = record { from = is.may.from; may = may-more tx all so_far a begin ticks block gap is.may.from is.may.may; by_is = is.may.by_is };
+  blocked = is.blocked;
+  in_time = is.in_time;
+}
+phase-more full tx all so_far a next begin ticks block gap since Fc out is = absurd (out refl)
+phase-more full tx all so_far a next begin ticks block gap since (Gap until) out is = record { may = may-more tx all so_far a begin ticks block gap until.0 is.may; some = is.some; last = is.last; in_time = is.in_time }
 
 pub at-phase : (P : Phase → Type 0) (phase is : Phase) → phase ≡ is → P is → P phase
 at-phase P phase is same held = subst P (sym same) held
 
-answers-by : (tx : TxSet) (all so_far : List Answer) (last : ℕ) (ticks : List ℕ) (s : Transmission) (phase : Phase) (fs bs st : ℕ) (calls : List Event) (did : TxDid) → s.phase ≡ phase → 1 ≤ tx.n_bs → Splits all (so_far ++ came did fs bs st ∷ []) did.tick did.tick →
-    AllByRecursion (λ (a : Answer). a.tick ≤ did.tick) so_far → Stands tx all did.tick ticks s.begin s.sent s.since → OpensIn tx all so_far did.tick s.begin ticks s.since phase → InAnswer tx s phase fs calls did →
-    Comes tx all last (Opens tx all (so_far ++ came did fs bs st ∷ []) did.tick) ticks did.records did.new.live
-answers-by tx all so_far last ticks s Start fs bs st calls did same some splits past stands opens row =
-    let more : List Answer = so_far ++ came did fs bs st ∷ [] in
-    goes-on tx all more last ticks s calls did stands (at-phase (OpensIn tx all more did.tick s.begin ticks s.since) s.phase Start same opens) row
-answers-by tx all so_far last ticks s Bytes fs bs st calls did same some splits past stands opens row =
-    let more : List Answer = so_far ++ came did fs bs st ∷ [] in
-    goes-on tx all more last ticks s calls did stands (at-phase (OpensIn tx all more did.tick s.begin ticks s.since) s.phase Bytes same opens) row
-answers-by tx all so_far last ticks s Box fs bs st calls did same some splits past stands opens row = absurd opens
-answers-by tx all so_far last ticks s Fc fs bs st calls did same some splits past stands opens row = awaited tx all so_far last ticks s fs bs st calls did some splits past stands opens row
-answers-by tx all so_far last ticks s (Gap until) fs bs st calls did same some splits past stands opens row =
-    let more : List Answer = so_far ++ came did fs bs st ∷ [] in
-    goes-on tx all more last ticks s calls did stands (at-phase (OpensIn tx all more did.tick s.begin ticks s.since) s.phase (Gap until) same opens) row
+goes-on : (full : ℕ → Bool) (tx : TxSet) (all so_far : List Answer) (a : Answer) (last next : ℕ) (ticks : List ℕ) (s : Transmission) (phase : Phase) (calls : List Event) (did : TxDid) → s.phase ≡ phase → (phase ≡ Fc → ⊥) → Stands full tx all next ticks s.begin s.sent s.since →
+    PhaseIn full tx all so_far next next s.begin ticks s.block s.gap s.since phase → GoesOn s calls did → Comes full tx all last (Opens full tx all (so_far ++ a ∷ []) next) ticks did.records did.new.live
+goes-on full tx all so_far a last next ticks s phase calls did same out stands is row =
+    let Q : Phase → Type 0 = λ p. PhaseIn full tx all (so_far ++ a ∷ []) next next s.begin ticks s.block s.gap s.since p in
+    Goes s row.records row.live (record { stands = stands; phase = at-phase Q s.phase phase same (phase-more full tx all so_far a next s.begin ticks s.block s.gap s.since phase out is) })
 
-pub answers : (tx : TxSet) (all so_far : List Answer) (last : ℕ) (ticks : List ℕ) (s : Transmission) (fs bs st : ℕ) (calls : List Event) (did : TxDid) → 1 ≤ tx.n_bs → Splits all (so_far ++ came did fs bs st ∷ []) did.tick did.tick →
-    AllByRecursion (λ (a : Answer). a.tick ≤ did.tick) so_far → Opens tx all so_far did.tick ticks s → InAnswer tx s s.phase fs calls did → Comes tx all last (Opens tx all (so_far ++ came did fs bs st ∷ []) did.tick) ticks did.records did.new.live
-answers tx all so_far last ticks s fs bs st calls did some splits past opens row = answers-by tx all so_far last ticks s s.phase fs bs st calls did refl some splits past opens.stands opens.phase row
+answers-by : (full : ℕ → Bool) (tx : TxSet) (all so_far : List Answer) (last : ℕ) (ticks : List ℕ) (s : Transmission) (phase : Phase) (fs bs st : ℕ) (calls : List Event) (did : TxDid) → s.phase ≡ phase → HasLimits tx → Splits all (so_far ++ came did fs bs st ∷ []) did.tick did.tick →
+    Stands full tx all did.tick ticks s.begin s.sent s.since → PhaseIn full tx all so_far did.tick did.tick s.begin ticks s.block s.gap s.since phase → InAnswer tx s phase fs bs st calls did →
+    Comes full tx all last (Opens full tx all (so_far ++ came did fs bs st ∷ []) did.tick) ticks did.records did.new.live
+answers-by full tx all so_far last ticks s Start fs bs st calls did same limits splits stands is row = goes-on full tx all so_far (came did fs bs st) last did.tick ticks s Start calls did same (λ e. cc) stands is row
+answers-by full tx all so_far last ticks s Bytes fs bs st calls did same limits splits stands is row = goes-on full tx all so_far (came did fs bs st) last did.tick ticks s Bytes calls did same (λ e. cc) stands is row
+answers-by full tx all so_far last ticks s Box fs bs st calls did same limits splits stands is row = goes-on full tx all so_far (came did fs bs st) last did.tick ticks s Box calls did same (λ e. cc) stands is row
+answers-by full tx all so_far last ticks s Fc fs bs st calls did same limits splits stands is row = awaited full tx all so_far last ticks s fs bs st calls did limits splits stands is row
+answers-by full tx all so_far last ticks s (Gap until) fs bs st calls did same limits splits stands is row = goes-on full tx all so_far (came did fs bs st) last did.tick ticks s (Gap until) calls did same (λ e. cc) stands is row
+
+pub answers : (full : ℕ → Bool) (tx : TxSet) (all so_far : List Answer) (last : ℕ) (ticks : List ℕ) (s : Transmission) (fs bs st : ℕ) (calls : List Event) (did : TxDid) → HasLimits tx → Splits all (so_far ++ came did fs bs st ∷ []) did.tick did.tick →
+    Opens full tx all so_far did.tick ticks s → InAnswer tx s s.phase fs bs st calls did → Comes full tx all last (Opens full tx all (so_far ++ came did fs bs st ∷ []) did.tick) ticks did.records did.new.live
+answers full tx all so_far last ticks s fs bs st calls did limits splits opens row = answers-by full tx all so_far last ticks s s.phase fs bs st calls did refl limits splits opens.stands opens.phase row

@@ -20,9 +20,9 @@ use Rattle.hub_core.specs.declared.record.DestRecord.{DestRecord}
 use Rattle.hub_core.specs.declared.record.DestResult.{DestResult}
 use Rattle.hub_core.specs.declared.record.DestResult.TheVariants.{Sent, SourceEnded, BsTimeout, FcOverflow, InvalidFs, CsTimeout, AsTimeout, Cancelled, RunEnd as EndOfRun}
 use Rattle.tp_unit.specs.Unit.{BoxMeaning}
-use Rattle.tp_sender.specs.Effects.{AwaitsNext, IsShort, MayBe, MayEnd, MayWait, NeverComes, TxStage, ShowsEnd, TxDone, TxEffect, done_by, found_by, once_left, once_offered, once_waited, record_of}
-use Rattle.tp_sender.specs.Effects.{Misses, Joins, Looks, Reads as ReadsCells, Offers, Leaves, Waits, Ends, AfterFirst, AfterNext, IsReached, GapIsOver, IsContinued, IsPaused, NoNext, NoStart, IsWhole, IsCut}
-use Rattle.tp_sender.specs.Table.{fetched, in_phase, joined_in, next_part}
+use Rattle.tp_sender.specs.Effects.{AwaitsNext, IsShort, MayBe, MayEnd, MayWait, NeverComes, TxStage, ShowsEnd, TxDone, TxEffect, done_by, found_by, once_left, once_waiting, once_offered, once_waited, record_of}
+use Rattle.tp_sender.specs.Effects.{Misses, Joins, Looks, Reads as ReadsCells, Offers, Leaves, Waits, Ends, AfterBlock, AfterFirst, AfterNext, IsReached, GapIsOver, IsContinued, IsPaused, NoNext, NoStart, IsWhole, IsCut}
+use Rattle.tp_sender.specs.Table.{fetched, joined_in, next_part}
 use Rattle.tp_sender.specs.declared.event.TxEvent.{TxEvent}
 use Rattle.tp_sender.specs.declared.event.TxEvent.TheVariants.{Turn, Fc as CameFc, Left, RunEnd}
 use Rattle.tp_sender.specs.declared.set.TxSet.{TxSet}
@@ -106,27 +106,30 @@ on : (set : TxSet) (ended : Bool) (v : View) (records : List DestRecord) (next :
 on set ended v records next look s t seq len at held begun reads =
     rw append-nil (reads-like set ended (v.readings set.path.0 set.dest.0) records next s t (SeenBy look) (SeenBy look) seq len at held (λ early is. absurd (begun is)) (λ r so. so) reads)
 
-leaves : (set : TxSet) (ended : Bool) (v : View) (records : List DestRecord) (next tick sent number : ℕ) (look : Option Seen) (s : Transmission) (phase : Phase) → s.phase ≡ Box → AwaitsNext set tick s sent number phase →
-    ReadsIn set ended v records next (Some s) (SeenBy look) → ReadsIn set ended v (records ++ []) next (Some (once_left tick sent number phase s)) (SeenBy look)
-leaves set ended v records next tick sent number look s phase box (AfterFirst first more same is) reads =
+leaves : (set : TxSet) (ended : Bool) (v : View) (records : List DestRecord) (next tick sent number block : ℕ) (look : Option Seen) (s : Transmission) (phase : Phase) → s.phase ≡ Box → AwaitsNext set tick s sent number block phase →
+    ReadsIn set ended v records next (Some s) (SeenBy look) → ReadsIn set ended v (records ++ []) next (Some (once_left tick sent number block phase s)) (SeenBy look)
+leaves set ended v records next tick sent number block look s phase box (AfterFirst first more same kept is) reads =
     let part : ℕ = next_part set s in
-    on set ended v records next look s (once_left tick sent number phase s) refl refl refl (rw (is, box) (omega (arith, first, more))) (λ start. let no : Fc ≡ Start = sym is ∙ start in cc) reads
-leaves set ended v records next tick sent number look s phase box (AfterNext some more same is) reads =
+    on set ended v records next look s (once_left tick sent number block phase s) refl refl refl (rw (is, box) (omega (arith, first, more))) (λ start. let no : Fc ≡ Start = sym is ∙ start in cc) reads
+leaves set ended v records next tick sent number block look s phase box (AfterBlock one over is) reads =
     let part : ℕ = next_part set s in
-    on set ended v records next look s (once_left tick sent number phase s) refl refl refl (rw (is, box) (omega (arith, more))) (λ start. let no : Gap (record { 0 = tick + 1 }) ≡ Start = sym is ∙ start in cc) reads
+    on set ended v records next look s (once_left tick sent number block phase s) refl refl refl (rw (is, box) (omega (arith, one.sent_is))) (λ start. let no : Fc ≡ Start = sym is ∙ start in cc) reads
+leaves set ended v records next tick sent number block look s phase box (AfterNext one out is) reads =
+    let part : ℕ = next_part set s in
+    on set ended v records next look s (once_left tick sent number block phase s) refl refl refl (rw (is, box) (omega (arith, one.sent_is))) (λ start. let no : Gap (record { 0 = tick + s.gap }) ≡ Start = sym is ∙ start in cc) reads
 
-waits : (set : TxSet) (ended : Bool) (v : View) (records : List DestRecord) (next tick : ℕ) (look : Option Seen) (s : Transmission) (phase : Phase) (event : TxEvent) → MayWait tick event s.phase phase →
-    ReadsIn set ended v records next (Some s) (SeenBy look) → ReadsIn set ended v (records ++ []) next (Some (in_phase phase tick s)) (SeenBy look)
-waits set ended v records next tick look s phase event (IsReached at was is) reads = on set ended v records next look s (in_phase phase tick s) refl refl refl (rw (is, was) refl) (λ start. let no : Bytes ≡ Start = sym is ∙ start in cc) reads
-waits set ended v records next tick look s phase event (GapIsOver until at was le is) reads = on set ended v records next look s (in_phase phase tick s) refl refl refl (rw (is, was) refl) (λ start. let no : Bytes ≡ Start = sym is ∙ start in cc) reads
-waits set ended v records next tick look s phase event (IsContinued bs st at was is) reads = on set ended v records next look s (in_phase phase tick s) refl refl refl (rw (is, was) refl) (λ start. let no : Bytes ≡ Start = sym is ∙ start in cc) reads
-waits set ended v records next tick look s phase event (IsPaused bs st at was is) reads = on set ended v records next look s (in_phase phase tick s) refl refl refl (rw (is, was) refl) (λ start. let no : Fc ≡ Start = sym is ∙ start in cc) reads
+waits : (set : TxSet) (ended : Bool) (v : View) (records : List DestRecord) (next tick : ℕ) (look : Option Seen) (s : Transmission) (phase : Phase) (block gap : ℕ) (event : TxEvent) → MayWait set tick event s phase block gap →
+    ReadsIn set ended v records next (Some s) (SeenBy look) → ReadsIn set ended v (records ++ []) next (Some (once_waiting tick phase block gap s)) (SeenBy look)
+waits set ended v records next tick look s phase block gap event (IsReached at was is kept) reads = on set ended v records next look s (once_waiting tick phase block gap s) refl refl refl (rw (is, was) refl) (λ start. let no : Bytes ≡ Start = sym is ∙ start in cc) reads
+waits set ended v records next tick look s phase block gap event (GapIsOver until at was le is kept) reads = on set ended v records next look s (once_waiting tick phase block gap s) refl refl refl (rw (is, was) refl) (λ start. let no : Bytes ≡ Start = sym is ∙ start in cc) reads
+waits set ended v records next tick look s phase block gap event (IsContinued bs st at was is size gap_is) reads = on set ended v records next look s (once_waiting tick phase block gap s) refl refl refl (rw (is, was) refl) (λ start. let no : Bytes ≡ Start = sym is ∙ start in cc) reads
+waits set ended v records next tick look s phase block gap event (IsPaused bs st at was is kept) reads = on set ended v records next look s (once_waiting tick phase block gap s) refl refl refl (rw (is, was) refl) (λ start. let no : Fc ≡ Start = sym is ∙ start in cc) reads
 
-told-on : (tick : ℕ) (event : TxEvent) (was now : Phase) → MayWait tick event was now → once_waited (Some event) ≡ Some RunEnd → ⊥
-told-on tick event was now (IsReached at is same) told = let no : once_waited (Some Turn) ≡ Some RunEnd = ap (λ e. once_waited (Some e)) (sym at) ∙ told in cc
-told-on tick event was now (GapIsOver until at is le same) told = let no : once_waited (Some Turn) ≡ Some RunEnd = ap (λ e. once_waited (Some e)) (sym at) ∙ told in cc
-told-on tick event was now (IsContinued bs st at is same) told = let no : once_waited (Some (CameFc 0 bs st)) ≡ Some RunEnd = ap (λ e. once_waited (Some e)) (sym at) ∙ told in cc
-told-on tick event was now (IsPaused bs st at is same) told = let no : once_waited (Some (CameFc 1 bs st)) ≡ Some RunEnd = ap (λ e. once_waited (Some e)) (sym at) ∙ told in cc
+told-on : (set : TxSet) (tick : ℕ) (event : TxEvent) (s : Transmission) (now : Phase) (block gap : ℕ) → MayWait set tick event s now block gap → once_waited (Some event) ≡ Some RunEnd → ⊥
+told-on set tick event s now block gap (IsReached at is same kept) told = let no : once_waited (Some Turn) ≡ Some RunEnd = ap (λ e. once_waited (Some e)) (sym at) ∙ told in cc
+told-on set tick event s now block gap (GapIsOver until at is le same kept) told = let no : once_waited (Some Turn) ≡ Some RunEnd = ap (λ e. once_waited (Some e)) (sym at) ∙ told in cc
+told-on set tick event s now block gap (IsContinued bs st at is same size gap_is) told = let no : once_waited (Some (CameFc 0 bs st)) ≡ Some RunEnd = ap (λ e. once_waited (Some e)) (sym at) ∙ told in cc
+told-on set tick event s now block gap (IsPaused bs st at is same kept) told = let no : once_waited (Some (CameFc 1 bs st)) ≡ Some RunEnd = ap (λ e. once_waited (Some e)) (sym at) ∙ told in cc
 
 -- fewer bytes than the next frame takes
 scant : (set : TxSet) (s : Transmission) (look : Seen) (r : Reading) → s.at ≡ look.cells → length s.carried < next_part set s → boxed s.phase (next_part set s) ≡ 0 → r.len ≡ s.len → length r.cells ≡ s.at →
@@ -203,8 +206,8 @@ each set tick event look next (Offers s) may v records ended told reads = record
   told = λ no. cc;
   reads = on set ended v records next look s (once_offered set tick s) refl refl refl (rw may.phase (omega (arith, length-drop (next_part set s) s.carried, may.enough))) (λ start. cc) reads;
 }
-each set tick event look next (Leaves s sent number phase) may v records ended told reads = record { told = λ no. cc; reads = leaves set ended v records next tick sent number look s phase may.box may.next reads }
-each set tick event look next (Waits s phase) may v records ended told reads = record { told = λ is. absurd (told-on tick event s.phase phase may is); reads = waits set ended v records next tick look s phase event may reads }
+each set tick event look next (Leaves s sent number block phase) may v records ended told reads = record { told = λ no. cc; reads = leaves set ended v records next tick sent number block look s phase may.box may.next reads }
+each set tick event look next (Waits s phase block gap) may v records ended told reads = record { told = λ is. absurd (told-on set tick event s phase block gap may is); reads = waits set ended v records next tick look s phase block gap event may reads }
 each set tick event look next (Ends s sent act result left) may v records ended told reads = record { told = λ no. cc; reads = ends set ended v records next tick sent look s act result left event told may reads }
 
 law : (set : TxSet) (tick : ℕ) → IsDoneLaw set tick (ReadsBy set)

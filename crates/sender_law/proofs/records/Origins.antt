@@ -41,8 +41,8 @@ each Q set tick event look next (Joins buf len) may = record { next = omega arit
 each Q set tick event look next (Looks s seen) may = record { next = omega arith; told = λ joins live. tt; live = λ joins live. live }
 each Q set tick event look next (Reads s cells) may = record { next = omega arith; told = λ joins live. tt; live = λ joins live. live }
 each Q set tick event look next (Offers s) may = record { next = omega arith; told = λ joins live. tt; live = λ joins live. live }
-each Q set tick event look next (Leaves s sent number phase) may = record { next = omega arith; told = λ joins live. tt; live = λ joins live. live }
-each Q set tick event look next (Waits s phase) may = record { next = omega arith; told = λ joins live. tt; live = λ joins live. live }
+each Q set tick event look next (Leaves s sent number block phase) may = record { next = omega arith; told = λ joins live. tt; live = λ joins live. live }
+each Q set tick event look next (Waits s phase block gap) may = record { next = omega arith; told = λ joins live. tt; live = λ joins live. live }
 each Q set tick event look next (Ends s sent act result left) may = record { next = omega arith; told = λ joins live. (live, tt); live = λ joins live. tt }
 
 keeps-both : (Q : ℕ → ℕ → Type 0) (tick : ℕ) (p : TxStage) (first later : TxDone) → Keeps Q tick p first → Keeps Q tick first.new later → Keeps Q tick p (done_then first later)

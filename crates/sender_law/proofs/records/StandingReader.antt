@@ -95,8 +95,8 @@ each set tick event look next (Joins buf len) may = joining set next next buf le
 each set tick event look next (Looks s seen) may = saw set next (Some s.seq) s seen
 each set tick event look next (Reads s cells) may = reads set next s.seq (Some s.seq) cells
 each set tick event look next (Offers s) may = silent set next (Some s.seq)
-each set tick event look next (Leaves s sent number phase) may = silent set next (Some s.seq)
-each set tick event look next (Waits s phase) may = silent set next (Some s.seq)
+each set tick event look next (Leaves s sent number block phase) may = silent set next (Some s.seq)
+each set tick event look next (Waits s phase block gap) may = silent set next (Some s.seq)
 each set tick event look next (Ends s sent act result left) may = parted set next s.seq left
 
 law : (set : TxSet) (tick : ℕ) → IsDoneLaw set tick (StepsOf set)

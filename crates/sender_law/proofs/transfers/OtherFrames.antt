@@ -13,8 +13,9 @@ use Rattle.gw_base.proofs.Lists.{all-weaker}
 use Rattle.tp_unit.specs.Box.{Written}
 use Rattle.tp_unit.specs.Shape.{address_size}
 use Rattle.sender_law.specs.Channel.{DestChannel}
+use Rattle.sender_law.specs.Pacing.{Paced, controls_of}
 use Rattle.sender_law.specs.TransmissionCauses.{IsCaused, IsCausedWith, TransmissionCauses, left_in}
-use Rattle.sender_law.specs.Transfer.{seen_of, GoesOnWith, Paced, Sends, SendsFor, Tells, Transfer, TransferLaw, has_sent, is_consecutive}
+use Rattle.sender_law.specs.Transfer.{seen_of, GoesOnWith, Sends, SendsFor, Tells, Transfer, TransferLaw, has_sent, is_consecutive}
 
 -- consecutive frames are data
 filter-one : (x : Seen) (xs : List Seen) (meaning : Meaning) → x.meaning ≡ meaning → filter (λ (s : Seen). is_consecutive s.meaning) (filter carries xs) ≡ filter (λ (s : Seen). is_consecutive s.meaning) xs →
@@ -94,9 +95,9 @@ others-pass t out law is =
 consecutive-left : (address : ℕ) (cut : Cut Seen) → left_in address (kept_of carries cut) ≡ left_in address cut
 consecutive-left address cut = ap (λ (w : Walk). map (λ (piece : Piece). piece.at) w.pieces) (walk-kept address cut)
 
-pub others-caused : (c : DestChannel) (out : List Written) → TransmissionCauses c → filter carries (map (seen_of (address_size c.tx.shape)) out) ≡ map (seen_of (address_size c.tx.shape)) c.frames → TransmissionCauses (record c { frames = out })
-others-caused c out causes is = record {
-  sent = zip-kept (IsCausedWith c) (IsCausedWith (record c { frames = out })) (map (seen_of (address_size c.tx.shape)) out) (map (seen_of (address_size c.tx.shape)) c.frames) (filter has_sent c.dests)
-      (λ cut told caused. subst (λ (ticks : List ℕ). IsCaused c.tx c.answers c.last ticks told) (consecutive-left (address_size c.tx.shape) cut) caused) is causes.sent;
+pub others-caused : (full : ℕ → Bool) (c : DestChannel) (out : List Written) → TransmissionCauses full c → filter carries (map (seen_of (address_size c.tx.shape)) out) ≡ map (seen_of (address_size c.tx.shape)) c.frames → TransmissionCauses full (record c { frames = out })
+others-caused full c out causes is = record {
+  sent = zip-kept (IsCausedWith full c) (IsCausedWith full (record c { frames = out })) (map (seen_of (address_size c.tx.shape)) out) (map (seen_of (address_size c.tx.shape)) c.frames) (filter has_sent c.dests)
+      (λ cut told caused. subst (λ (ticks : List ℕ). IsCaused full c.tx (controls_of c.tx.period c.answers) c.last ticks told) (consecutive-left (address_size c.tx.shape) cut) caused) is causes.sent;
   unsent = causes.unsent;
 }

@@ -3,10 +3,10 @@ use Rattle.std.proofs.Common.{◌≡◌, ℕ, Option, Some, None, List, [], ◌�
 use Rattle.std.proofs.lemmas.List.{map-append}
 use Rattle.std.proofs.lemmas.List.Concat.{flat_map-append}
 use Rattle.gw_base.specs.Cell.{bytes_of, cell_bytes}
-use Rattle.tp_unit.specs.Box.{Answer}
-use Rattle.tp_sender.specs.Runs.{HasSent, InOrder, box_after, cell_read, cells_in, clear_from, left_by, len_joined, written_at}
+use Rattle.flow_plan.specs.Pace.{Control}
+use Rattle.tp_sender.specs.Runs.{HasSent, InOrder, box_after, cell_read, cells_in, clear_from, controls_in, left_by, len_joined, written_at}
 use Rattle.tp_sender.specs.State.{TxTurn, tx_new, Transmission}
-use Rattle.hub_core.specs.Turns.{calls_by, state_after}
+use Rattle.hub_core.specs.Turns.{calls_by, came_by, state_after}
 use Rattle.tp_attempts.specs.Cuts.{Cut}
 use Rattle.tp_attempts.specs.Seen.{Seen}
 use Rattle.tp_sender.specs.declared.event.TxEvent.{TxEvent}
@@ -18,13 +18,16 @@ use Rattle.tp_sender.specs.Effects.{Awaits, IsAwaiting, IsSettled}
 use Rattle.tp_sender.proofs.Effects.{HoldsOf, of-step, step_done}
 use Rattle.tp_unit.specs.declared.shape.Shape.{Shape}
 use Rattle.tp_unit.specs.Shape.{IsShape, address_size}
-use Rattle.sender_law.specs.Transfer.{GoesOnWith, Transfer, TransferLaw, seen_of, transfer_of}
+use Rattle.sender_law.specs.Pacing.{control_of}
+use Rattle.sender_law.specs.Transfer.{GoesOnWith, SendsFor, Transfer, TransferLaw, has_sent, seen_of, transfer_of}
+use Rattle.std.specs.Prelude.{filter}
+use Rattle.gw_base.proofs.Lists.{zip-weaker}
 use Rattle.sender_law.proofs.transfers.TxLeaves.{sends-way}
 use Rattle.sender_law.proofs.transfers.TxAnswers.{IsNotAwaiting, NotAwaiting, answers, ignored}
 use Rattle.sender_law.proofs.transfers.TxMoves.{at_tick, later}
 use Rattle.sender_law.proofs.transfers.TxStages.{IsTimely, LeadsOn, SoFarBut, asked, done_in, event_in, same-so}
 use Rattle.sender_law.proofs.transfers.TxSteps.{law as of-effects}
-use Rattle.sender_law.proofs.transfers.TxWorld.{GoesOn as Goes, Lives, SoFar, Way, World, Unsent, UnderWay}
+use Rattle.sender_law.proofs.transfers.TxWorld.{GoesOn as Goes, HasSentFor, Lives, SoFar, Way, World, Unsent, UnderWay}
 
 -- what the moments told, with the box and the numbers
 abbrev pub world_of : TxSet → List TxTurn → World
@@ -58,14 +61,14 @@ over : (set : TxSet) (tick : ℕ) (left : Option TxEvent) (live : Option Transmi
 over set tick None live w is now settled so = so
 over set tick (Some Turn) live w is now settled told = asked set tick Turn w tt told
 over set tick (Some (CameFc fs bs st)) live w is now settled told =
-    let a : Answer = record { tick = tick; status = fs; block_size = bs; separation = st } in
+    let a : Control = control_of set.period (record { tick = tick; status = fs; block_size = bs; separation = st }) in
     let v : World = told.before in
     let same : v.told.live ≡ live = sym (ap (λ (x : World). x.told.live) told.is) ∙ is in
     let at : v.told.now ≡ tick = sym (ap (λ (x : World). x.told.now) told.is) ∙ now in
     let P : World → Type 0 = λ x. SoFar set.shape x in
     let N : Option Transmission → Type 0 = λ l. NotAwaiting l in
     subst P (sym told.is) (same-so set.shape (answers a v.told.live v) (event_in set tick (CameFc fs bs st) v) refl (sym (append-nil v.told.frames)) refl refl (λ number. refl) refl refl refl refl refl refl
-    (ignored set.shape v a (subst N (sym same) (not-awaited live settled)) (omega (arith, at)) told.so))
+    (ignored set.shape v a (subst N (sym same) (not-awaited live settled)) (omega (arith, at)) told.timely told.so))
 over set tick (Some Left) live w is now settled told = absurd settled
 over set tick (Some RunEnd) live w is now settled told = absurd settled
 
@@ -74,6 +77,7 @@ pub so-far : (set : TxSet) (moments : List TxTurn) → IsShape set.shape → Has
 so-far set [] sound happened = record {
   address = refl;
   past = tt;
+  clear_now = omega arith;
   numbered = tt;
   tells = tt;
   lens = refl;
@@ -92,14 +96,15 @@ so-far set (m ∷ earlier) sound happened =
     let all : World = done_in (step_done m.did is.left is.look) came in
     let done : SoFar set.shape all = over set m.did.tick is.left m.did.new.live all refl refl is.settled
     (is.holds came (record { live = refl; next = refl; now = refl }) (record { before = w; is = refl; timely = timely set m.event m.did.tick earlier happened.1.0; so = so })) in
-    same-so set.shape all (world_of set (m ∷ earlier)) refl (sym (map-append (seen_of (address_size set.shape)) (left_by set.shape earlier) (written_at set.shape m.event m.did.tick (box_after earlier)))) refl
+    same-so set.shape all (world_of set (m ∷ earlier)) refl (sym (map-append (seen_of (address_size set.shape)) (left_by set.shape earlier) (written_at set.shape m.event m.did.tick (box_after earlier))))
+    (sym (map-append (control_of set.period) (came_by controls_in earlier) (controls_in m.did.tick m.event)))
     (sym (flat_map-append len_joined (calls_by earlier) m.did.calls))
     (λ number. sym (flat_map-append cell_bytes (cells_in number (calls_by earlier)) (cells_in number m.did.calls)) ∙ ap bytes_of (sym (flat_map-append (cell_read number) (calls_by earlier) m.did.calls)))
     refl refl refl refl refl refl done
 
 -- the transmission that is going on
 goes-by : (shape : Shape) (w : World) (s : Transmission) (going : List (Cut Seen)) (taken : List ℕ) → w.told.address ≡ address_size shape → (on : Goes shape w s going) →
-    Way shape w.told.answers w.clear s.begin w.told.now s.len s.number s.sent on.taken s.phase s.since going → GoesOnWith w.told w.told.now (Some s) going
+    Way shape w.told.answers w.clear s.begin w.told.now s.len s.number s.sent s.block s.gap on.taken s.phase s.since going → GoesOnWith w.told w.told.now (Some s) going
 goes-by shape w s going taken address on (Unsent none number bytes cuts early) = let P : List (Cut Seen) → Type 0 = λ l. GoesOnWith w.told w.told.now (Some s) l in subst P (sym cuts) none
 goes-by shape w s going taken address on (UnderWay cut some cuts pieces way every ready) =
     let P : List (Cut Seen) → Type 0 = λ l. GoesOnWith w.told w.told.now (Some s) l in
@@ -112,13 +117,14 @@ goes-on shape w (Some s) going address on = goes-by shape w s going on.taken add
 pub law : (set : TxSet) (moments : List TxTurn) → IsShape set.shape → HasSent set moments → TransferLaw (transfer_of set moments)
 law set moments sound happened =
     let so : SoFar set.shape (world_of set moments) = so-far set moments sound happened in
+    let t : Transfer = transfer_of set moments in
     record {
       numbered = so.numbered;
       told = so.tells;
       ended = so.ended;
       going = so.going;
       cut = so.cut;
-      sends = so.sends;
+      sends = zip-weaker (HasSentFor t (clear_from moments)) (SendsFor t) so.ended (filter has_sent t.records) (λ cut told sent. sent.sends) so.sends;
       goes_on = goes-on set.shape (world_of set moments) (state_after tx_new moments).live so.going so.address so.lives;
     }
 

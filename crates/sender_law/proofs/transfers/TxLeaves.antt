@@ -1,7 +1,7 @@
 -- A frame leaves, a session ends, or another frame of the channel leaves.
 use Rattle.std.proofs.Common.{◌≡◌, ℕ, ◌+◌, ◌-◌, ◌%◌, ◌<◌, ◌≤◌, Option, Some, None, List, [], ◌∷◌, ◌++◌, length, true, false, refl, ap, sym, subst, ◌∙◌, arith, append-nil, length-append}
 use Rattle.tp_sender.specs.declared.transmission.Phase.{Phase}
-use Rattle.tp_unit.specs.Box.{Answer}
+use Rattle.flow_plan.specs.Pace.{Control}
 use Rattle.tp_sender.specs.State.{Transmission}
 use Rattle.std.proofs.Common.{Bool}
 use Rattle.tp_unit.proofs.RoundTrip.{reads_back}
@@ -31,8 +31,8 @@ use Rattle.sender_law.proofs.transfers.TxFrames.{Begins, begins, looks-next, see
 use Rattle.gw_base.proofs.Lists.{all-push, all-weaker, zip-push, zip-weaker}
 use Rattle.sender_law.proofs.Lists.{numbered-next}
 use Rattle.sender_law.proofs.transfers.TxMoves.{grows-same, lives-some}
-use Rattle.sender_law.proofs.transfers.TxPaces.{MayLeave, paced-next}
-use Rattle.sender_law.proofs.transfers.TxWorld.{GoesOn, Grows, IsOnWay, Lives, SoFar, Way, World, Unsent, UnderWay, sends-on, tells-on}
+use Rattle.sender_law.proofs.transfers.TxPaces.{Permits, paced-next}
+use Rattle.sender_law.proofs.transfers.TxWorld.{GoesOn, Grows, HasSentFor, IsOnWay, Lives, SoFar, Way, World, Unsent, UnderWay, sent-on, tells-on}
 use Rattle.tp_attempts.proofs.Segments.{with_piece}
 
 -- the frames that left are a transmission of the session
@@ -49,47 +49,48 @@ sends-way shape t seq len sent begin clear taken rest cut address joined_is read
 }
 
 -- the last transmission is as the record tells, where it tells of sent bytes
-pub data LastIs (t : Transfer) (told : DestRecord) (last : List (Cut Seen)) : Type 0 where
-  NoneSent : last ≡ [] → told.sent ≡ 0 → LastIs t told last
-  OneSent : (cut : Cut Seen) → last ≡ cut ∷ [] → 0 < told.sent → SendsFor t cut told → LastIs t told last
+pub data LastIs (t : Transfer) (clear : ℕ) (told : DestRecord) (last : List (Cut Seen)) : Type 0 where
+  NoneSent : last ≡ [] → told.sent ≡ 0 → LastIs t clear told last
+  OneSent : (cut : Cut Seen) → last ≡ cut ∷ [] → 0 < told.sent → HasSentFor t clear cut told → LastIs t clear told last
 
 filter-sent : (records : List DestRecord) (told : DestRecord) (b : Bool) → has_sent told ≡ b → filter has_sent (records ++ told ∷ []) ≡ filter has_sent records ++ (if b then told ∷ [] else [])
 filter-sent records told b is = filter-append has_sent records (told ∷ []) ∙ rw is refl
 
 -- the transmissions that ended, with the last one
-pub record Closes (t : Transfer) (frames : List Seen) (records : List DestRecord) (told : DestRecord) : Type 0 where
+pub record Closes (t : Transfer) (clear : ℕ) (frames : List Seen) (records : List DestRecord) (told : DestRecord) : Type 0 where
   pub all : List (Cut Seen)
   pub cut : attempts_in false frames ≡ all ++ []
-  pub sends : AllZip (SendsFor t) all (filter has_sent (records ++ told ∷ []))
+  pub sends : AllZip (HasSentFor t clear) all (filter has_sent (records ++ told ∷ []))
 
-closes : (t : Transfer) (frames : List Seen) (records : List DestRecord) (told : DestRecord) (ended last : List (Cut Seen)) → attempts_in false frames ≡ ended ++ last → AllZip (SendsFor t) ended (filter has_sent records) →
-    LastIs t told last → Closes t frames records told
-closes t frames records told ended last cut sends (NoneSent none zero_sent) =
+closes : (t : Transfer) (clear : ℕ) (frames : List Seen) (records : List DestRecord) (told : DestRecord) (ended last : List (Cut Seen)) → attempts_in false frames ≡ ended ++ last → AllZip (HasSentFor t clear) ended (filter has_sent records) →
+    LastIs t clear told last → Closes t clear frames records told
+closes t clear frames records told ended last cut sends (NoneSent none zero_sent) =
     let kept : filter has_sent (records ++ told ∷ []) ≡ filter has_sent records = filter-sent records told false (grind (arith, nat_tests)) ∙ append-nil (filter has_sent records) in
-    let Z : List DestRecord → Type 0 = λ r. AllZip (SendsFor t) ended r in
+    let Z : List DestRecord → Type 0 = λ r. AllZip (HasSentFor t clear) ended r in
     record { all = ended; cut = cut ∙ ap (λ l. ended ++ l) none; sends = subst Z (sym kept) sends }
-closes t frames records told ended last cut sends (OneSent one is some right) =
+closes t clear frames records told ended last cut sends (OneSent one is some right) =
     let more : filter has_sent (records ++ told ∷ []) ≡ filter has_sent records ++ told ∷ [] = filter-sent records told true (grind (arith, nat_tests)) in
-    let Z : List DestRecord → Type 0 = λ r. AllZip (SendsFor t) (ended ++ one ∷ []) r in
-    record { all = ended ++ one ∷ []; cut = cut ∙ ap (λ l. ended ++ l) is ∙ sym (append-nil (ended ++ one ∷ [])); sends = subst Z (sym more) (zip-push (SendsFor t) ended (filter has_sent records) one told sends right) }
+    let Z : List DestRecord → Type 0 = λ r. AllZip (HasSentFor t clear) (ended ++ one ∷ []) r in
+    record { all = ended ++ one ∷ []; cut = cut ∙ ap (λ l. ended ++ l) is ∙ sym (append-nil (ended ++ one ∷ [])); sends = subst Z (sym more) (zip-push (HasSentFor t clear) ended (filter has_sent records) one told sends right) }
 
 -- one more session is told of
-pub finishes : (shape : Shape) (v w : World) (told : DestRecord) (last : List (Cut Seen)) → (so : SoFar shape v) → Grows v.told w.told → AllByRecursion (λ answer. answer.tick ≤ w.told.now) w.told.answers →
+pub finishes : (shape : Shape) (v w : World) (told : DestRecord) (last : List (Cut Seen)) → (so : SoFar shape v) → Grows v w → AllByRecursion (λ (c : Control). c.tick ≤ w.told.now) w.told.answers → w.clear ≤ w.told.now + 1 →
     attempts_in false w.told.frames ≡ so.ended ++ last → w.told.records ≡ v.told.records ++ told ∷ [] → w.told.live ≡ None → told.seq ≡ length v.told.records → length v.told.records + 1 ≡ w.next → length w.told.lens ≡ w.next →
-    ((number : ℕ) → w.next ≤ number → w.told.read number ≡ []) → Tells w.told told → LastIs w.told told last → SoFar shape w
-finishes shape v w told last so grows past cut records idle seq next lens unread tells last_is =
+    ((number : ℕ) → w.next ≤ number → w.told.read number ≡ []) → Tells w.told told → LastIs w.told w.clear told last → SoFar shape w
+finishes shape v w told last so grows past clear cut records idle seq next lens unread tells last_is =
     let T : List DestRecord → Type 0 = λ r. AllByRecursion (Tells w.told) r in
-    let sends : AllZip (SendsFor w.told) so.ended (filter has_sent v.told.records) =
-    zip-weaker (SendsFor v.told) (SendsFor w.told) so.ended (filter has_sent v.told.records) (λ c d. sends-on v.told w.told d.seq d.sent d.begin.0 d.end.0 c grows) so.sends in
-    let all : Closes w.told w.told.frames v.told.records told = closes w.told w.told.frames v.told.records told so.ended last cut sends last_is in
-    let Z : List DestRecord → Type 0 = λ r. AllZip (SendsFor w.told) all.all (filter has_sent r) in
+    let sends : AllZip (HasSentFor w.told w.clear) so.ended (filter has_sent v.told.records) =
+    zip-weaker (HasSentFor v.told v.clear) (HasSentFor w.told w.clear) so.ended (filter has_sent v.told.records) (λ c d. sent-on v w c d grows) so.sends in
+    let all : Closes w.told w.clear w.told.frames v.told.records told = closes w.told w.clear w.told.frames v.told.records told so.ended last cut sends last_is in
+    let Z : List DestRecord → Type 0 = λ r. AllZip (HasSentFor w.told w.clear) all.all (filter has_sent r) in
     let L : Option Transmission → Type 0 = λ l. Lives shape w l [] in
     let count : length w.told.records ≡ w.next = ap length records ∙ length-append v.told.records (told ∷ []) ∙ next in
     record {
       address = grows.address ∙ so.address;
       past = past;
+      clear_now = clear;
       numbered = rw records (numbered-next 0 v.told.records told so.numbered (omega (arith, seq)));
-      tells = subst T (sym records) (all-push (Tells w.told) v.told.records told (all-weaker (Tells v.told) (Tells w.told) v.told.records (λ d. tells-on v.told w.told d grows) so.tells) tells);
+      tells = subst T (sym records) (all-push (Tells w.told) v.told.records told (all-weaker (Tells v.told) (Tells w.told) v.told.records (λ d. tells-on v w d grows) so.tells) tells);
       lens = lens;
       unread = unread;
       ended = all.all;
@@ -106,21 +107,21 @@ record_of path dest s sent tick result = record { path = path; dest = dest; seq 
 abbrev pub ends : PathNo → DestNo → Transmission → DestResult → Option Meaning → World → World
 ends path dest s result box w = record w { told = record w.told { records = w.told.records ++ record_of path dest s s.sent w.told.now result ∷ []; live = None }; box = box }
 
-last-way : (shape : Shape) (t : Transfer) (told : DestRecord) (clear number : ℕ) (s : Transmission) (taken rest : List ℕ) (phase : Phase) (since : ℕ) (going : List (Cut Seen)) → told.sent ≡ s.sent →
+last-way : (shape : Shape) (t : Transfer) (told : DestRecord) (clear number block gap : ℕ) (s : Transmission) (taken rest : List ℕ) (phase : Phase) (since : ℕ) (going : List (Cut Seen)) → told.sent ≡ s.sent →
     ((cut : Cut Seen) → Sends t s.seq s.sent s.begin t.now cut → SendsFor t cut told) → t.address ≡ address_size shape → slice_get t.lens s.seq ≡ Some s.len → t.read s.seq ≡ taken ++ rest → length taken ≡ s.sent →
-    Way shape t.answers clear s.begin t.now s.len number s.sent taken phase since going → LastIs t told going
-last-way shape t told clear number s taken rest phase since going sent same address joined_is read count (Unsent none first bytes cuts early) = NoneSent cuts (sent ∙ none)
-last-way shape t told clear number s taken rest phase since going sent same address joined_is read count (UnderWay cut some cuts pieces way every ready) =
-    OneSent cut cuts (omega (arith, sent, some)) (same cut (sends-way shape t s.seq s.len s.sent s.begin clear taken rest cut address joined_is read count way every))
+    Way shape t.answers clear s.begin t.now s.len number s.sent block gap taken phase since going → LastIs t clear told going
+last-way shape t told clear number block gap s taken rest phase since going sent same address joined_is read count (Unsent none first bytes cuts early) = NoneSent cuts (sent ∙ none)
+last-way shape t told clear number block gap s taken rest phase since going sent same address joined_is read count (UnderWay cut some cuts pieces way every ready) =
+    OneSent cut cuts (omega (arith, sent, some)) (record { sends = same cut (sends-way shape t s.seq s.len s.sent s.begin clear taken rest cut address joined_is read count way every); clear_is = rw address way.clear_is })
 
 pub ended : (shape : Shape) (w : World) (s : Transmission) (path : PathNo) (dest : DestNo) (result : DestResult) (box : Option Meaning) → w.told.live ≡ Some s → (result ≡ Sent → ⊥) → SoFar shape w → SoFar shape (ends path dest s result box w)
 ended shape w s path dest result box is not_sent so =
     let on : GoesOn shape w s so.going = lives-some shape w w.told.live s so.going is so.lives in
     let told : DestRecord = record_of path dest s s.sent w.told.now result in
     let t : Transfer = (ends path dest s result box w).told in
-    finishes shape w (ends path dest s result box w) told so.going so (grows-same w.told t refl refl refl (λ number. refl)) so.past so.cut refl refl (sym on.before) (omega (arith, on.before, on.next)) so.lens so.unread
+    finishes shape w (ends path dest s result box w) told so.going so (grows-same w (ends path dest s result box w) (omega arith) refl refl refl (λ number. refl)) so.past so.clear_now so.cut refl refl (sym on.before) (omega (arith, on.before, on.next)) so.lens so.unread
     (record { len = s.len; joined = on.joined_is; most = omega (arith, on.unfinished); whole = ((λ e. absurd (not_sent e)), (λ e. absurd (omega (arith, e, on.unfinished)))); ticks = on.begin })
-    (last-way shape t told w.clear s.number s on.taken (on.offered ++ s.carried) s.phase s.since so.going refl (λ cut sends. sends) so.address on.joined_is on.read on.sent on.way)
+    (last-way shape t told w.clear s.number s.block s.gap s on.taken (on.offered ++ s.carried) s.phase s.since so.going refl (λ cut sends. sends) so.address on.joined_is on.read on.sent on.way)
 
 -- the frame in the box leaves
 unit-first : (shape : Shape) (len sent number : ℕ) (bytes : List ℕ) → sent ≡ 0 → unit_after shape len sent number bytes ≡ start_with shape len bytes
@@ -139,7 +140,7 @@ part-next : (shape : Shape) (len sent : ℕ) → 0 < sent → part_after shape l
 part-next shape len sent some = rw (not-first sent some) refl
 
 -- the frames with one more: it belongs to this transmission, which carries these bytes
-pub record Leaves (shape : Shape) (answers : List Answer) (begin now len : ℕ) (taken : List ℕ) (frames : List Seen) (unit : Meaning) (ended : List (Cut Seen)) (pieces : List Piece) (offered : List ℕ) : Type 0 where
+pub record Leaves (shape : Shape) (answers : List Control) (begin now len : ℕ) (taken : List ℕ) (frames : List Seen) (unit : Meaning) (ended : List (Cut Seen)) (pieces : List Piece) (offered : List ℕ) : Type 0 where
   pub cut : Cut Seen
   pub cuts : attempts_in false (frames ++ seen_unit shape now unit ∷ []) ≡ ended ++ cut ∷ []
   pub way : IsOnWay shape answers (now + 1) begin now len (taken ++ offered) (walk_of (address_size shape) cut)
@@ -158,7 +159,7 @@ ticks-next cut seen is = ticks-by cut seen true is
 pub ticks-same : (cut : Cut Seen) (seen : Seen) → is_consecutive seen.meaning ≡ false → ticks_of (record { start = cut.start; after = cut.after ++ seen ∷ [] }) ≡ ticks_of cut
 ticks-same cut seen is = ticks-by cut seen false is ∙ append-nil (ticks_of cut)
 
-pub leaves-first : (shape : Shape) (answers : List Answer) (begin now len sent number : ℕ) (frames : List Seen) (ended : List (Cut Seen)) (offered : List ℕ) → IsShape shape → begin ≤ now → attempts_in false frames ≡ ended → sent ≡ 0 →
+pub leaves-first : (shape : Shape) (answers : List Control) (begin now len sent number : ℕ) (frames : List Seen) (ended : List (Cut Seen)) (offered : List ℕ) → IsShape shape → begin ≤ now → attempts_in false frames ≡ ended → sent ≡ 0 →
     length offered ≡ part_after shape len sent → fits_shape shape (unit_after shape len sent number offered) ≡ true →
     Leaves shape answers begin now len [] frames (unit_after shape len sent number offered) ended [] offered
 leaves-first shape answers begin now len sent number frames ended offered sound le cut none part fits =
@@ -183,11 +184,11 @@ leaves-first shape answers begin now len sent number frames ended offered sound 
       pieces_are = ap (λ b. record { at = now; bytes = b } ∷ []) is.bytes_are;
     })
 
-pub leaves-next : (shape : Shape) (answers : List Answer) (clear begin now len sent number : ℕ) (taken : List ℕ) (frames : List Seen) (ended : List (Cut Seen)) (cut : Cut Seen) (offered : List ℕ) → IsShape shape → begin ≤ now →
+pub leaves-next : (shape : Shape) (answers : List Control) (clear begin now len sent number block gap : ℕ) (taken : List ℕ) (frames : List Seen) (ended : List (Cut Seen)) (cut : Cut Seen) (offered : List ℕ) → IsShape shape → begin ≤ now →
     attempts_in false frames ≡ ended ++ cut ∷ [] → 0 < sent → sent < len → length taken ≡ sent → number ≡ length (walk_of (address_size shape) cut).pieces % 16 → length offered ≡ part_after shape len sent →
-    fits_shape shape (unit_after shape len sent number offered) ≡ true → map (λ piece. piece.at) (walk_of (address_size shape) cut).pieces ≡ ticks_of cut → MayLeave answers (walk_of (address_size shape) cut).pieces now → IsOnWay shape answers clear begin now len taken (walk_of (address_size shape) cut) →
+    fits_shape shape (unit_after shape len sent number offered) ≡ true → map (λ piece. piece.at) (walk_of (address_size shape) cut).pieces ≡ ticks_of cut → AllByRecursion (λ (c : Control). c.tick ≤ now) answers → Permits answers (walk_of (address_size shape) cut).pieces block gap now → IsOnWay shape answers clear begin now len taken (walk_of (address_size shape) cut) →
     Leaves shape answers begin now len taken frames (unit_after shape len sent number offered) ended (walk_of (address_size shape) cut).pieces offered
-leaves-next shape answers clear begin now len sent number taken frames ended cut offered sound le is some more count numbered part fits every may way =
+leaves-next shape answers clear begin now len sent number block gap taken frames ended cut offered sound le is some more count numbered part fits every past may way =
     let F : Meaning → Type 0 = λ u. fits_shape shape u ≡ true in
     let G : Meaning → Type 0 = λ u. Leaves shape answers begin now len taken frames u ended (walk_of (address_size shape) cut).pieces offered in
     let unit : unit_after shape len sent number offered ≡ ConsecutiveFrame number offered = unit-next shape len sent number offered some in
@@ -211,7 +212,7 @@ leaves-next shape answers clear begin now len sent number taken frames ended cut
         bytes = joined-more walk.pieces piece ∙ ap (λ l. l ++ offered) way.bytes;
         ticks = all-push (λ (p : Piece). (begin ≤ p.at) × (p.at ≤ now)) walk.pieces piece way.ticks (le, omega arith);
         clear_is = all-push (λ (p : Piece). p.at < now + 1) walk.pieces piece (all-weaker (λ (p : Piece). (begin ≤ p.at) × (p.at ≤ now)) (λ (p : Piece). p.at < now + 1) walk.pieces (λ p at. omega (arith, at.1)) way.ticks) (omega arith);
-        paced = paced-next answers walk.pieces piece may way.paced;
+        paced = paced-next answers walk.pieces piece block gap past may way.paced;
       });
       every = ap (λ (w : Walk). map (λ (p : Piece). p.at) w.pieces) looked ∙ map-append (λ (p : Piece). p.at) walk.pieces (piece ∷ []) ∙ ap (λ l. l ++ now ∷ []) every ∙ sym (ticks-next cut x (ap is_consecutive (reads_back shape (ConsecutiveFrame number offered) sound fits_it)));
       pieces_are = ap (λ (w : Walk). w.pieces) looked;

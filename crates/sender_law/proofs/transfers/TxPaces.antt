@@ -1,83 +1,78 @@
 -- Pacing, when one more flow control comes or one more frame leaves.
-use Rattle.std.proofs.Common.{◌≡◌, ℕ, ◌<◌, ◌≤◌, Bool, true, false, Option, Some, None, List, [], ◌∷◌, ◌++◌, refl, arith}
-use Rattle.tp_unit.specs.Box.{Answer}
-use Rattle.std.specs.Prelude.{not, ◌&&◌, ◌==◌, nat_lt, if◌then◌else◌}
+use Rattle.std.proofs.Common.{◌≡◌, ℕ, ◌+◌, ◌<◌, ◌≤◌, Option, List, [], ◌∷◌, ◌++◌, map, refl, ap, sym, subst, ◌∙◌, arith}
+use Rattle.std.proofs.lemmas.List.{map-append}
+use Rattle.std.specs.List.{AllByRecursion}
+use Rattle.flow_plan.specs.Pace.{ArePacedFrom, Awaits, Control, May, MayLeave as MayGo, Pace, Refused, after_frames, answered, answered_all, block_of, gone_on}
+use Rattle.flow_plan.proofs.Paces.{AreAfter, after-more, after-next, answered-more, awaits-stays, came-all, paced-more as more-paced, paced-next as next-paced}
+use Rattle.gw_base.proofs.Lists.{all-map, all-weaker}
 use Rattle.tp_attempts.specs.Walk.{Piece}
-use Rattle.sender_law.specs.Transfer.{Paced, Permits, Spaced, answer_after}
+use Rattle.sender_law.specs.Pacing.{Paced}
 
--- the flow control is counted after that tick
-abbrev pub counts_after : ℕ → Answer → Bool
-counts_after since answer = nat_lt since answer.tick && not (answer.status == 1)
+-- the ticks of some frames
+abbrev pub ticks_at : List Piece → List ℕ
+ticks_at pieces = map (λ (piece : Piece). piece.at) pieces
 
-some-by : (b : Bool) (x a : Answer) (o p : Option Answer) → (o ≡ Some a → p ≡ Some a) → (if b then Some x else o) ≡ Some a → (if b then Some x else p) ≡ Some a
-some-by true x a o p on is = is
-some-by false x a o p on is = on is
+-- what a transmission is at once these frames left and all these flow controls came
+abbrev pub pace_after : List Control → List Piece → Pace
+pace_after controls [] = Refused 0 0
+pace_after controls (first ∷ later) = answered_all (after_frames controls (Awaits first.at first.at) (ticks_at later)) controls
 
-pub answer-more : (since : ℕ) (answers more : List Answer) (a : Answer) → answer_after since answers ≡ Some a → answer_after since (answers ++ more) ≡ Some a
-answer-more since [] more a is = cc
-answer-more since (x ∷ answers) more a is = some-by (counts_after since x) x a (answer_after since answers) (answer_after since (answers ++ more)) (answer-more since answers more a) is
+-- flow controls that come after frames
+abbrev pub ComeAfter : List Piece → List Control → Type 0
+ComeAfter pieces more = AllByRecursion (λ (piece : Piece). AllByRecursion (λ (c : Control). piece.at + 1 ≤ c.tick) more) pieces
 
-none-by : (b : Bool) (x : Answer) (o p q : Option Answer) → (o ≡ None → p ≡ q) → (if b then Some x else o) ≡ None → (if b then Some x else p) ≡ q
-none-by true x o p q on is = cc
-none-by false x o p q on is = on is
+pub come-after : (clear : ℕ) (pieces : List Piece) (more : List Control) → AllByRecursion (λ (piece : Piece). piece.at < clear) pieces → AllByRecursion (λ (c : Control). clear ≤ c.tick) more → ComeAfter pieces more
+come-after clear pieces more before from =
+    all-weaker (λ (piece : Piece). piece.at < clear) (λ (piece : Piece). AllByRecursion (λ (c : Control). piece.at + 1 ≤ c.tick) more) pieces
+    (λ piece lt. all-weaker (λ (c : Control). clear ≤ c.tick) (λ (c : Control). piece.at + 1 ≤ c.tick) more (λ c le. omega (arith, le, lt)) from) before
 
-pub answer-skips : (since : ℕ) (answers more : List Answer) → answer_after since answers ≡ None → answer_after since (answers ++ more) ≡ answer_after since more
-answer-skips since [] more is = refl
-answer-skips since (x ∷ answers) more is =
-    none-by (counts_after since x) x (answer_after since answers) (answer_after since (answers ++ more)) (answer_after since more) (answer-skips since answers more) is
+are-after : (pieces : List Piece) (more : List Control) → ComeAfter pieces more → AreAfter (ticks_at pieces) more
+are-after pieces more after = all-map (λ (at : ℕ). AllByRecursion (λ (c : Control). at + 1 ≤ c.tick) more) (λ (piece : Piece). piece.at) pieces after
 
-pub answer-next : (since : ℕ) (answers : List Answer) (a : Answer) → answer_after since answers ≡ None → answer_after since (answers ++ a ∷ []) ≡ (if counts_after since a then Some a else None)
-answer-next since answers a is = answer-skips since answers (a ∷ []) is
+-- more flow controls
+pub paced-more : (controls more : List Control) (pieces : List Piece) → ComeAfter pieces more → Paced controls pieces → Paced (controls ++ more) pieces
+paced-more controls more [] after paced = tt
+paced-more controls more (first ∷ later) after paced = more-paced controls more (Awaits first.at first.at) (ticks_at later) (are-after later more after.1) paced
 
-permits-by : (o p : Option Answer) (tick : ℕ) → ((a : Answer) → o ≡ Some a → p ≡ Some a) → Permits o tick → Permits p tick
-permits-by None p tick on may = absurd may
-permits-by (Some a) p tick on may = rw (on a refl) may
+pub pace-answered : (controls : List Control) (c : Control) (pieces : List Piece) → ComeAfter pieces (c ∷ []) → pace_after (controls ++ c ∷ []) pieces ≡ answered (pace_after controls pieces) c
+pace-answered controls c [] after = refl
+pace-answered controls c (first ∷ later) after =
+    let q : Pace = after_frames controls (Awaits first.at first.at) (ticks_at later) in
+    ap (λ p. answered_all p (controls ++ c ∷ [])) (after-more controls (c ∷ []) (Awaits first.at first.at) (ticks_at later) (are-after later (c ∷ []) after.1)) ∙ answered-more q controls (c ∷ [])
 
-permits-later : (o : Option Answer) (tick later : ℕ) → tick ≤ later → Permits o tick → Permits o later
-permits-later None tick later le may = may
-permits-later (Some a) tick later le may = (may.0, omega (arith, may.1, le))
+-- the next frame may leave from some tick on, which isn't after that one
+pub record Permits (controls : List Control) (pieces : List Piece) (block gap limit : ℕ) : Type 0 where
+  pub from : ℕ
+  pub is : pace_after controls pieces ≡ May from gap (block_of block)
+  pub by : from ≤ limit
 
--- the tick of the last of some frames
-abbrev pub last_at : Piece → List Piece → ℕ
-last_at piece [] = piece.at
-last_at piece (next ∷ later) = last_at next later
+pub permits-later : (controls : List Control) (pieces : List Piece) (block gap limit later : ℕ) → limit ≤ later → Permits controls pieces block gap limit → Permits controls pieces block gap later
+permits-later controls pieces block gap limit later le is = record { from = is.from; is = is.is; by = omega (arith, is.by, le) }
 
--- a further frame may leave in that tick
-abbrev pub MayLeave : List Answer → List Piece → ℕ → Type 0
-MayLeave answers [] tick = ⊥
-MayLeave answers (first ∷ []) tick = Permits (answer_after first.at answers) tick
-MayLeave answers (first ∷ next ∷ later) tick = last_at next later < tick
+pub permits-more : (controls : List Control) (c : Control) (pieces : List Piece) (block gap limit : ℕ) → ComeAfter pieces (c ∷ []) → Permits controls pieces block gap limit → Permits (controls ++ c ∷ []) pieces block gap limit
+permits-more controls c pieces block gap limit after is = record { from = is.from; is = pace-answered controls c pieces after ∙ ap (λ p. answered p c) is.is; by = is.by }
 
-pub may-later : (answers : List Answer) (pieces : List Piece) (tick later : ℕ) → tick ≤ later → MayLeave answers pieces tick → MayLeave answers pieces later
-may-later answers [] tick later le may = may
-may-later answers (first ∷ []) tick later le may = permits-later (answer_after first.at answers) tick later le may
-may-later answers (first ∷ next ∷ rest) tick later le may = omega (arith, may, le)
+-- one more frame
+may-go : (pace : Pace) (from gap : ℕ) (more : Option ℕ) (tick : ℕ) → pace ≡ May from gap more → from ≤ tick → MayGo pace tick
+may-go pace from gap more tick is le = let P : Pace → Type 0 = λ p. MayGo p tick in subst P (sym is) le
 
-pub may-more : (answers more : List Answer) (pieces : List Piece) (tick : ℕ) → MayLeave answers pieces tick → MayLeave (answers ++ more) pieces tick
-may-more answers more [] tick may = may
-may-more answers more (first ∷ []) tick may = permits-by (answer_after first.at answers) (answer_after first.at (answers ++ more)) tick (answer-more first.at answers more) may
-may-more answers more (first ∷ next ∷ later) tick may = may
+pub paced-next : (controls : List Control) (pieces : List Piece) (next : Piece) (block gap : ℕ) → AllByRecursion (λ (c : Control). c.tick ≤ next.at) controls → Permits controls pieces block gap next.at → Paced controls pieces → Paced controls (pieces ++ next ∷ [])
+paced-next controls [] next block gap past may paced = tt
+paced-next controls (first ∷ later) next block gap past may paced =
+    let q : Pace = after_frames controls (Awaits first.at first.at) (ticks_at later) in
+    let M : List Control → Type 0 = λ l. MayGo (answered_all q l) next.at in
+    let P : List ℕ → Type 0 = λ l. ArePacedFrom controls (Awaits first.at first.at) l in
+    subst P (sym (map-append (λ (piece : Piece). piece.at) later (next ∷ [])))
+    (next-paced controls (Awaits first.at first.at) (ticks_at later) next.at (subst M (sym (came-all next.at controls past)) (may-go (pace_after controls (first ∷ later)) may.from gap (block_of block) next.at may.is may.by)) paced)
 
-pub paced-more : (answers more : List Answer) (pieces : List Piece) → Paced answers pieces → Paced (answers ++ more) pieces
-paced-more answers more [] paced = tt
-paced-more answers more (first ∷ []) paced = tt
-paced-more answers more (first ∷ next ∷ later) paced =
-    (permits-by (answer_after first.at answers) (answer_after first.at (answers ++ more)) next.at (answer-more first.at answers more) paced.0, paced.1)
+pub pace-next : (controls : List Control) (pieces : List Piece) (next : Piece) (block gap : ℕ) → AllByRecursion (λ (c : Control). c.tick ≤ next.at) controls → (may : Permits controls pieces block gap next.at) →
+    pace_after controls (pieces ++ next ∷ []) ≡ answered_all (gone_on (May may.from gap (block_of block)) next.at) controls
+pace-next controls [] next block gap past may = let no : Refused 0 0 ≡ May may.from gap (block_of block) = may.is in cc
+pace-next controls (first ∷ later) next block gap past may =
+    let q : Pace = after_frames controls (Awaits first.at first.at) (ticks_at later) in
+    ap (λ l. answered_all (after_frames controls (Awaits first.at first.at) l) controls) (map-append (λ (piece : Piece). piece.at) later (next ∷ []))
+    ∙ ap (λ p. answered_all p controls) (after-next controls (Awaits first.at first.at) (ticks_at later) next.at ∙ ap (λ l. gone_on (answered_all q l) next.at) (came-all next.at controls past) ∙ ap (λ p. gone_on p next.at) may.is)
 
-spaced-next : (piece : Piece) (pieces : List Piece) (next : Piece) → last_at piece pieces < next.at → Spaced (piece ∷ pieces) → Spaced (piece ∷ (pieces ++ next ∷ []))
-spaced-next piece [] next lt spaced = (lt, tt)
-spaced-next piece (second ∷ pieces) next lt spaced = (spaced.0, spaced-next second pieces next lt spaced.1)
-
-pub paced-next : (answers : List Answer) (pieces : List Piece) (next : Piece) → MayLeave answers pieces next.at → Paced answers pieces → Paced answers (pieces ++ next ∷ [])
-paced-next answers [] next may paced = absurd may
-paced-next answers (first ∷ []) next may paced = (may, tt)
-paced-next answers (first ∷ second ∷ later) next may paced = (paced.0, spaced-next second later next may paced.1)
-
-last_at-next : (piece : Piece) (pieces : List Piece) (next : Piece) → last_at piece (pieces ++ next ∷ []) ≡ next.at
-last_at-next piece [] next = refl
-last_at-next piece (second ∷ pieces) next = last_at-next second pieces next
-
-pub may-next : (answers : List Answer) (pieces : List Piece) (next : Piece) (tick : ℕ) → MayLeave answers pieces next.at → next.at < tick → MayLeave answers (pieces ++ next ∷ []) tick
-may-next answers [] next tick may lt = absurd may
-may-next answers (first ∷ []) next tick may lt = lt
-may-next answers (first ∷ second ∷ later) next tick may lt = omega (arith, last_at-next second later next, lt)
+-- the first frame
+pub pace-first : (controls : List Control) (first : Piece) → AllByRecursion (λ (c : Control). c.tick ≤ first.at) controls → pace_after controls (first ∷ []) ≡ Awaits first.at first.at
+pace-first controls first past = awaits-stays first.at first.at controls past

@@ -87,8 +87,8 @@ each set tick event look next (Joins buf len) may below = record { fill = fill-j
 each set tick event look next (Looks s seen) may below = record { fill = fill-saw set next s.seq seen; number = omega arith; joined = below }
 each set tick event look next (Reads s cells) may below = record { fill = reads set next s.seq cells below; number = omega (arith, no-more set s.seq cells); joined = below }
 each set tick event look next (Offers s) may below = record { fill = fill-none (reading set.path.0 set.dest.0) next; number = omega arith; joined = below }
-each set tick event look next (Leaves s sent number phase) may below = record { fill = fill-none (reading set.path.0 set.dest.0) next; number = omega arith; joined = below }
-each set tick event look next (Waits s phase) may below = record { fill = fill-none (reading set.path.0 set.dest.0) next; number = omega arith; joined = below }
+each set tick event look next (Leaves s sent number block phase) may below = record { fill = fill-none (reading set.path.0 set.dest.0) next; number = omega arith; joined = below }
+each set tick event look next (Waits s phase block gap) may below = record { fill = fill-none (reading set.path.0 set.dest.0) next; number = omega arith; joined = below }
 each set tick event look next (Ends s sent act result left) may below = record { fill = fill-parted set next s.seq _; number = omega arith; joined = tt }
 
 law : (set : TxSet) (tick : ℕ) → IsDoneLaw set tick (FilledBy set)

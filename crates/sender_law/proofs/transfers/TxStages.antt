@@ -13,20 +13,22 @@ use Rattle.tp_sender.specs.declared.event.TxEvent.TheVariants.{Turn, Fc as CameF
 use Rattle.tp_sender.specs.declared.set.TxSet.{TxSet}
 use Rattle.tp_sender.specs.Effects.{AsksForOne, TxStage, TxDone, done_by}
 use Rattle.tp_sender.specs.Effects.{Reads}
-use Rattle.tp_unit.specs.Box.{Answer, box_then}
+use Rattle.flow_plan.specs.Pace.{Control}
+use Rattle.tp_unit.specs.Box.{box_then}
 use Rattle.tp_sender.specs.Runs.{after_left, controls_in, box_once, cells_in, lens_in, written_at}
 use Rattle.tp_sender.specs.State.{Transmission}
 use Rattle.tp_sender.proofs.Made.{amid}
 use Rattle.tp_unit.specs.declared.shape.Shape.{Shape}
 use Rattle.tp_unit.specs.Shape.{address_size}
 use Rattle.tp_unit.specs.Unit.{Meaning}
+use Rattle.sender_law.specs.Pacing.{controls_of}
 use Rattle.sender_law.specs.Transfer.{seen_of}
 use Rattle.sender_law.proofs.transfers.TxAnswers.{answers}
 use Rattle.sender_law.proofs.transfers.TxMoves.{is-read, lives-some, reads}
 use Rattle.sender_law.proofs.transfers.TxWorld.{GoesOn, SoFar, World}
 
 -- worlds of equal parts
-parts-so : (shape : Shape) (v : World) (address : ℕ) (frames : List Seen) (answers : List Answer) (lens : List ℕ) (read : ℕ → List ℕ) (records : List DestRecord) (live : Option Transmission) (now : ℕ) (box : Option Meaning) (clear next : ℕ) →
+parts-so : (shape : Shape) (v : World) (address : ℕ) (frames : List Seen) (answers : List Control) (lens : List ℕ) (read : ℕ → List ℕ) (records : List DestRecord) (live : Option Transmission) (now : ℕ) (box : Option Meaning) (clear next : ℕ) →
     v.told.address ≡ address → v.told.frames ≡ frames → v.told.answers ≡ answers → v.told.lens ≡ lens → ((number : ℕ) → v.told.read number ≡ read number) → v.told.records ≡ records → v.told.live ≡ live → v.told.now ≡ now → v.box ≡ box → v.clear ≡ clear → v.next ≡ next →
     SoFar shape v → SoFar shape (record { told = record { address = address; frames = frames; answers = answers; lens = lens; read = read; records = records; live = live; now = now }; box = box; clear = clear; next = next })
 parts-so shape v address frames answers lens read records live now box clear next a f w l r e i n b c x so = rw (← a, ← f, ← w, ← l, ← fun_ext r, ← e, ← i, ← n, ← b, ← c, ← x) so
@@ -38,7 +40,7 @@ same-so shape v w a f n l r e i o b c x so = parts-so shape v w.told.address w.t
 -- what an event adds by itself: a frame that left, a flow control that came
 abbrev pub event_in : TxSet → (tick : ℕ) → TxEvent → World → World
 event_in set tick event w = record w {
-  told = record w.told { frames = w.told.frames ++ map (seen_of (address_size set.shape)) (written_at set.shape event tick w.box); answers = w.told.answers ++ controls_in tick event };
+  told = record w.told { frames = w.told.frames ++ map (seen_of (address_size set.shape)) (written_at set.shape event tick w.box); answers = w.told.answers ++ controls_of set.period (controls_in tick event) };
   box = box_once event w.box;
   clear = after_left event tick w.clear;
 }

@@ -1,5 +1,5 @@
 -- All so far, after each effect of a sender's step.
-use Rattle.std.proofs.Common.{◌≡◌, ℕ, ◌+◌, ◌%◌, ◌<◌, ◌≤◌, Option, Some, None, List, [], ◌∷◌, ◌++◌, map, refl, ap, sym, subst, ◌∙◌, arith, append-nil, append_assoc}
+use Rattle.std.proofs.Common.{◌≡◌, ℕ, ◌+◌, ◌-◌, ◌%◌, ◌<◌, ◌≤◌, Option, Some, None, List, [], ◌∷◌, ◌++◌, map, refl, ap, sym, subst, ◌∙◌, arith, append-nil, append_assoc}
 use Rattle.std.proofs.Math.Path.{fun_ext}
 use Rattle.std.proofs.lemmas.Bool.Decides.{nat_tests}
 use Rattle.std.proofs.lemmas.List.Concat.{flat_map-append}
@@ -13,10 +13,12 @@ use Rattle.tp_sender.specs.declared.event.TxEvent.{TxEvent}
 use Rattle.tp_sender.specs.declared.event.TxEvent.TheVariants.{Turn, Fc as CameFc, Left, RunEnd}
 use Rattle.tp_sender.specs.declared.set.TxSet.{TxSet}
 use Rattle.tp_sender.specs.declared.transmission.Phase.{Phase}
-use Rattle.tp_sender.specs.declared.transmission.Phase.TheVariants.{Bytes, Box, Fc, Gap}
+use Rattle.tp_sender.specs.declared.transmission.Phase.TheVariants.{Bytes, Box, Fc}
 use Rattle.tp_sender.specs.Effects.{AwaitsNext, MayBe, MayEnd, MayWait, TxStage, TxDone, TxEffect, act_then, done_by, done_then, found_by, nothing_at, once_offered, once_waited, record_of}
-use Rattle.tp_sender.specs.Effects.{Misses, Joins, Looks, Reads, Offers, Leaves, Waits, Ends, AfterFirst, AfterNext, IsReached, GapIsOver, IsContinued, IsPaused, IsWhole, IsCut}
-use Rattle.tp_unit.specs.Box.{Answer, box_then}
+use Rattle.tp_sender.specs.Effects.{Misses, Joins, Looks, Reads, Offers, Leaves, Waits, Ends, AfterBlock, AfterFirst, AfterNext, IsReached, GapIsOver, IsContinued, IsPaused, IsWhole, IsCut}
+use Rattle.flow_plan.specs.Gap.{gap_in}
+use Rattle.flow_plan.specs.Pace.{Control}
+use Rattle.tp_unit.specs.Box.{box_then}
 use Rattle.tp_sender.specs.Runs.{cell_read, cells_in, len_joined, lens_in, written_at}
 use Rattle.tp_sender.specs.State.{Transmission}
 use Rattle.tp_sender.specs.Table.{in_phase, joined_in, next_part}
@@ -27,68 +29,75 @@ use Rattle.tp_unit.specs.Shape.{IsShape, address_size}
 use Rattle.tp_unit.specs.Unit.{BoxMeaning, Keeps, Offers as OffersUnit, Revokes, Meaning}
 use Rattle.tp_unit.proofs.Sizes.{length-address, size_of}
 use Rattle.tp_sender.specs.Frame.{part_after, unit_after}
+use Rattle.sender_law.specs.Pacing.{control_of}
 use Rattle.sender_law.specs.Transfer.{seen_of}
 use Rattle.sender_law.proofs.transfers.TxFrames.{seen_unit}
 use Rattle.sender_law.proofs.transfers.TxLeaves.{ended, ends}
-use Rattle.sender_law.proofs.transfers.TxLeft.{first-left, in-box, last-left, leaves, next-left}
-use Rattle.sender_law.proofs.transfers.TxAnswers.{answers, continues, ignored, waits}
+use Rattle.sender_law.proofs.transfers.TxLeft.{BlockIsOver, Follows, GapBegins, first-left, in-box, last-left, leaves, next-left, next_left}
+use Rattle.sender_law.proofs.transfers.TxAnswers.{answers, continues, ignored, waits, with_block}
 use Rattle.sender_law.proofs.transfers.TxMoves.{joined, joins, lives-some, offered, offers, resumes, starts, with_live}
 use Rattle.sender_law.proofs.transfers.TxWorld.{GoesOn, IsBoxed, SoFar, World}
 use Rattle.sender_law.proofs.transfers.TxStages.{IsAt, IsTimely, IsTold, LeadsOn, SoFarBut, alone-so, asked, done_in, event_in, in-turn, nothing-more, quiet, reads-so, same-so, told-anew, turn-anew}
 
--- the session that a turn finds waits for something else from now on
+-- the session that a turn finds waits for its next frame's bytes from now on
 turn-waits : (set : TxSet) (tick : ℕ) (look : Option Look) (next : ℕ) (s : Transmission) (w : World) → w.next ≡ next → w.told.now ≡ tick → SoFar set.shape (with_live (Some (in_phase Bytes w.told.now s)) w) →
-    SoFar set.shape (done_in (done_by set tick (amid Turn look next (Some s)) (Waits s Bytes)) w)
+    SoFar set.shape (done_in (done_by set tick (amid Turn look next (Some s)) (Waits s Bytes s.block s.gap)) w)
 turn-waits set tick look next s w same now so =
-    alone-so set.shape (with_live (Some (in_phase Bytes w.told.now s)) w) w (done_by set tick (amid Turn look next (Some s)) (Waits s Bytes)) refl refl refl refl refl refl (λ number. refl) refl (ap (λ t. Some (in_phase Bytes t s)) now) refl refl refl same so
+    alone-so set.shape (with_live (Some (in_phase Bytes w.told.now s)) w) w (done_by set tick (amid Turn look next (Some s)) (Waits s Bytes s.block s.gap)) refl refl refl refl refl refl (λ number. refl) refl (ap (λ t. Some (in_phase Bytes t s)) now) refl refl refl same so
 
 -- a flow control that the session awaits
-answer-of : (set : TxSet) (tick fs bs st : ℕ) (look : Option Look) (next : ℕ) (s : Transmission) (phase : Phase) (v : World) → v.next ≡ next → v.told.now ≡ tick →
-    SoFar set.shape (answers (record { tick = tick; status = fs; block_size = bs; separation = st }) (Some (in_phase phase v.told.now s)) v) →
-    SoFar set.shape (done_in (done_by set tick (amid (CameFc fs bs st) look next (Some s)) (Waits s phase)) (event_in set tick (CameFc fs bs st) v))
-answer-of set tick fs bs st look next s phase v same now so =
-    alone-so set.shape (answers (record { tick = tick; status = fs; block_size = bs; separation = st }) (Some (in_phase phase v.told.now s)) v) (event_in set tick (CameFc fs bs st) v) (done_by set tick (amid (CameFc fs bs st) look next (Some s)) (Waits s phase))
-    refl refl refl (sym (append-nil v.told.frames)) refl refl (λ number. refl) refl (ap (λ t. Some (in_phase phase t s)) now) refl refl refl same so
+answer-of : (set : TxSet) (tick fs bs st : ℕ) (look : Option Look) (next : ℕ) (s : Transmission) (phase : Phase) (block gap : ℕ) (v : World) → v.next ≡ next → v.told.now ≡ tick →
+    SoFar set.shape (answers (control_of set.period (record { tick = tick; status = fs; block_size = bs; separation = st })) (Some (in_phase phase v.told.now (with_block block gap s))) v) →
+    SoFar set.shape (done_in (done_by set tick (amid (CameFc fs bs st) look next (Some s)) (Waits s phase block gap)) (event_in set tick (CameFc fs bs st) v))
+answer-of set tick fs bs st look next s phase block gap v same now so =
+    alone-so set.shape (answers (control_of set.period (record { tick = tick; status = fs; block_size = bs; separation = st })) (Some (in_phase phase v.told.now (with_block block gap s))) v) (event_in set tick (CameFc fs bs st) v) (done_by set tick (amid (CameFc fs bs st) look next (Some s)) (Waits s phase block gap))
+    refl refl refl (sym (append-nil v.told.frames)) refl refl (λ number. refl) refl (ap (λ t. Some (in_phase phase t (with_block block gap s))) now) refl refl refl same so
 
-waits-by : (set : TxSet) (tick : ℕ) (look : Option Look) (next : ℕ) (s : Transmission) (phase : Phase) (event : TxEvent) (w : World) → MayWait tick event s.phase phase → IsAt tick (amid event look next (Some s)) w → IsTold set tick event w →
-    SoFarBut set tick (once_waited (Some event)) (done_in (done_by set tick (amid event look next (Some s)) (Waits s phase)) w)
-waits-by set tick look next s phase event w (IsReached turn was is) at told =
-    let P : TxEvent → Type 0 = λ e. SoFarBut set tick (once_waited (Some e)) (done_in (done_by set tick (amid e look next (Some s)) (Waits s phase)) w) in
-    let Q : Phase → Type 0 = λ p. SoFar set.shape (done_in (done_by set tick (amid Turn look next (Some s)) (Waits s p)) w) in
+-- with what the session waits by now
+by-now : (set : TxSet) (tick : ℕ) (look : Option Look) (next : ℕ) (s : Transmission) (event : TxEvent) (w : World) (phase at : Phase) (block b gap g : ℕ) → phase ≡ at → block ≡ b → gap ≡ g →
+    SoFar set.shape (done_in (done_by set tick (amid event look next (Some s)) (Waits s at b g)) w) → SoFar set.shape (done_in (done_by set tick (amid event look next (Some s)) (Waits s phase block gap)) w)
+by-now set tick look next s event w phase at block b gap g p q r so = rw (p, q, r) so
+
+waits-by : (set : TxSet) (tick : ℕ) (look : Option Look) (next : ℕ) (s : Transmission) (phase : Phase) (block gap : ℕ) (event : TxEvent) (w : World) → MayWait set tick event s phase block gap → IsAt tick (amid event look next (Some s)) w → IsTold set tick event w →
+    SoFarBut set tick (once_waited (Some event)) (done_in (done_by set tick (amid event look next (Some s)) (Waits s phase block gap)) w)
+waits-by set tick look next s phase block gap event w (IsReached turn was is kept) at told =
+    let P : TxEvent → Type 0 = λ e. SoFarBut set tick (once_waited (Some e)) (done_in (done_by set tick (amid e look next (Some s)) (Waits s phase block gap)) w) in
     let so : SoFar set.shape w = in-turn set tick event w turn told in
-    subst P (sym turn) (told-anew set tick Turn _ tt (subst Q (sym is) (turn-waits set tick look next s w at.next at.now (starts set.shape w s at.live was so))))
-waits-by set tick look next s phase event w (GapIsOver until turn was over is) at told =
-    let P : TxEvent → Type 0 = λ e. SoFarBut set tick (once_waited (Some e)) (done_in (done_by set tick (amid e look next (Some s)) (Waits s phase)) w) in
-    let Q : Phase → Type 0 = λ p. SoFar set.shape (done_in (done_by set tick (amid Turn look next (Some s)) (Waits s p)) w) in
+    subst P (sym turn) (told-anew set tick Turn _ tt (by-now set tick look next s Turn w phase Bytes block s.block gap s.gap is kept.0 kept.1 (turn-waits set tick look next s w at.next at.now (starts set.shape w s at.live was so))))
+waits-by set tick look next s phase block gap event w (GapIsOver until turn was over is kept) at told =
+    let P : TxEvent → Type 0 = λ e. SoFarBut set tick (once_waited (Some e)) (done_in (done_by set tick (amid e look next (Some s)) (Waits s phase block gap)) w) in
     let so : SoFar set.shape w = in-turn set tick event w turn told in
-    subst P (sym turn) (told-anew set tick Turn _ tt (subst Q (sym is) (turn-waits set tick look next s w at.next at.now (resumes set.shape w s until at.live was (omega (arith, over, at.now)) so))))
-waits-by set tick look next s phase event w (IsContinued bs st came was is) at told =
+    subst P (sym turn) (told-anew set tick Turn _ tt (by-now set tick look next s Turn w phase Bytes block s.block gap s.gap is kept.0 kept.1 (turn-waits set tick look next s w at.next at.now (resumes set.shape w s until at.live was (omega (arith, over, at.now)) so))))
+waits-by set tick look next s phase block gap event w (IsContinued bs st came was is size gap_is) at told =
     let e : TxEvent = CameFc 0 bs st in
     let v : World = told.before in
-    let a : Answer = record { tick = tick; status = 0; block_size = bs; separation = st } in
-    let P : TxEvent → Type 0 = λ x. SoFarBut set tick (once_waited (Some x)) (done_in (done_by set tick (amid x look next (Some s)) (Waits s phase)) w) in
-    let Q : Phase → Type 0 = λ p. SoFar set.shape (done_in (done_by set tick (amid e look next (Some s)) (Waits s p)) w) in
-    let W : World → Type 0 = λ x. SoFar set.shape (done_in (done_by set tick (amid e look next (Some s)) (Waits s Bytes)) x) in
+    let c : Control = control_of set.period (record { tick = tick; status = 0; block_size = bs; separation = st }) in
+    let P : TxEvent → Type 0 = λ x. SoFarBut set tick (once_waited (Some x)) (done_in (done_by set tick (amid x look next (Some s)) (Waits s phase block gap)) w) in
+    let W : World → Type 0 = λ x. SoFar set.shape (done_in (done_by set tick (amid e look next (Some s)) (Waits s Bytes bs (gap_in st set.period))) x) in
     let I : TxEvent → Type 0 = λ x. w ≡ event_in set tick x v in
     let T : TxEvent → Type 0 = λ x. IsTimely x tick v.clear in
     let same : w ≡ event_in set tick e v = subst I came told.is in
     let now : v.told.now ≡ tick = sym (ap (λ (x : World). x.told.now) same) ∙ at.now in
     let live : v.told.live ≡ Some s = sym (ap (λ (x : World). x.told.live) same) ∙ at.live in
     let next_is : v.next ≡ next = sym (ap (λ (x : World). x.next) same) ∙ at.next in
-    subst P (sym came) (subst Q (sym is) (subst W (sym same) (answer-of set tick 0 bs st look next s Bytes v next_is now (continues set.shape v s a live was (sym now) refl (let le : v.clear ≤ tick = subst T came told.timely in omega (arith, le, now)) told.so))))
-waits-by set tick look next s phase event w (IsPaused bs st came was is) at told =
+    let le : v.clear ≤ tick = subst T came told.timely in
+    subst P (sym came) (by-now set tick look next s e w phase Bytes block bs gap (gap_in st set.period) is size gap_is
+    (subst W (sym same) (answer-of set tick 0 bs st look next s Bytes bs (gap_in st set.period) v next_is now (continues set.shape v s c live was (sym now) refl (omega (arith, le, now)) told.so))))
+waits-by set tick look next s phase block gap event w (IsPaused bs st came was is kept) at told =
     let e : TxEvent = CameFc 1 bs st in
     let v : World = told.before in
-    let a : Answer = record { tick = tick; status = 1; block_size = bs; separation = st } in
-    let P : TxEvent → Type 0 = λ x. SoFarBut set tick (once_waited (Some x)) (done_in (done_by set tick (amid x look next (Some s)) (Waits s phase)) w) in
-    let Q : Phase → Type 0 = λ p. SoFar set.shape (done_in (done_by set tick (amid e look next (Some s)) (Waits s p)) w) in
-    let W : World → Type 0 = λ x. SoFar set.shape (done_in (done_by set tick (amid e look next (Some s)) (Waits s Fc)) x) in
+    let c : Control = control_of set.period (record { tick = tick; status = 1; block_size = bs; separation = st }) in
+    let P : TxEvent → Type 0 = λ x. SoFarBut set tick (once_waited (Some x)) (done_in (done_by set tick (amid x look next (Some s)) (Waits s phase block gap)) w) in
+    let W : World → Type 0 = λ x. SoFar set.shape (done_in (done_by set tick (amid e look next (Some s)) (Waits s Fc s.block s.gap)) x) in
     let I : TxEvent → Type 0 = λ x. w ≡ event_in set tick x v in
+    let T : TxEvent → Type 0 = λ x. IsTimely x tick v.clear in
     let same : w ≡ event_in set tick e v = subst I came told.is in
     let now : v.told.now ≡ tick = sym (ap (λ (x : World). x.told.now) same) ∙ at.now in
     let live : v.told.live ≡ Some s = sym (ap (λ (x : World). x.told.live) same) ∙ at.live in
     let next_is : v.next ≡ next = sym (ap (λ (x : World). x.next) same) ∙ at.next in
-    subst P (sym came) (subst Q (sym is) (subst W (sym same) (answer-of set tick 1 bs st look next s Fc v next_is now (waits set.shape v s a live was (sym now) refl told.so))))
+    let le : v.clear ≤ tick = subst T came told.timely in
+    subst P (sym came) (by-now set tick look next s e w phase Fc block s.block gap s.gap is kept.0 kept.1
+    (subst W (sym same) (answer-of set tick 1 bs st look next s Fc s.block s.gap v next_is now (waits set.shape v s c live was (sym now) refl (omega (arith, le, now)) told.so))))
 
 pub part-some : (shape : Shape) (len sent : ℕ) → IsShape shape → sent < len → 0 < part_after shape len sent
 part-some shape len sent sound more = grind (arith, nat_tests, size_of shape sound, length-address shape.address)
@@ -108,21 +117,34 @@ lies-in set v s live box so =
     let boxed : IsBoxed set.shape s.len s.sent s.number v.box on.offered = in-box set.shape s.len s.sent s.number s.phase v.box on.offered box on.box in
     (unit_after set.shape s.len s.sent s.number on.offered, boxed.lies, on.unfinished)
 
-leaves-on : (set : TxSet) (tick : ℕ) (look : Option Look) (next : ℕ) (s : Transmission) (sent number : ℕ) (phase : Phase) (v : World) → IsShape set.shape → v.told.live ≡ Some s → v.next ≡ next → v.told.now ≡ tick → s.phase ≡ Box → s.sent + next_part set s < s.len → AwaitsNext set tick s sent number phase →
-    SoFar set.shape v → SoFar set.shape (done_in (done_by set tick (amid Left look next (Some s)) (Leaves s sent number phase)) (event_in set tick Left v))
-leaves-on set tick look next s sent number phase v sound live same now box more (AfterFirst none all kept is) so =
+-- what left, with its numbers
+left-as : (set : TxSet) (tick : ℕ) (look : Option Look) (next : ℕ) (s : Transmission) (w : World) (sent k number n block b : ℕ) (phase at : Phase) → sent ≡ k → number ≡ n → block ≡ b → phase ≡ at →
+    SoFar set.shape (done_in (done_by set tick (amid Left look next (Some s)) (Leaves s k n b at)) w) → SoFar set.shape (done_in (done_by set tick (amid Left look next (Some s)) (Leaves s sent number block phase)) w)
+left-as set tick look next s w sent k number n block b phase at p q r t so = rw (p, q, r, t) so
+
+leaves-next : (set : TxSet) (tick : ℕ) (look : Option Look) (next : ℕ) (s : Transmission) (phase : Phase) (v : World) → IsShape set.shape → v.told.live ≡ Some s → v.next ≡ next → v.told.now ≡ tick → s.phase ≡ Box → 0 < s.sent → s.sent + next_part set s < s.len → Follows tick s phase →
+    SoFar set.shape v → SoFar set.shape (done_in (done_by set tick (amid Left look next (Some s)) (Leaves s (s.sent + next_part set s) ((s.number + 1) % 16) (s.block - 1) phase)) (event_in set tick Left v))
+leaves-next set tick look next s phase v sound live same now box some more follows so =
     let lies = lies-in set v s live box so in
-    let part : ℕ = next_part set s in
-    let D : ℕ → ℕ → Phase → Type 0 = λ k n p. SoFar set.shape (done_in (done_by set tick (amid Left look next (Some s)) (Leaves s k n p)) (event_in set tick Left v)) in
+    let F : ℕ → Type 0 = λ t. SoFar set.shape (leaves (seen_unit set.shape t lies.0) [] (Some (in_phase phase t (next_left set.shape s))) v) in
+    let N : ℕ → Type 0 = λ t. Follows t s phase in
+    left-so set tick v lies.0 [] (Some (in_phase phase tick (next_left set.shape s))) (done_by set tick (amid Left look next (Some s)) (Leaves s (s.sent + next_part set s) ((s.number + 1) % 16) (s.block - 1) phase)) lies.1 now refl (λ number. refl) refl refl refl same
+    (subst F now (next-left set.shape v s lies.0 phase sound live box lies.1 some more (subst N (sym now) follows) so))
+
+leaves-on : (set : TxSet) (tick : ℕ) (look : Option Look) (next : ℕ) (s : Transmission) (sent number block : ℕ) (phase : Phase) (v : World) → IsShape set.shape → v.told.live ≡ Some s → v.next ≡ next → v.told.now ≡ tick → s.phase ≡ Box → s.sent + next_part set s < s.len → AwaitsNext set tick s sent number block phase →
+    SoFar set.shape v → SoFar set.shape (done_in (done_by set tick (amid Left look next (Some s)) (Leaves s sent number block phase)) (event_in set tick Left v))
+leaves-on set tick look next s sent number block phase v sound live same now box more (AfterFirst none all kept stays is) so =
+    let lies = lies-in set v s live box so in
     let F : ℕ → Type 0 = λ t. SoFar set.shape (leaves (seen_unit set.shape t lies.0) [] (Some (in_phase Fc t (record s { sent = next_part set s }))) v) in
-    rw (all, kept, is) (left-so set tick v lies.0 [] (Some (in_phase Fc tick (record s { sent = next_part set s }))) (done_by set tick (amid Left look next (Some s)) (Leaves s (next_part set s) s.number Fc)) lies.1 now refl (λ number. refl) refl refl refl same
+    left-as set tick look next s (event_in set tick Left v) sent (next_part set s) number s.number block s.block phase Fc all kept stays is
+    (left-so set tick v lies.0 [] (Some (in_phase Fc tick (record s { sent = next_part set s }))) (done_by set tick (amid Left look next (Some s)) (Leaves s (next_part set s) s.number s.block Fc)) lies.1 now refl (λ number. refl) refl refl refl same
     (subst F now (first-left set.shape v s lies.0 sound live box lies.1 none (omega (arith, more)) (part-some set.shape s.len s.sent sound lies.2) so)))
-leaves-on set tick look next s sent number phase v sound live same now box more (AfterNext some all kept is) so =
-    let lies = lies-in set v s live box so in
-    let F : ℕ → Type 0 = λ t. SoFar set.shape (leaves (seen_unit set.shape t lies.0) [] (Some (in_phase (Gap (record { 0 = t + 1 })) t (record s { sent = s.sent + next_part set s; number = (s.number + 1) % 16 }))) v) in
-    rw (all, kept, is) (left-so set tick v lies.0 [] (Some (in_phase (Gap (record { 0 = tick + 1 })) tick (record s { sent = s.sent + next_part set s; number = (s.number + 1) % 16 })))
-    (done_by set tick (amid Left look next (Some s)) (Leaves s (s.sent + next_part set s) ((s.number + 1) % 16) (Gap (record { 0 = tick + 1 })))) lies.1 now refl (λ number. refl) refl refl refl same
-    (subst F now (next-left set.shape v s lies.0 sound live box lies.1 some more so)))
+leaves-on set tick look next s sent number block phase v sound live same now box more (AfterBlock one over is) so =
+    left-as set tick look next s (event_in set tick Left v) sent (s.sent + next_part set s) number ((s.number + 1) % 16) block (s.block - 1) phase phase one.sent_is one.number_is one.block_is refl
+    (leaves-next set tick look next s phase v sound live same now box one.some more (BlockIsOver over is) so)
+leaves-on set tick look next s sent number block phase v sound live same now box more (AfterNext one out is) so =
+    left-as set tick look next s (event_in set tick Left v) sent (s.sent + next_part set s) number ((s.number + 1) % 16) block (s.block - 1) phase phase one.sent_is one.number_is one.block_is refl
+    (leaves-next set tick look next s phase v sound live same now box one.some more (GapBegins out is) so)
 
 -- a session ends
 ends-cut : (set : TxSet) (tick : ℕ) (event : TxEvent) (look : Option Look) (next : ℕ) (s : Transmission) (act : BoxMeaning) (result : DestResult) (left : LeftOver) (w : World) → w.told.live ≡ Some s → w.next ≡ next → w.told.now ≡ tick → (result ≡ Sent → ⊥) → SoFar set.shape w →
@@ -131,25 +153,25 @@ ends-cut set tick event look next s act result left w live same now other so =
     same-so set.shape (ends set.path set.dest s result (box_then act w.box) w) (done_in (done_by set tick (amid event look next (Some s)) (Ends s s.sent act result left)) w) refl refl refl (sym (append-nil w.told.lens)) (nothing-more w)
     (ap (λ t. w.told.records ++ record_of set t s s.sent result ∷ []) now) refl refl refl refl same (ended set.shape w s set.path set.dest result (box_then act w.box) live other so)
 
-cut-by : (set : TxSet) (tick : ℕ) (event : TxEvent) (look : Option Look) (next : ℕ) (s : Transmission) (act : BoxMeaning) (result : DestResult) (left : LeftOver) (v : World) → v.told.live ≡ Some s → v.next ≡ next → v.told.now ≡ tick → (event ≡ Left → ⊥) → (result ≡ Sent → ⊥) → SoFar set.shape v →
+cut-by : (set : TxSet) (tick : ℕ) (event : TxEvent) (look : Option Look) (next : ℕ) (s : Transmission) (act : BoxMeaning) (result : DestResult) (left : LeftOver) (v : World) → v.told.live ≡ Some s → v.next ≡ next → v.told.now ≡ tick → IsTimely event tick v.clear → (event ≡ Left → ⊥) → (result ≡ Sent → ⊥) → SoFar set.shape v →
     SoFar set.shape (done_in (done_by set tick (amid event look next (Some s)) (Ends s s.sent act result left)) (event_in set tick event v))
-cut-by set tick Turn look next s act result left v live same now out other so = ends-cut set tick Turn look next s act result left (event_in set tick Turn v) live same now other (quiet set tick Turn v tt so)
-cut-by set tick (CameFc fs bs st) look next s act result left v live same now out other so =
-    let a : Answer = record { tick = tick; status = fs; block_size = bs; separation = st } in
+cut-by set tick Turn look next s act result left v live same now timely out other so = ends-cut set tick Turn look next s act result left (event_in set tick Turn v) live same now other (quiet set tick Turn v tt so)
+cut-by set tick (CameFc fs bs st) look next s act result left v live same now timely out other so =
+    let a : Control = control_of set.period (record { tick = tick; status = fs; block_size = bs; separation = st }) in
     let u : World = done_in (done_by set tick (amid (CameFc fs bs st) look next (Some s)) (Ends s s.sent act result left)) v in
     same-so set.shape (answers a None u) (done_in (done_by set tick (amid (CameFc fs bs st) look next (Some s)) (Ends s s.sent act result left)) (event_in set tick (CameFc fs bs st) v)) refl (sym (append-nil v.told.frames)) refl refl (λ number. refl) refl refl refl refl refl refl
-    (ignored set.shape u a tt (omega (arith, now)) (ends-cut set tick (CameFc fs bs st) look next s act result left v live same now other so))
-cut-by set tick Left look next s act result left v live same now out other so = absurd (out refl)
-cut-by set tick RunEnd look next s act result left v live same now out other so = ends-cut set tick RunEnd look next s act result left (event_in set tick RunEnd v) live same now other (quiet set tick RunEnd v tt so)
+    (ignored set.shape u a tt (omega (arith, now)) timely (ends-cut set tick (CameFc fs bs st) look next s act result left v live same now other so))
+cut-by set tick Left look next s act result left v live same now timely out other so = absurd (out refl)
+cut-by set tick RunEnd look next s act result left v live same now timely out other so = ends-cut set tick RunEnd look next s act result left (event_in set tick RunEnd v) live same now other (quiet set tick RunEnd v tt so)
 
-ends-by : (set : TxSet) (tick : ℕ) (event : TxEvent) (look : Option Look) (next : ℕ) (s : Transmission) (sent : ℕ) (act : BoxMeaning) (result : DestResult) (left : LeftOver) (v : World) → IsShape set.shape → v.told.live ≡ Some s → v.next ≡ next → v.told.now ≡ tick → MayEnd set event look s sent act result → SoFar set.shape v →
+ends-by : (set : TxSet) (tick : ℕ) (event : TxEvent) (look : Option Look) (next : ℕ) (s : Transmission) (sent : ℕ) (act : BoxMeaning) (result : DestResult) (left : LeftOver) (v : World) → IsShape set.shape → v.told.live ≡ Some s → v.next ≡ next → v.told.now ≡ tick → IsTimely event tick v.clear → MayEnd set event look s sent act result → SoFar set.shape v →
     SoFar set.shape (done_in (done_by set tick (amid event look next (Some s)) (Ends s sent act result left)) (event_in set tick event v))
-ends-by set tick event look next s sent act result left v sound live same now (IsWhole told box whole all keeps is) so =
+ends-by set tick event look next s sent act result left v sound live same now timely (IsWhole told box whole all keeps is) so =
     let lies = lies-in set v s live box so in
     let F : ℕ → Type 0 = λ t. SoFar set.shape (leaves (seen_unit set.shape t lies.0) (record_of set t s s.len Sent ∷ []) None v) in
     rw (told, all, keeps, is) (left-so set tick v lies.0 (record_of set tick s s.len Sent ∷ []) None (done_by set tick (amid Left look next (Some s)) (Ends s s.len Keeps Sent left)) lies.1 now refl (λ number. refl) refl refl refl same
     (subst F now (last-left set.shape v s lies.0 set.path set.dest sound live box lies.1 whole so)))
-ends-by set tick event look next s sent act result left v sound live same now (IsCut out other all keeps shows) so = rw all (cut-by set tick event look next s act result left v live same now out other so)
+ends-by set tick event look next s sent act result left v sound live same now timely (IsCut out other all keeps shows) so = rw all (cut-by set tick event look next s act result left v live same now timely out other so)
 
 -- an event that is told is in the world
 before-of : (set : TxSet) (tick : ℕ) (p : TxStage) (event : TxEvent) (w : World) → IsAt tick p w → (told : IsTold set tick event w) → IsAt tick p told.before
@@ -173,16 +195,16 @@ each set tick sound event look next (Reads s cells) may w at told = turn-anew se
 each set tick sound event look next (Offers s) may w at told =
     alone-so set.shape (offers set.shape s w) w (done_by set tick (amid event look next (Some s)) (Offers s)) refl refl refl refl refl refl (λ number. refl) refl (ap (λ t. Some (once_offered set t s)) at.now) refl refl refl at.next
     (offered set.shape w s at.live may.phase may.enough may.fits (in-turn set tick event w may.turn told))
-each set tick sound event look next (Leaves s sent number phase) may w at told =
+each set tick sound event look next (Leaves s sent number block phase) may w at told =
     let before = before-of set tick (amid event look next (Some s)) event w at told in
-    let P : World → Type 0 = λ x. SoFar set.shape (done_in (done_by set tick (amid event look next (Some s)) (Leaves s sent number phase)) x) in
-    let Q : TxEvent → Type 0 = λ e. SoFar set.shape (done_in (done_by set tick (amid e look next (Some s)) (Leaves s sent number phase)) (event_in set tick e told.before)) in
-    subst P (sym told.is) (subst Q (sym may.left) (leaves-on set tick look next s sent number phase told.before sound before.live before.next before.now may.box may.more may.next told.so))
-each set tick sound event look next (Waits s phase) may w at told = waits-by set tick look next s phase event w may at told
+    let P : World → Type 0 = λ x. SoFar set.shape (done_in (done_by set tick (amid event look next (Some s)) (Leaves s sent number block phase)) x) in
+    let Q : TxEvent → Type 0 = λ e. SoFar set.shape (done_in (done_by set tick (amid e look next (Some s)) (Leaves s sent number block phase)) (event_in set tick e told.before)) in
+    subst P (sym told.is) (subst Q (sym may.left) (leaves-on set tick look next s sent number block phase told.before sound before.live before.next before.now may.box may.more may.next told.so))
+each set tick sound event look next (Waits s phase block gap) may w at told = waits-by set tick look next s phase block gap event w may at told
 each set tick sound event look next (Ends s sent act result left) may w at told =
     let before = before-of set tick (amid event look next (Some s)) event w at told in
     let P : World → Type 0 = λ x. SoFar set.shape (done_in (done_by set tick (amid event look next (Some s)) (Ends s sent act result left)) x) in
-    subst P (sym told.is) (ends-by set tick event look next s sent act result left told.before sound before.live before.next before.now may told.so)
+    subst P (sym told.is) (ends-by set tick event look next s sent act result left told.before sound before.live before.next before.now told.timely may told.so)
 
 -- one after another
 box-both : (first later : BoxMeaning) (lies : Option Meaning) → box_then later (box_then first lies) ≡ box_then (act_then first later) lies

@@ -2,7 +2,7 @@
 use Rattle.std.proofs.Common.{◌≡◌, ℕ, ◌+◌, ◌%◌, ◌<◌, ◌≤◌, Option, Some, None, List, [], ◌∷◌, ◌++◌, length, true, false, sym, subst, ◌∙◌, arith, length-append}
 use Rattle.tp_sender.specs.declared.transmission.Phase.{Phase}
 use Rattle.tp_sender.specs.declared.transmission.Phase.TheVariants.{Start, Bytes, Box, Fc, Gap}
-use Rattle.tp_unit.specs.Box.{Answer}
+use Rattle.flow_plan.specs.Pace.{Awaits, Control}
 use Rattle.tp_sender.specs.State.{Transmission}
 use Rattle.std.proofs.lemmas.List.{take-append-le}
 use Rattle.std.specs.Prelude.{filter, map, slice_get}
@@ -16,9 +16,10 @@ use Rattle.tp_sender.specs.Frame.{part_after, unit_after}
 use Rattle.tp_unit.specs.declared.shape.Shape.{Shape}
 use Rattle.tp_unit.specs.Shape.{address_size, fits_shape}
 use Rattle.tp_unit.specs.Unit.{Meaning}
-use Rattle.sender_law.specs.Transfer.{NumberedFrom, Paced, Sends, SendsFor, Tells, Transfer, answer_after, has_sent, ticks_of}
+use Rattle.sender_law.specs.Transfer.{NumberedFrom, Sends, SendsFor, Tells, Transfer, has_sent, ticks_of}
+use Rattle.sender_law.specs.Pacing.{Paced}
 use Rattle.gw_base.proofs.Lists.{all-weaker, slice_get-more, zip-weaker}
-use Rattle.sender_law.proofs.transfers.TxPaces.{MayLeave, paced-more}
+use Rattle.sender_law.proofs.transfers.TxPaces.{Permits, come-after, pace_after, paced-more}
 
 -- what is told, and besides: what lies in the box, the tick after the last frame's, the number of the next session
 pub record World : Type 0 where
@@ -35,22 +36,23 @@ IsEarly Box = Unit {0}
 IsEarly Fc = ⊥
 IsEarly (Gap until) = ⊥
 
--- the one frame that left isn't answered
-pub record Unanswered (answers : List Answer) (pieces : List Piece) : Type 0 where
-  pub first : Piece
-  pub one : pieces ≡ first ∷ []
-  pub none : answer_after first.at answers ≡ None
+-- a flow control is awaited that answers a frame which left before
+pub record Unanswered (answers : List Control) (clear : ℕ) (pieces : List Piece) : Type 0 where
+  pub left : ℕ
+  pub since : ℕ
+  pub is : pace_after answers pieces ≡ Awaits left since
+  pub before : left < clear
 
 -- from which tick on the next frame may leave
-abbrev pub Ready : List Answer → List Piece → Phase → ℕ → Type 0
-Ready answers pieces Start since = ⊥
-Ready answers pieces Bytes since = MayLeave answers pieces since
-Ready answers pieces Box since = MayLeave answers pieces since
-Ready answers pieces Fc since = Unanswered answers pieces
-Ready answers pieces (Gap until) since = MayLeave answers pieces until.0
+abbrev pub Ready : List Control → (clear : ℕ) → List Piece → (block gap : ℕ) → Phase → ℕ → Type 0
+Ready answers clear pieces block gap Start since = ⊥
+Ready answers clear pieces block gap Bytes since = Permits answers pieces block gap since
+Ready answers clear pieces block gap Box since = Permits answers pieces block gap since
+Ready answers clear pieces block gap Fc since = Unanswered answers clear pieces
+Ready answers clear pieces block gap (Gap until) since = Permits answers pieces block gap until.0
 
 -- the frames that left carry the first bytes
-pub record IsOnWay (shape : Shape) (answers : List Answer) (clear begin now len : ℕ) (taken : List ℕ) (walk : Walk) : Type 0 where
+pub record IsOnWay (shape : Shape) (answers : List Control) (clear begin now len : ℕ) (taken : List ℕ) (walk : Walk) : Type 0 where
   pub len_is : walk.len ≡ len
   pub size : length taken < len → walk.size ≡ shape.dl
   pub right : walk.wrong ≡ None
@@ -60,10 +62,10 @@ pub record IsOnWay (shape : Shape) (answers : List Answer) (clear begin now len 
   pub paced : Paced answers walk.pieces
 
 -- nothing left yet, or a transmission is going on
-pub data Way (shape : Shape) (answers : List Answer) (clear begin now len number sent : ℕ) (taken : List ℕ) (phase : Phase) (since : ℕ) (going : List (Cut Seen)) : Type 0 where
-  Unsent : sent ≡ 0 → number ≡ 1 → taken ≡ [] → going ≡ [] → IsEarly phase → Way shape answers clear begin now len number sent taken phase since going
+pub data Way (shape : Shape) (answers : List Control) (clear begin now len number sent block gap : ℕ) (taken : List ℕ) (phase : Phase) (since : ℕ) (going : List (Cut Seen)) : Type 0 where
+  Unsent : sent ≡ 0 → number ≡ 1 → taken ≡ [] → going ≡ [] → IsEarly phase → Way shape answers clear begin now len number sent block gap taken phase since going
   UnderWay : (cut : Cut Seen) → 0 < sent → going ≡ cut ∷ [] → number ≡ length (walk_of (address_size shape) cut).pieces % 16 → IsOnWay shape answers clear begin now len taken (walk_of (address_size shape) cut) →
-      map (λ piece. piece.at) (walk_of (address_size shape) cut).pieces ≡ ticks_of cut → Ready answers (walk_of (address_size shape) cut).pieces phase since → Way shape answers clear begin now len number sent taken phase since going
+      map (λ piece. piece.at) (walk_of (address_size shape) cut).pieces ≡ ticks_of cut → Ready answers clear (walk_of (address_size shape) cut).pieces block gap phase since → Way shape answers clear begin now len number sent block gap taken phase since going
 
 -- the next frame lies in the box
 pub record IsBoxed (shape : Shape) (len sent number : ℕ) (box : Option Meaning) (offered : List ℕ) : Type 0 where
@@ -92,16 +94,22 @@ pub record GoesOn (shape : Shape) (w : World) (s : Transmission) (going : List (
   pub read : w.told.read s.seq ≡ taken ++ (offered ++ s.carried)
   pub sent : length taken ≡ s.sent
   pub box : Boxed shape s.len s.sent s.number s.phase w.box offered
-  pub way : Way shape w.told.answers w.clear s.begin w.told.now s.len s.number s.sent taken s.phase s.since going
+  pub way : Way shape w.told.answers w.clear s.begin w.told.now s.len s.number s.sent s.block s.gap taken s.phase s.since going
 
 abbrev pub Lives : Shape → World → Option Transmission → List (Cut Seen) → Type 0
 Lives shape w None going = (going ≡ []) × (length w.told.records ≡ w.next)
 Lives shape w (Some s) going = GoesOn shape w s going
 
+-- a transmission is as its record tells, and all of its frames left
+pub record HasSentFor (t : Transfer) (clear : ℕ) (cut : Cut Seen) (told : DestRecord) : Type 0 where
+  pub sends : SendsFor t cut told
+  pub clear_is : AllByRecursion (λ (piece : Piece). piece.at < clear) (walk_of t.address cut).pieces
+
 -- all so far
 pub record SoFar (shape : Shape) (w : World) : Type 0 where
   pub address : w.told.address ≡ address_size shape
-  pub past : AllByRecursion (λ answer. answer.tick ≤ w.told.now) w.told.answers
+  pub past : AllByRecursion (λ (c : Control). c.tick ≤ w.told.now) w.told.answers
+  pub clear_now : w.clear ≤ w.told.now + 1
   pub numbered : NumberedFrom 0 w.told.records
   pub tells : AllByRecursion (Tells w.told) w.told.records
   pub lens : length w.told.lens ≡ w.next
@@ -109,58 +117,72 @@ pub record SoFar (shape : Shape) (w : World) : Type 0 where
   pub ended : List (Cut Seen)
   pub going : List (Cut Seen)
   pub cut : attempts_in false w.told.frames ≡ ended ++ going
-  pub sends : AllZip (SendsFor w.told) ended (filter has_sent w.told.records)
+  pub sends : AllZip (HasSentFor w.told w.clear) ended (filter has_sent w.told.records)
   pub lives : Lives shape w w.told.live going
 
--- what is told grows: flow controls, lengths and bytes are added
-pub record Grows (t u : Transfer) : Type 0 where
-  pub address : u.address ≡ t.address
-  pub answers : (more : List Answer) × (u.answers ≡ t.answers ++ more)
-  pub lens : (more : List ℕ) × (u.lens ≡ t.lens ++ more)
-  pub read : (number : ℕ) → (more : List ℕ) × (u.read number ≡ t.read number ++ more)
+-- flow controls are added that come after all frames
+pub record AnswersMore (clear : ℕ) (old new : List Control) : Type 0 where
+  pub more : List Control
+  pub are : new ≡ old ++ more
+  pub after : AllByRecursion (λ (c : Control). clear ≤ c.tick) more
 
-pub sends-on : (t u : Transfer) (seq sent begin end : ℕ) (cut : Cut Seen) → Grows t u → Sends t seq sent begin end cut → Sends u seq sent begin end cut
-sends-on t u seq sent begin end cut grows is = record {
-  len = rw grows.lens.1 (slice_get-more t.lens grows.lens.0 seq (len_of cut.start.meaning) is.len);
-  within = rw (grows.read seq).1 (omega (arith, length-append (t.read seq) (grows.read seq).0, is.within));
-  bytes = rw (grows.address, (grows.read seq).1) (is.bytes ∙ sym (take-append-le sent (t.read seq) (grows.read seq).0 is.within));
+-- what is told grows: flow controls, lengths and bytes are added
+pub record Grows (v w : World) : Type 0 where
+  pub address : w.told.address ≡ v.told.address
+  pub clear : v.clear ≤ w.clear
+  pub answers : AnswersMore v.clear v.told.answers w.told.answers
+  pub lens : (more : List ℕ) × (w.told.lens ≡ v.told.lens ++ more)
+  pub read : (number : ℕ) → (more : List ℕ) × (w.told.read number ≡ v.told.read number ++ more)
+
+sends-on : (v w : World) (seq sent begin end : ℕ) (cut : Cut Seen) → Grows v w → AllByRecursion (λ (piece : Piece). piece.at < v.clear) (walk_of v.told.address cut).pieces → Sends v.told seq sent begin end cut → Sends w.told seq sent begin end cut
+sends-on v w seq sent begin end cut grows clear is = record {
+  len = rw grows.lens.1 (slice_get-more v.told.lens grows.lens.0 seq (len_of cut.start.meaning) is.len);
+  within = rw (grows.read seq).1 (omega (arith, length-append (v.told.read seq) (grows.read seq).0, is.within));
+  bytes = rw (grows.address, (grows.read seq).1) (is.bytes ∙ sym (take-append-le sent (v.told.read seq) (grows.read seq).0 is.within));
   right = rw grows.address is.right;
   counts = rw grows.address is.counts;
   ticks = rw grows.address is.ticks;
-  paced = rw (grows.address, grows.answers.1) (paced-more t.answers grows.answers.0 (walk_of t.address cut).pieces is.paced);
+  paced = rw (grows.address, grows.answers.are) (paced-more v.told.answers grows.answers.more (walk_of v.told.address cut).pieces (come-after v.clear (walk_of v.told.address cut).pieces grows.answers.more clear grows.answers.after) is.paced);
 }
 
-pub tells-on : (t u : Transfer) (told : DestRecord) → Grows t u → Tells t told → Tells u told
-tells-on t u told grows is = record {
+pub sent-on : (v w : World) (cut : Cut Seen) (told : DestRecord) → Grows v w → HasSentFor v.told v.clear cut told → HasSentFor w.told w.clear cut told
+sent-on v w cut told grows is = record {
+  sends = sends-on v w told.seq told.sent told.begin.0 told.end.0 cut grows is.clear_is is.sends;
+  clear_is = rw grows.address (all-weaker (λ (piece : Piece). piece.at < v.clear) (λ (piece : Piece). piece.at < w.clear) (walk_of v.told.address cut).pieces (λ piece lt. omega (arith, lt, grows.clear)) is.clear_is);
+}
+
+pub tells-on : (v w : World) (told : DestRecord) → Grows v w → Tells v.told told → Tells w.told told
+tells-on v w told grows is = record {
   len = is.len;
-  joined = rw grows.lens.1 (slice_get-more t.lens grows.lens.0 told.seq is.len is.joined);
+  joined = rw grows.lens.1 (slice_get-more v.told.lens grows.lens.0 told.seq is.len is.joined);
   most = is.most;
   whole = is.whole;
   ticks = is.ticks;
 }
 
 -- records stay, and the session goes on or is joined; the frames are cut so
-pub so-cut : (shape : Shape) (v w : World) (going : List (Cut Seen)) → (so : SoFar shape v) → Grows v.told w.told → AllByRecursion (λ answer. answer.tick ≤ w.told.now) w.told.answers →
+pub so-cut : (shape : Shape) (v w : World) (going : List (Cut Seen)) → (so : SoFar shape v) → Grows v w → AllByRecursion (λ (c : Control). c.tick ≤ w.told.now) w.told.answers → w.clear ≤ w.told.now + 1 →
     attempts_in false w.told.frames ≡ so.ended ++ going → w.told.records ≡ v.told.records → length w.told.lens ≡ w.next →
     ((number : ℕ) → w.next ≤ number → w.told.read number ≡ []) → Lives shape w w.told.live going → SoFar shape w
-so-cut shape v w going so grows past cut records lens unread lives =
+so-cut shape v w going so grows past clear cut records lens unread lives =
     let T : List DestRecord → Type 0 = λ r. AllByRecursion (Tells w.told) r in
-    let Z : List DestRecord → Type 0 = λ r. AllZip (SendsFor w.told) so.ended (filter has_sent r) in
+    let Z : List DestRecord → Type 0 = λ r. AllZip (HasSentFor w.told w.clear) so.ended (filter has_sent r) in
     record {
       address = grows.address ∙ so.address;
       past = past;
+      clear_now = clear;
       numbered = rw records so.numbered;
-      tells = subst T (sym records) (all-weaker (Tells v.told) (Tells w.told) v.told.records (λ told. tells-on v.told w.told told grows) so.tells);
+      tells = subst T (sym records) (all-weaker (Tells v.told) (Tells w.told) v.told.records (λ told. tells-on v w told grows) so.tells);
       lens = lens;
       unread = unread;
       ended = so.ended;
       going = going;
       cut = cut;
-      sends = subst Z (sym records) (zip-weaker (SendsFor v.told) (SendsFor w.told) so.ended (filter has_sent v.told.records) (λ c told. sends-on v.told w.told told.seq told.sent told.begin.0 told.end.0 c grows) so.sends);
+      sends = subst Z (sym records) (zip-weaker (HasSentFor v.told v.clear) (HasSentFor w.told w.clear) so.ended (filter has_sent v.told.records) (λ c told. sent-on v w c told grows) so.sends);
       lives = lives;
     }
 
 -- frames stay too
-pub so-on : (shape : Shape) (v w : World) → (so : SoFar shape v) → Grows v.told w.told → AllByRecursion (λ answer. answer.tick ≤ w.told.now) w.told.answers → w.told.frames ≡ v.told.frames →
+pub so-on : (shape : Shape) (v w : World) → (so : SoFar shape v) → Grows v w → AllByRecursion (λ (c : Control). c.tick ≤ w.told.now) w.told.answers → w.clear ≤ w.told.now + 1 → w.told.frames ≡ v.told.frames →
     w.told.records ≡ v.told.records → length w.told.lens ≡ w.next → ((number : ℕ) → w.next ≤ number → w.told.read number ≡ []) → Lives shape w w.told.live so.going → SoFar shape w
-so-on shape v w so grows past frames records lens unread lives = so-cut shape v w so.going so grows past (rw frames so.cut) records lens unread lives
+so-on shape v w so grows past clear frames records lens unread lives = so-cut shape v w so.going so grows past clear (rw frames so.cut) records lens unread lives

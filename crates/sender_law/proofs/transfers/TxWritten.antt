@@ -55,7 +55,7 @@ ticks-more frames x ended cut other next is =
 
 -- the frame in the box leaves
 ticks-left : (shape : Shape) (w : World) (s : Transmission) (at : ℕ) → IsShape shape → (so : SoFar shape w) → (on : GoesOn shape w s so.going) → IsBoxed shape s.len s.sent s.number w.box on.offered →
-    Way shape w.told.answers w.clear s.begin w.told.now s.len s.number s.sent on.taken s.phase s.since so.going →
+    Way shape w.told.answers w.clear s.begin w.told.now s.len s.number s.sent s.block s.gap on.taken s.phase s.since so.going →
     all_ticks (w.told.frames ++ seen_unit shape at (unit_after shape s.len s.sent s.number on.offered) ∷ []) ≡ all_ticks w.told.frames ++ at ∷ []
 ticks-left shape w s at sound so on boxed (Unsent none first bytes cuts early) =
     let unit : unit_after shape s.len s.sent s.number on.offered ≡ start_with shape s.len on.offered = rw none refl in

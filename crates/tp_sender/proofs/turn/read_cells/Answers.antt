@@ -9,7 +9,7 @@ loop-port-init g c = (reads-none c.args.wanted c.args.live.now _ _ c.requires.re
 pub loop-port-preserved : goal.loop-port-preserved
 loop-port-preserved g c = (
   reads-more _ _ c.loop-port.live _ c.read-cell.result _ _ _ _ _ _ c.loop-port.invariant.0 (omega arith) c.if-live.true c.read-cell.ensures.cell
-      (record { token = c.read-cell.ensures.token; carry = c.add.ensures.bytes; begin = refl; sent = refl; number = refl; phase = refl; since = refl })
+      (record { token = c.read-cell.ensures.token; carry = c.add.ensures.bytes; begin = refl; sent = refl; number = refl; block = refl; gap = refl; phase = refl; since = refl })
       c.read-cell.ensures.view c.read-cell.ensures.reads c.read-cell.ensures.stays.by c.read-cell.ensures.stays.means,
   record { rise = rise-twice _ _ _ c.loop-port.invariant.1.rise c.read-cell.ensures.stays.rise; home = c.read-cell.ensures.stays.home ∙ c.loop-port.invariant.1.home },
 )

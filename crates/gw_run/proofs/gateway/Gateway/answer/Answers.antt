@@ -3,7 +3,6 @@ use Rattle.tp_unit.specs.Box.{Answer}
 use Rattle.tp_sender.specs.declared.event.TxEvent.TheVariants.{Fc}
 use Rattle.tp_unit.specs.Reading.{unit_of}
 use Rattle.tp_unit.specs.Unit.{Meaning, FlowControl, meaning_of}
-use Rattle.gw_run.specs.Answers.{IsPlainControl}
 use Rattle.gw_law.specs.Channels.{answer_in}
 use Rattle.gw_run.specs.Standing.{InDestination}
 use Rattle.gw_run.proofs.Barriers.{answered}
@@ -12,9 +11,7 @@ use Rattle.gw_run.proofs.gateway.Gateway.answer.Goals as goal
 
 pub tell_sender-requires : goal.tell_sender-requires
 tell_sender-requires c =
-    let is : unit_of 0 c.args.frame.now ≡ FlowControl c.in-Fc.fs c.in-Fc.bs c.in-Fc.st = sym c.read_unit.ensures ∙ ap meaning_of c.in-Fc.is in
-    let plain = subst IsPlainControl is c.requires.plain in
-    can-tell-sender c.args.self.now c.args.tick.0 c.args.tick.0 _ _ _ (Fc c.in-Fc.fs c.in-Fc.bs c.in-Fc.st) c.requires.at.2.stands (omega arith) c.requires.tick (λ e. cc) (λ e. (plain.1, plain.2))
+    can-tell-sender c.args.self.now c.args.tick.0 c.args.tick.0 _ _ _ (Fc c.in-Fc.fs c.in-Fc.bs c.in-Fc.st) c.requires.at.2.stands (omega arith) c.requires.tick (λ e. cc)
 
 pub returns-in_ok-tell_sender-in-Fc-clause-step : goal.returns-in_ok-tell_sender-in-Fc-clause-step
 returns-in_ok-tell_sender-in-Fc-clause-step c = λ seen answers at.

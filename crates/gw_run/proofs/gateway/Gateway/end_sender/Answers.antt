@@ -9,7 +9,7 @@ use Rattle.gw_run.proofs.gateway.Gateway.end_sender.Goals as goal
 pub end_once-requires : goal.end_once-requires
 end_once-requires c =
     let at = c.requires.at in
-    can-tell-sender c.loop.self c.args.last.0 c.args.last.0 _ _ _ RunEnd (c.loop.invariant.ends at.0 at.1 at.2 at.3).stands (omega arith) c.requires.tick (λ e. cc) tt
+    can-tell-sender c.loop.self c.args.last.0 c.args.last.0 _ _ _ RunEnd (c.loop.invariant.ends at.0 at.1 at.2 at.3).stands (omega arith) c.requires.tick (λ e. cc)
 
 pub loop-smaller : goal.loop-smaller
 loop-smaller c =
@@ -30,5 +30,5 @@ pub returns-clause-over : goal.returns-clause-over
 returns-clause-over c =
     let B : Bool → Type 0 = λ b. MatchBool b (length c.loop.self.dests < length c.end_once.new.self.dests) (length c.end_once.new.self.dests ≤ length c.loop.self.dests) in
     let at = c.requires.at in
-    let can = can-tell-sender c.loop.self c.args.last.0 c.args.last.0 _ _ _ RunEnd (c.loop.invariant.ends at.0 at.1 at.2 at.3).stands (omega arith) c.requires.tick (λ e. cc) tt in
+    let can = can-tell-sender c.loop.self c.args.last.0 c.args.last.0 _ _ _ RunEnd (c.loop.invariant.ends at.0 at.1 at.2 at.3).stands (omega arith) c.requires.tick (λ e. cc) in
     is-over c.loop.self c.end_once.new.self c.args.last.0 can.dest can.group c.in_ok-end_once.ensures.told (subst B c.if-branch.false c.in_ok-end_once.ensures.more)

@@ -37,8 +37,7 @@ long_dest = record {
     unsent = (
       λ none. record {
         cause = (refl, omega arith, (refl, refl));
-        none_refuses = tt;
-        in_time = λ tick from to. record { answered = λ overdue. let alone = overdue.awaits.alone in cc; leaves = λ left late. omega (arith, left) };
+        in_time = λ tick from to. record { accepted = λ at status refused. refused; answered = λ overdue. overdue.awaits; leaves = λ free left late. omega (arith, left) };
       },
       tt,
     );
@@ -56,7 +55,7 @@ short_dest = record {
     are_data = (record { meaning = SingleFrame (7 ∷ 8 ∷ 9 ∷ []); carries = λ none. none; fits = refl; frame = refl }, tt);
   };
   transmissions = record {
-    sent = (record { cause = refl; none_refuses = λ answer is below. absurd (let none : None ≡ Some answer = is in cc); in_time = λ tick from to. absurd (omega (arith, to)) }, tt);
+    sent = (record { cause = refl; in_time = λ tick from to. absurd (omega (arith, to)) }, tt);
     unsent = (λ none. absurd (omega (arith, none)), tt);
   };
 }

@@ -25,15 +25,11 @@ use Rattle.candump_line.specs.Fault.{fault_at, ◌>>=◌}
 use Rattle.candump_line.specs.Line.{IsInterface, entry_text, hex_number, id_text, kind_text}
 use Rattle.candump_line.specs.declared.line.Line.TheVariants.{Frame as FrameLine}
 use Rattle.candump_line.specs.Reading.{after_spaces, begins, classic_at, content_at, data_at, digits_in, end_at, fd_at, hex_bytes, id_at, interface_at, is_hex, is_space, is_visible, length_code_at, line_of, micros_at, named_at, number_in, seconds_at, stamp_at}
-use Rattle.candump_line.proofs.Counting.{digits_end}
+use Rattle.candump_line.proofs.Counting.{and-parts, digits_end}
 use Rattle.candump_line.proofs.Digits.{length-hex_number, length-padded_decimal}
 use Rattle.candump_line.proofs.Reading.{Writes, digit_value-upper, Writes-hex_number, Writes-padded_decimal}
 
 -- ---- how far a run goes
-
-and-parts : (a b : Bool) → (a && b) ≡ true → (a ≡ true) × (b ≡ true)
-and-parts true b is = (refl, is)
-and-parts false b is = cc
 
 -- bytes that pass, before what doesn't, are the run
 run-ends : (p : ℕ → Bool) (xs rest : List ℕ) → list_all p xs ≡ true → prefix_len p rest ≡ 0 → prefix_len p (xs ++ rest) ≡ length xs

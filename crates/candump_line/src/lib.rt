@@ -2,6 +2,7 @@
 #![tactic(auto)]
 
 mod data;
+mod digit;
 mod fault;
 mod fields;
 mod id;

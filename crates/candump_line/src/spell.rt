@@ -2,6 +2,7 @@ ghost use Rattle.std.specs.Prelude.{◌≡◌, ◌+◌, ◌*◌, ◌^◌, ◌<�
 ghost use Rattle.hex.specs.Hex.{upper_digits, encode_upper};
 ghost use Rattle.candump_line.specs.Line.{IsInterface, stamp_text, hex_number, id_text, kind_text, frame_text, entry_text};
 
+use crate::digit::HEX;
 use arrayvec::ArrayVec;
 use can_frame::{CanId, Frame};
 use gw_base::{Micros, decimal};
@@ -28,11 +29,8 @@ const STD_WIDTH: u8 = 3;
 /// How many hex digits an identifier of the extended format has.
 const EXT_WIDTH: u8 = 8;
 
-/// The base of hex digits.
-pub(crate) const HEX: u32 = 16;
-
-/// The base of hex digits, as a byte.
-const HEX_BYTE: u8 = 16;
+/// The base of hex digits, as a number of an identifier's width.
+const HEX_WIDE: u32 = 16;
 
 /// The hex digits.
 const UPPER_DIGITS: [u8; 16] = *b"0123456789ABCDEF";
@@ -65,8 +63,8 @@ fn put_number(text: &mut Text, number: u32, width: u8)
     ensures len { length text.new.items ≡ length text.old.items + width }
 {
     if width > 0 {
-        put_number(text, number / HEX, width - 1);
-        put_digit(text, (number % HEX) as u8);
+        put_number(text, number / HEX_WIDE, width - 1);
+        put_digit(text, (number % HEX_WIDE) as u8);
     }
 }
 
@@ -77,8 +75,8 @@ fn put_bytes(text: &mut Text, bytes: &[u8])
     ensures len { length text.new.items ≡ length text.old.items + 2 * length bytes.now }
 {
     for byte in bytes {
-        put_digit(text, byte / HEX_BYTE);
-        put_digit(text, byte % HEX_BYTE);
+        put_digit(text, byte / HEX);
+        put_digit(text, byte % HEX);
     }
 }
 

@@ -7,7 +7,7 @@ use Rattle.std.proofs.lemmas.Bool.{cases_eq, eqb-true, le-ltb, lt-ltb, ne_eqb}
 use Rattle.std.proofs.lemmas.Int.Digits.{digits_value-lt}
 use Rattle.std.proofs.Math.Seq.{take-length}
 use Rattle.std.proofs.lemmas.List.{take_more_set, length-take-le, drop-drop}
-use Rattle.candump_line.specs.Reading.{data_at, digits_in, hex_bytes, is_hex, number_in}
+use Rattle.candump_line.specs.Reading.{data_at, hex_bytes, is_hex}
 
 pub and-parts : (a b : Bool) → (a && b) ≡ true → (a ≡ true) × (b ≡ true)
 and-parts true b is = (refl, is)

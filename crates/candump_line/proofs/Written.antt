@@ -1,12 +1,12 @@
 -- A written line is read back as its stamp and its frame.
-use Rattle.std.proofs.Common.{◌≡◌, ℕ, zero, suc, ◌+◌, ◌-◌, ◌*◌, ◌/◌, ◌%◌, ◌^◌, ◌<◌, ◌≤◌, min, Bool, true, false, cond, nat_le, eqb, ltb, ◌==◌, ◌&&◌, List, [], ◌∷◌, ◌++◌, length, drop, take, get_or, slice_index, Option, None, Some, Result, Ok, Err, refl, sym, ap, ◌∙◌, subst, append_assoc, append-nil, length-append, arith}
+use Rattle.std.proofs.Common.{◌≡◌, ℕ, zero, suc, ◌+◌, ◌-◌, ◌*◌, ◌/◌, ◌%◌, ◌^◌, ◌<◌, ◌≤◌, Bool, true, false, nat_le, eqb, ltb, ◌==◌, List, [], ◌∷◌, ◌++◌, length, drop, take, get_or, slice_index, Some, Ok, refl, sym, ap, ◌∙◌, subst, append_assoc, append-nil, length-append, arith}
 use Rattle.std.specs.Prelude.{All, codes}
 use Rattle.std.specs.Str.{bytes_eq}
 use Rattle.std.proofs.Math.Bool.{and-false}
 use Rattle.std.specs.Char.{digit_value, is_digit}
 use Rattle.std.specs.List.{list_all, prefix_len}
-use Rattle.std.specs.Str.Parse.{AllDigits, digits_value}
-use Rattle.std.proofs.Math.Seq.{take-length, drop-append_seam}
+use Rattle.std.specs.Str.Parse.{AllDigits}
+use Rattle.std.proofs.Math.Seq.{take-length}
 use Rattle.std.proofs.lemmas.Bool.{eq-eqb, le-leb, le-ltb, leb-true, lt-ltb, ne_eqb}
 use Rattle.std.proofs.lemmas.Bool.Decides.{nat_tests}
 use Rattle.std.proofs.lemmas.List.Elements.{All-tail}
@@ -21,10 +21,9 @@ use Rattle.can_frame.specs.declared.id.CanId.{CanId}
 use Rattle.can_frame.specs.declared.id.CanId.TheVariants.{Std, Ext}
 use Rattle.hex.specs.Hex.{encode_upper, encode_with, upper_digits}
 use Rattle.hex.proofs.HexLemmas.{length-encode_with}
-use Rattle.candump_line.specs.Fault.{fault_at, ◌>>=◌}
 use Rattle.candump_line.specs.Line.{IsInterface, entry_text, hex_number, id_text, kind_text}
 use Rattle.candump_line.specs.declared.line.Line.TheVariants.{Frame as FrameLine}
-use Rattle.candump_line.specs.Reading.{after_spaces, begins, classic_at, content_at, data_at, digits_in, end_at, fd_at, hex_bytes, id_at, interface_at, is_hex, is_space, is_visible, length_code_at, line_of, micros_at, named_at, number_in, seconds_at, stamp_at}
+use Rattle.candump_line.specs.Reading.{after_spaces, begins, classic_at, content_at, data_at, digits_in, end_at, fd_at, hex_bytes, id_at, interface_at, is_hex, is_space, is_visible, length_code_at, line_of, micros_at, named_at, seconds_at, stamp_at}
 use Rattle.candump_line.proofs.Counting.{and-parts, digits_end}
 use Rattle.candump_line.proofs.Digits.{length-hex_number, length-padded_decimal}
 use Rattle.candump_line.proofs.Reading.{Writes, digit_value-upper, Writes-hex_number, Writes-padded_decimal}

@@ -1,4 +1,6 @@
-ghost use Rattle.std.specs.Prelude.{◌≡◌, ◌+◌, ◌*◌, ◌^◌, ◌<◌, ◌≤◌, [], ◌∷◌, ◌++◌, length, slice_index};
+//! The pieces of a line that is written.
+ghost use Rattle.std.specs.Prelude.{◌≡◌, ◌+◌, ◌*◌, ◌^◌, ◌<◌, ◌≤◌, [], ◌∷◌, ◌++◌, length, slice_index, All};
+ghost use Rattle.can_frame.specs.Frame.{IsLawful};
 ghost use Rattle.hex.specs.Hex.{upper_digits, encode_upper};
 ghost use Rattle.candump_line.specs.Line.{IsInterface, stamp_text, hex_number, id_text, kind_text, frame_text, entry_text};
 
@@ -73,6 +75,7 @@ fn put_bytes(text: &mut Text, bytes: &[u8])
     requires { length text.old.items + 2 * length bytes.now ≤ MOST_BYTES }
     ensures text { text.new.items ≡ text.old.items ++ encode_upper bytes.now }
     ensures len { length text.new.items ≡ length text.old.items + 2 * length bytes.now }
+    ensures small { All (λ b. b < 256) bytes.now }
 {
     for byte in bytes {
         put_digit(text, byte / HEX);
@@ -126,6 +129,8 @@ pub(crate) fn spell(at: Micros, iface: &[u8], frame: &Frame) -> Text
     requires name { IsInterface iface.now }
     ensures text { result.items ≡ entry_text at.0 iface.now frame.now }
     ensures len { length result.items < MOST_BYTES }
+    ensures lawful { IsLawful frame.now }
+    ensures bytes { All (λ b. b < 256) frame.now.bytes }
 {
     let mut text = stamp(at);
     put(&mut text, b" ");

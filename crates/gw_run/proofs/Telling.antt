@@ -12,7 +12,7 @@ use Rattle.receiver_law.proofs.causes.ShortStarts.{short-start}
 use Rattle.gw_law.specs.Lawful.{Lawful}
 use Rattle.receiver_law.specs.ReceptionCauses.{IsShortStart}
 use Rattle.gw_law.specs.Small.{IsSmall}
-use Rattle.gw_law.specs.Run.{HasLawfulLimits}
+use Rattle.gw_law.specs.Run.{HasLawfulLimits, Route, moments_of, turns_of}
 use Rattle.tick_clock.specs.Ticks.{tick_at}
 use Rattle.tick_clock.specs.declared.clock.Clock.{Clock}
 use Rattle.tp_attempts.specs.Seen.{Seen, len_of}
@@ -27,6 +27,7 @@ use Rattle.gw_run.specs.Forwarded.{Tells, last_of}
 use Rattle.gw_run.specs.Frames.{InTick, in_ticks_from, is_same_id, seen_in, with_id}
 use Rattle.gw_run.specs.Machines.{AreMachines}
 use Rattle.gw_run.specs.Played.{Plays, Told, route_told}
+use Rattle.gw_run.proofs.Outputs.{controls-classic, frames-classic}
 use Rattle.gw_run.specs.Setup.{AreMachinesOf, IsBuiltFrame, Setup, is_long_first, is_other_control}
 
 -- ---- flow controls that are built let everything come at once
@@ -107,3 +108,14 @@ tells_of setup m clock last source destination told are period last_is lawful pl
   period_is = ap (λ (c : Clock). c.period) plays.clock_is ∙ period;
   buffers = plays.buffers;
 }
+
+-- and all that was sent is classic
+pub told-controls : (m : Machines) (clock : Clock) (last : ℕ) (source destination : List Stamped) (told : Told) → AreMachines m.rx m.shape m.tx → Plays m clock last source destination told →
+    AllByRecursion (λ (w : Written). w.frame.fd ≡ false) told.controls
+told-controls m clock last source destination told are plays =
+    subst (AllByRecursion (λ (w : Written). w.frame.fd ≡ false)) (ap (λ (r : Route). r.source.controls) plays.route) (controls-classic m.shape (turns_of (plays.end ∷ plays.ticks)) are.controls.fd)
+
+pub told-frames : (m : Machines) (clock : Clock) (last : ℕ) (source destination : List Stamped) (told : Told) → AreMachines m.rx m.shape m.tx → Plays m clock last source destination told →
+    AllByRecursion (λ (w : Written). w.frame.fd ≡ false) told.frames
+told-frames m clock last source destination told are plays =
+    subst (AllByRecursion (λ (w : Written). w.frame.fd ≡ false)) (ap (λ (r : Route). r.leg.frames) plays.route) (frames-classic m.tx.shape (moments_of (plays.end ∷ plays.ticks)) are.frames.fd)

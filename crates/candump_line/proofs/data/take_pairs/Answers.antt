@@ -1,5 +1,5 @@
 -- A pair of digits is taken as a byte.
-use Rattle.std.proofs.Common.{◌∙◌, refl, sym, ap, arith}
+use Rattle.std.proofs.Common.{refl, arith}
 use Rattle.candump_line.proofs.Counting.{pair_held}
 use Rattle.candump_line.proofs.data.take_pairs.Goals as goal
 

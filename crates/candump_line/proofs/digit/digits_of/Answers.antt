@@ -1,5 +1,5 @@
 -- A digit more, or the end of the digits.
-use Rattle.std.proofs.Common.{◌≡◌, ◌≤◌, ◌<◌, ◌+◌, ◌*◌, ◌^◌, ◌∙◌, get_or, refl, arith}
+use Rattle.std.proofs.Common.{◌≤◌, ◌<◌, ◌∙◌, get_or, refl, arith}
 use Rattle.std.specs.Char.{digit_value}
 use Rattle.std.proofs.lemmas.Int.Digits.{digits_more}
 use Rattle.candump_line.proofs.Counting.{Counts, counted_to_end, counted_to_stop}

@@ -13,6 +13,7 @@ use Rattle.gw_base.specs.Decimal.{padded_decimal}
 use Rattle.hex.specs.Hex.{hex_digit_value, upper_digits}
 use Rattle.hex.proofs.HexLemmas.{IsDigits-upper_digits}
 use Rattle.candump_line.specs.Line.{hex_number}
+use Rattle.candump_line.specs.Spelling.{Writes}
 
 -- leading zeros add nothing
 zeros_digits : (n : ℕ) (digits : List ℕ) → AllDigits 10 digits → AllDigits 10 (replicate n 48 ++ digits)
@@ -22,11 +23,6 @@ zeros_digits (suc n) digits all = (omega arith, zeros_digits n digits all)
 zeros_value : (n : ℕ) (digits : List ℕ) → digits_value 10 (replicate n 48 ++ digits) ≡ digits_value 10 digits
 zeros_value zero digits = refl
 zeros_value (suc n) digits = zeros_value n digits
-
--- digits of a base, and the number that they write
-pub record Writes (base number : ℕ) (digits : List ℕ) : Type 0 where
-  pub all : AllDigits base digits
-  pub value : digits_value base digits ≡ number
 
 pub Writes-padded_decimal : (width value : ℕ) → value < 2 ^ 64 → Writes 10 value (padded_decimal width value)
 Writes-padded_decimal width value small =

@@ -208,6 +208,10 @@ IsLawfulLine (FrameLine at frame) = (at.0 < 2 ^ 32 * 10 ^ 6) × IsLawful frame
 IsLawfulLine Passed = Unit {0}
 IsLawfulLine Empty = Unit {0}
 
+-- the line is read as that stamp and that frame
+abbrev pub IsReadAs : (iface line : List ℕ) (at : ℕ) (frame : CanFrame) → Type 0
+IsReadAs iface line at frame = line_of iface line ≡ Ok (FrameLine (record { 0 = at }) frame)
+
 -- a line that is written for a frame is read as its stamp and the frame
 abbrev pub ReadsBack : (at : ℕ) (iface : List ℕ) (frame : CanFrame) → Type 0
-ReadsBack at iface frame = line_of iface (entry_text at iface frame) ≡ Ok (FrameLine (record { 0 = at }) frame)
+ReadsBack at iface frame = IsReadAs iface (entry_text at iface frame) at frame

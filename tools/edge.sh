@@ -331,7 +331,11 @@ done
 
 ended() {
     long
-    { timeout -s KILL "$1" "$program" run gw.toml gw.report > said.txt; } 2>/dev/null
+    "$program" run gw.toml gw.report > said.txt 2>/dev/null &
+    run=$!
+    sleep "$1"
+    # Its locks are free once it has ended.
+    { kill -KILL $run; wait $run; } 2>/dev/null
     for file in *.out gw.report; do
         [ ! -e "$file" ] || is_beginning "$file" "$work/long/$file" || return 1
     done

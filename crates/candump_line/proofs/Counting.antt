@@ -1,13 +1,36 @@
 -- The digits that are counted at the front of a rest, and the pairs of hex digits.
-use Rattle.std.proofs.Common.{◌≡◌, ℕ, zero, suc, ◌+◌, ◌-◌, ◌*◌, ◌^◌, ◌<◌, ◌≤◌, min, ◌%◌, eqb, ltb, true, false, Ok, append-nil, List, [], ◌∷◌, ◌++◌, length, take, drop, get_or, refl, sym, ap, ◌∙◌, arith, append_assoc, length-append}
+use Rattle.std.proofs.Common.{◌≡◌, ℕ, zero, suc, ◌+◌, ◌-◌, ◌*◌, ◌^◌, ◌<◌, ◌≤◌, ◌%◌, Bool, ◌&&◌, eqb, ltb, true, false, Ok, inl, inr, append-nil, List, [], ◌∷◌, ◌++◌, length, take, drop, set, get_or, refl, sym, ap, ◌∙◌, arith, append_assoc, length-append}
 use Rattle.std.specs.Char.{digit_value, is_digit}
 use Rattle.std.specs.List.{prefix_len}
 use Rattle.std.specs.Str.Parse.{AllDigits, digits_value}
-use Rattle.std.proofs.lemmas.Bool.{le-ltb, lt-ltb, ne_eqb}
+use Rattle.std.proofs.lemmas.Bool.{cases_eq, eqb-true, le-ltb, lt-ltb, ne_eqb}
 use Rattle.std.proofs.lemmas.Int.Digits.{digits_value-lt}
 use Rattle.std.proofs.Math.Seq.{take-length}
-use Rattle.std.proofs.lemmas.List.{take_min, take-take, length-take-le, drop-drop}
-use Rattle.candump_line.specs.Reading.{data_at, digits_in, hex_bytes, is_hex, number_in}
+use Rattle.std.proofs.lemmas.List.{take_more_set, length-take-le, drop-drop}
+use Rattle.candump_line.specs.Reading.{data_at, hex_bytes, is_hex}
+
+pub and-parts : (a b : Bool) → (a && b) ≡ true → (a ≡ true) × (b ≡ true)
+and-parts true b is = (refl, is)
+and-parts false b is = cc
+
+-- ---- the table of digits
+
+-- the table agrees with the definition at each byte below n
+unfoldable pub agrees_below : List ℕ → ℕ → Bool
+agrees_below table zero = true
+agrees_below table (suc n) = eqb (get_or table n 0) (digit_value n) && agrees_below table n
+
+agrees_at : (table : List ℕ) (n : ℕ) → agrees_below table n ≡ true → (b : ℕ) → b < n → get_or table b 0 ≡ digit_value b
+unfolding agrees_below
+agrees_at table zero all b inside = absurd (omega arith)
+agrees_at table (suc n) all b inside =
+    let parts = and-parts (eqb (get_or table n 0) (digit_value n)) (agrees_below table n) all in
+    elim (cases_eq b n) [ inl same ↦ rw same (eqb-true (get_or table n 0) (digit_value n) parts.0) | inr other ↦ agrees_at table n parts.1 b (omega arith) ]
+
+pub by_table : (table : List ℕ) (b : ℕ) → b < 256 → agrees_below table 256 ≡ true → get_or table b 0 ≡ digit_value b
+by_table table b inside all = agrees_at table 256 all b inside
+
+-- ---- digits that are counted
 
 -- the count ends at the first byte that is no digit
 pub digits_stop : (base : ℕ) (xs : List ℕ) (i : ℕ) → AllDigits base (take i xs) → i < length xs → base ≤ digit_value (get_or xs i 0) → prefix_len (λ byte. is_digit byte base) xs ≡ i
@@ -23,43 +46,27 @@ digits_end base (x ∷ xs) all =
     rw (lt-ltb (digit_value x) base all.0) (let rest = digits_end base xs all.1 in omega (arith, rest))
 
 -- what counting gives
-pub record Counts (base most : ℕ) (rest : List ℕ) (value count : ℕ) : Type 0 where
-  pub digits : count ≡ digits_in base most rest
-  pub value_is : value ≡ number_in base count rest
+pub record Counts (base : ℕ) (front : List ℕ) (value count : ℕ) : Type 0 where
+  pub digits : count ≡ prefix_len (λ byte. is_digit byte base) front
   pub below : value < base ^ count
-  pub fits : count ≤ length rest
-  pub few : count ≤ most
 
--- the digits so far, in the front that is looked at
+-- the digits so far
 pub record SoFar (base : ℕ) (front : List ℕ) (i value count : ℕ) : Type 0 where
   pub all : AllDigits base (take i front)
   pub value_is : value ≡ digits_value base (take i front)
   pub count_is : count ≡ i
 
-module _ (base most : ℕ) (rest front : List ℕ) (i value count : ℕ) (front_is : front ≡ take (min most (length rest)) rest) (so_far : SoFar base front i value count) where
-  front_first : front ≡ take most rest
-  front_first = front_is ∙ take_min most rest
+module _ (base : ℕ) (front : List ℕ) (i value count : ℕ) (so_far : SoFar base front i value count) where
+  counted : i ≤ length front → prefix_len (λ byte. is_digit byte base) front ≡ i → Counts base front value count
+  counted inside ends = record {
+    digits = so_far.count_is ∙ sym ends;
+    below = rw (so_far.value_is, so_far.count_is) (rw (length-take-le i front inside) at (digits_value-lt base (take i front) so_far.all));
+  }
 
-  shorter : length front ≤ min most (length rest)
-  shorter = rw (front_is, length-take-le (min most (length rest)) rest (omega arith)) (omega arith)
-
-  counted : i ≤ length front → prefix_len (λ byte. is_digit byte base) front ≡ i → Counts base most rest value count
-  counted inside ends =
-      let few : i ≤ most = omega (arith, shorter) in
-      let fits : i ≤ length rest = omega (arith, shorter) in
-      let same : take i front ≡ take i rest = ap (take i) front_first ∙ take-take i most rest few in
-      record {
-        digits = so_far.count_is ∙ sym ends ∙ ap (prefix_len (λ byte. is_digit byte base)) front_first;
-        value_is = so_far.value_is ∙ ap (digits_value base) (same ∙ ap (λ n. take n rest) (sym so_far.count_is));
-        below = rw (so_far.value_is, so_far.count_is) (rw (length-take-le i front inside) at (digits_value-lt base (take i front) so_far.all));
-        fits = omega (arith, fits, so_far.count_is);
-        few = omega (arith, few, so_far.count_is);
-      }
-
-  pub counted_to_stop : i < length front → base ≤ digit_value (get_or front i 0) → Counts base most rest value count
+  pub counted_to_stop : i < length front → base ≤ digit_value (get_or front i 0) → Counts base front value count
   counted_to_stop inside other = counted (omega arith) (digits_stop base front i so_far.all inside other)
 
-  pub counted_to_end : i ≡ length front → Counts base most rest value count
+  pub counted_to_end : i ≡ length front → Counts base front value count
   counted_to_end all =
       let whole : AllDigits base front = rw (all, take-length front) at so_far.all in
       counted (omega arith) (digits_end base front whole ∙ sym all)
@@ -103,9 +110,21 @@ pair_taken_at text bytes (a ∷ b ∷ later) high low byte so_far two high_is lo
     let all : take (length (a ∷ b ∷ later) - 2) later ≡ later = let long : length (a ∷ b ∷ later) - 2 ≡ length later = omega arith in ap (λ n. take n later) long ∙ take-length later in
     rw all (pair_taken text bytes (a ∷ b ∷ later) later high low byte so_far (rw (high_is, low_is) refl) first second byte_is room)
 
--- the front that is looked at is short
-pub front_short : (n most : ℕ) (rest : List ℕ) → n ≡ min most (length rest) → most ≤ 10 → length (take n rest) ≤ 10
-front_short n most rest is short = rw (is, length-take-le (min most (length rest)) rest (omega arith)) (omega arith)
+-- these many bytes of the buffer were taken of the text, and this rest is left
+pub record PairsHeld (text buffer rest : List ℕ) (count : ℕ) : Type 0 where
+  pub taken : PairsTaken text (take count buffer) rest
+  pub count_is : length (take count buffer) ≡ count
+
+-- a pair more, put behind them in the buffer
+pub pair_held : (text buffer rest : List ℕ) (count high low byte : ℕ) → PairsHeld text buffer rest count → 2 ≤ length rest → high ≡ get_or rest 0 0 → low ≡ get_or rest 1 0 →
+    digit_value high < 16 → digit_value low < 16 → byte ≡ digit_value high * 16 + digit_value low → length buffer ≡ 64 → count < 64 →
+    PairsHeld text (set buffer count byte) (take (length rest - 2) (drop 2 rest)) (count + 1)
+pair_held text buffer rest count high low byte held two high_is low_is first second byte_is size room =
+    let more : take (count + 1) (set buffer count byte) ≡ take count buffer ++ byte ∷ [] = take_more_set buffer count byte (omega arith) in
+    record {
+      taken = rw more (pair_taken_at text (take count buffer) rest high low byte held.taken two high_is low_is first second byte_is (omega (arith, held.count_is)));
+      count_is = ap length more ∙ length-append (take count buffer) (byte ∷ []) ∙ omega (arith, held.count_is);
+    }
 
 hex_bytes-none : (rest : List ℕ) → hex_bytes (take 0 rest) ≡ []
 unfolding hex_bytes
@@ -122,3 +141,11 @@ data_read len rest bytes left digits bytes_are left_is most none =
     let even : eqb (prefix_len is_hex rest % 2) 1 ≡ false = ne_eqb (prefix_len is_hex rest % 2) 1 (λ odd. omega (arith, all, odd)) in
     let short : ltb 128 (prefix_len is_hex rest) ≡ false = le-ltb 128 (prefix_len is_hex rest) (omega (arith, all, most)) in
     rw (even, short) (rw spelled (ap (λ n. Ok (bytes, drop n rest)) all ∙ ap (λ t. Ok (bytes, t)) (sym left_is)))
+
+-- the same of the bytes that a buffer holds
+pub data_held : (len : ℕ) (rest buffer left : List ℕ) (count : ℕ) → prefix_len is_hex rest ≡ 2 * count + prefix_len is_hex left →
+    hex_bytes (take (prefix_len is_hex rest) rest) ≡ take count buffer ++ hex_bytes (take (prefix_len is_hex left) left) → left ≡ drop (2 * count) rest → count ≤ 64 →
+    length buffer ≡ 64 → prefix_len is_hex left ≡ 0 → data_at len rest ≡ Ok (take count buffer, left)
+data_held len rest buffer left count digits bytes_are left_is most size none =
+    let long : length (take count buffer) ≡ count = length-take-le count buffer (omega arith) in
+    data_read len rest (take count buffer) left (rw long digits) bytes_are (rw long left_is) (omega (arith, long)) none

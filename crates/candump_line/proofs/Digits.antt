@@ -1,8 +1,8 @@
 -- The digits of a line's fields: how many they are.
-use Rattle.std.proofs.Common.{◌≡◌, ℕ, zero, suc, ◌+◌, ◌-◌, ◌/◌, ◌%◌, ◌^◌, ◌<◌, List, [], ◌∷◌, ◌++◌, length, slice_index, get_or, take, refl, ap, ◌∙◌, arith, length-append}
-use Rattle.std.specs.Prelude.{decimal, replicate}
+use Rattle.std.proofs.Common.{◌≡◌, ℕ, zero, suc, ◌+◌, ◌-◌, ◌/◌, ◌%◌, ◌^◌, ◌<◌, List, [], ◌∷◌, ◌++◌, length, slice_index, get_or, take, refl, sym, subst, ap, ◌∙◌, arith, length-append}
+use Rattle.std.specs.Prelude.{All, decimal, replicate}
 use Rattle.std.proofs.lemmas.Fmt.{length-decimal-le}
-use Rattle.std.proofs.lemmas.List.{length-replicate, take_more}
+use Rattle.std.proofs.lemmas.List.{get_or_default, length-replicate, take_more}
 use Rattle.gw_base.specs.Decimal.{padded_decimal}
 use Rattle.hex.specs.Hex.{upper_digits, encode_with, encode_upper}
 use Rattle.candump_line.specs.Line.{hex_number}
@@ -50,3 +50,7 @@ encode_upper-more bytes i inside = ap encode_upper (take_more bytes i 0 inside) 
 pub encode_upper-none : encode_upper [] ≡ []
 unfolding encode_with
 encode_upper-none = refl
+
+-- what is below 256 at each place is so of all
+pub bytes-small : (bytes : List ℕ) → ((i : ℕ) → get_or bytes i 0 < 256) → All (λ b. b < 256) bytes
+bytes-small bytes small k d inside = subst (λ n. n < 256) (sym (get_or_default bytes k d 0 inside)) (small k)

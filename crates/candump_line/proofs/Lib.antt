@@ -3,3 +3,5 @@ pub mod Reading
 pub mod Counting
 pub mod ReadLemmas
 pub mod Written
+pub mod Runs
+pub mod Spelled

@@ -1,20 +1,19 @@
 -- The digits of a field give its number back.
-use Rattle.std.proofs.Common.{◌≡◌, ℕ, zero, suc, ◌+◌, ◌-◌, ◌*◌, ◌/◌, ◌%◌, ◌^◌, ◌<◌, ◌≤◌, List, [], ◌∷◌, ◌++◌, length, slice_index, get_or, take, drop, Some, Result, Ok, Err, inl, inr, refl, sym, ap, ◌∙◌, arith, pow-suc}
-use Rattle.std.specs.Prelude.{All, MatchResult, decimal, replicate}
+use Rattle.std.proofs.Common.{◌≡◌, ℕ, zero, suc, ◌+◌, ◌-◌, ◌*◌, ◌/◌, ◌%◌, ◌^◌, ◌<◌, ◌≤◌, List, ◌++◌, length, slice_index, get_or, take, Some, refl, sym, ◌∙◌, arith, pow-suc}
+use Rattle.std.specs.Prelude.{decimal, replicate}
 use Rattle.std.specs.Char.{digit_value}
 use Rattle.std.specs.Str.Parse.{AllDigits, digits_value}
 use Rattle.std.proofs.lemmas.Bool.Decides.{nat_tests}
-use Rattle.std.proofs.lemmas.Bool.{cases_lt}
 use Rattle.std.proofs.lemmas.Fmt.{decimal_is_IsNumeral}
 use Rattle.std.proofs.lemmas.Int.Digits.{digits_value_push, digits_push, digits_value-lt, digits_value_more}
 use Rattle.std.proofs.lemmas.Nat.{mul-add-lt}
 use Rattle.std.proofs.Math.Nat.{pow-le-pow_left, pow-le-pow_right}
-use Rattle.std.proofs.lemmas.List.{length-take, length-drop, length-take-le, get_or_past, get_or_default}
+use Rattle.std.proofs.lemmas.List.{length-take-le}
 use Rattle.gw_base.specs.Decimal.{padded_decimal}
-use Rattle.hex.specs.Hex.{IsBytes, hex_digit_value, upper_digits, encode_upper, decode_of, decode_sized}
-use Rattle.hex.specs.declared.error.FromHexError.{FromHexError}
-use Rattle.hex.proofs.HexLemmas.{IsDigits-upper_digits, decode_of-encode_upper, decode_of-ok, decode_sized-ok, decode_sized-twice, length-encode_with}
+use Rattle.hex.specs.Hex.{hex_digit_value, upper_digits}
+use Rattle.hex.proofs.HexLemmas.{IsDigits-upper_digits}
 use Rattle.candump_line.specs.Line.{hex_number}
+use Rattle.candump_line.specs.Spelling.{Writes}
 
 -- leading zeros add nothing
 zeros_digits : (n : ℕ) (digits : List ℕ) → AllDigits 10 digits → AllDigits 10 (replicate n 48 ++ digits)
@@ -24,11 +23,6 @@ zeros_digits (suc n) digits all = (omega arith, zeros_digits n digits all)
 zeros_value : (n : ℕ) (digits : List ℕ) → digits_value 10 (replicate n 48 ++ digits) ≡ digits_value 10 digits
 zeros_value zero digits = refl
 zeros_value (suc n) digits = zeros_value n digits
-
--- digits of a base, and the number that they write
-pub record Writes (base number : ℕ) (digits : List ℕ) : Type 0 where
-  pub all : AllDigits base digits
-  pub value : digits_value base digits ≡ number
 
 pub Writes-padded_decimal : (width value : ℕ) → value < 2 ^ 64 → Writes 10 value (padded_decimal width value)
 Writes-padded_decimal width value small =

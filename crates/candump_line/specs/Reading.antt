@@ -170,16 +170,19 @@ is_remote rest = begins 82 rest || begins 114 rest
 abbrev pub frame_at : (len : ℕ) → CanId → List ℕ → Result (CanFrame × List ℕ) LineFault
 frame_at len id rest = if begins 35 rest then fd_at len id (drop 1 rest) else classic_at len id rest
 
+-- the line of a frame that is read, where the end stands after it
+abbrev pub ended_at : (len at : ℕ) → Result (CanFrame × List ℕ) LineFault → Result Line LineFault
+ended_at len at read = do
+  frame ← read
+  end ← end_at len frame.1
+  Ok (FrameLine (record { 0 = at }) frame.0)
+
 -- what stands after the identifier
 unfoldable pub content_at : (len at : ℕ) → Option CanId → List ℕ → Result Line LineFault
 content_at len at None rest = Ok Passed
 content_at len at (Some id) rest =
     if begins 35 rest then (
-    if is_remote (drop 1 rest) then Ok Passed
-    else (do
-      frame ← frame_at len id (drop 1 rest)
-      end ← end_at len frame.1
-      Ok (FrameLine (record { 0 = at }) frame.0)))
+    if is_remote (drop 1 rest) then Ok Passed else ended_at len at (frame_at len id (drop 1 rest)))
     else Err (fault_at len NoHash rest)
 
 -- a frame of the bus: its identifier and what stands after it
@@ -205,6 +208,10 @@ IsLawfulLine (FrameLine at frame) = (at.0 < 2 ^ 32 * 10 ^ 6) × IsLawful frame
 IsLawfulLine Passed = Unit {0}
 IsLawfulLine Empty = Unit {0}
 
+-- the line is read as that stamp and that frame
+abbrev pub IsReadAs : (iface line : List ℕ) (at : ℕ) (frame : CanFrame) → Type 0
+IsReadAs iface line at frame = line_of iface line ≡ Ok (FrameLine (record { 0 = at }) frame)
+
 -- a line that is written for a frame is read as its stamp and the frame
 abbrev pub ReadsBack : (at : ℕ) (iface : List ℕ) (frame : CanFrame) → Type 0
-ReadsBack at iface frame = line_of iface (entry_text at iface frame) ≡ Ok (FrameLine (record { 0 = at }) frame)
+ReadsBack at iface frame = IsReadAs iface (entry_text at iface frame) at frame

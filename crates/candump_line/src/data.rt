@@ -1,67 +1,77 @@
-//! A frame's data in a line.
-ghost use Rattle.std.specs.Prelude.{◌≡◌, ◌≤◌, ◌+◌, ◌*◌, ◌++◌, ◌&&◌, [], length, drop, take, true, false, Ok, Err, MatchResult, IfOk};
+//! A frame's data in a line, and the line's end.
+ghost use Rattle.std.specs.Prelude.{◌≡◌, ◌≤◌, ◌<◌, ◌+◌, ◌*◌, ◌^◌, ◌++◌, ◌&&◌, length, drop, take, true, false, Ok, Err, MatchResult, IfOk, MatchBool};
 ghost use Rattle.std.specs.List.{prefix_len};
 ghost use Rattle.can_frame.specs.Frame.{IsLawful};
 ghost use Rattle.can_frame.specs.Id.{id_fits};
-ghost use Rattle.candump_line.specs.Reading.{after_direction, classic_at, data_at, end_at, fd_at, frame_of, hex_bytes, is_hex, length_code_at};
+ghost use Rattle.candump_line.specs.Reading.{IsLawfulLine, after_direction, classic_at, data_at, end_at, ended_at, fd_at, frame_of, hex_bytes, is_hex, length_code_at};
 
+use crate::digit::{HEX, count_hex, digit_value, number};
 use crate::fault::{LineFault, LineKind};
-use crate::fields::{MOST_LINE, after, after_spaces, count_hex, fault_at, number, skip};
-use crate::spell::HEX;
-use arrayvec::ArrayVec;
+use crate::fields::{MOST_LINE, after, after_spaces, fault_at, skip};
+use crate::line::Line;
 use can_frame::{CanId, Frame, FrameFault, MAX_CLASSIC, MAX_FD};
-
-/// The data bytes of a frame, classic or FD.
-type Data = ArrayVec<u8, MAX_FD>;
+use gw_base::Micros;
 
 /// The least data length code that stands after `_`.
 const LEAST_LENGTH_CODE: u64 = 9;
 
-/// Takes the pairs of hex digits at the front as bytes, as far as there is room, and gives what stands after them.
-fn take_pairs<'a>(text: &'a [u8], bytes: &mut Data) -> &'a [u8]
-    requires { bytes.old.items ≡ [] }
-    ensures digits { prefix_len is_hex text.now ≡ 2 * length bytes.new.items + prefix_len is_hex result.now }
-    ensures bytes { hex_bytes (take (prefix_len is_hex text.now) text.now) ≡ bytes.new.items ++ hex_bytes (take (prefix_len is_hex result.now) result.now) }
-    ensures rest { result.now ≡ drop (2 * length bytes.new.items) text.now }
-    ensures most { length bytes.new.items ≤ 64 }
-    ensures full { 2 ≤ prefix_len is_hex result.now → length bytes.new.items ≡ 64 }
+/// Takes the pairs of hex digits at the front as bytes, as far as there is room, and gives how many they are and what stands after them.
+fn take_pairs<'a>(text: &'a [u8], bytes: &mut [u8; MAX_FD]) -> (usize, &'a [u8])
+    ensures digits { prefix_len is_hex text.now ≡ 2 * result.0 + prefix_len is_hex result.1.now }
+    ensures bytes { hex_bytes (take (prefix_len is_hex text.now) text.now) ≡ take result.0 bytes.new ++ hex_bytes (take (prefix_len is_hex result.1.now) result.1.now) }
+    ensures rest { result.1.now ≡ drop (2 * result.0) text.now }
+    ensures most { result.0 ≤ 64 }
+    ensures full { 2 ≤ prefix_len is_hex result.1.now → result.0 ≡ 64 }
 {
     let mut rest = text;
+    let mut count = 0;
     while let [high, low, later @ ..] = rest {
-        let Some(high) = char::from(*high).to_digit(HEX) else {
-            return rest;
-        };
-        let Some(low) = char::from(*low).to_digit(HEX) else {
-            return rest;
-        };
-        if bytes.is_full() {
-            return rest;
+        let high = digit_value(*high);
+        let low = digit_value(*low);
+        if high >= HEX || low >= HEX || count == MAX_FD {
+            return (count, rest);
         }
-        bytes.push((high * HEX + low) as u8);
+        bytes[count] = high * HEX + low;
+        count += 1;
         rest = later;
     }
-    rest
+    (count, rest)
 }
 
-/// The bytes of the data, and what stands after it.
-#[tactic(auto, unfolding(crate::specs::Reading::data_at))]
-fn read_data(len: usize, rest: &[u8]) -> Result<(Data, &[u8]), LineFault>
-    requires { len ≤ MOST_LINE }
-    ensures { MatchResult result (λ read. data_at len rest.now ≡ Ok (read.0.items, read.1.now)) (λ fault. data_at len rest.now ≡ Err fault) }
+/// Whether a hex digit stands here.
+fn begins_with_hex(rest: &[u8]) -> bool
+    ensures { MatchBool result (0 < prefix_len is_hex rest.now) (prefix_len is_hex rest.now ≡ 0) }
 {
-    let mut bytes = Data::new();
-    let left = take_pairs(rest, &mut bytes);
+    let [first, ..] = rest else {
+        return false;
+    };
+    digit_value(*first) < HEX
+}
+
+/// Takes the bytes of the data, and gives how many they are and what stands after it.
+#[tactic(auto, unfolding(crate::specs::Reading::data_at))]
+fn read_data<'a>(
+    len: usize,
+    rest: &'a [u8],
+    bytes: &mut [u8; MAX_FD],
+) -> Result<(usize, &'a [u8]), LineFault>
+    requires { len ≤ MOST_LINE }
+    ensures read { MatchResult result (λ read. data_at len rest.now ≡ Ok (take read.0 bytes.new, read.1.now)) (λ fault. data_at len rest.now ≡ Err fault) }
+    ensures most { IfOk result (λ read. read.0 ≤ 64) }
+{
+    let (count, left) = take_pairs(rest, bytes);
+    if !begins_with_hex(left) {
+        return Ok((count, left));
+    }
     let digits = count_hex(left);
     if digits % 2 == 1 {
         return Err(fault_at(len, LineKind::BadData, skip(left, digits - 1)));
     }
-    if digits > 0 {
-        return Err(fault_at(len, LineKind::BadLength, rest));
-    }
-    Ok((bytes, left))
+    Err(fault_at(len, LineKind::BadLength, rest))
 }
 
 /// The frame of these parts, or the fault where the data begins.
+#[inline(always)]
 fn frame_of(
     len: usize,
     id: CanId,
@@ -82,22 +92,25 @@ fn frame_of(
     }
 }
 
-/// The FD frame whose flags begin here, and what stands after it.
+/// The FD frame whose flags begin here, to the line's end.
 #[tactic(auto, unfolding(crate::specs::Reading::fd_at))]
-pub(crate) fn read_fd(len: usize, id: CanId, rest: &[u8]) -> Result<(Frame, &[u8]), LineFault>
+pub(crate) fn read_fd(len: usize, at: Micros, id: CanId, rest: &[u8]) -> Result<Line, LineFault>
     requires short { len ≤ MOST_LINE }
     requires id { id_fits id ≡ true }
-    ensures read { MatchResult result (λ read. fd_at len id rest.now ≡ Ok (read.0, read.1.now)) (λ fault. fd_at len id rest.now ≡ Err fault) }
-    ensures lawful { IfOk result (λ read. IsLawful read.0) }
+    requires dated { at.0 < 2 ^ 32 * 10 ^ 6 }
+    ensures read { result ≡ ended_at len at.0 (fd_at len id rest.now) }
+    ensures lawful { IfOk result IsLawfulLine }
 {
     let (flags, digits) = number(rest, HEX, 1);
     if digits != 1 {
         return Err(fault_at(len, LineKind::BadData, rest));
     }
     let data = skip(rest, 1);
-    let (bytes, left) = read_data(len, data)?;
-    let frame = frame_of(len, id, true, flags % 2 == 1, &bytes, data)?;
-    Ok((frame, left))
+    let mut bytes = [0; MAX_FD];
+    let (count, left) = read_data(len, data, &mut bytes)?;
+    let frame = frame_of(len, id, true, flags % 2 == 1, &bytes[..count], data)?;
+    read_end(len, left)?;
+    Ok(Line::Frame { at, frame })
 }
 
 /// What stands after a classic frame's data length code, where there is one.
@@ -120,18 +133,26 @@ fn after_length_code(len: usize, bytes: usize, rest: &[u8]) -> Result<&[u8], Lin
     }
 }
 
-/// The classic frame whose data begins here, and what stands after it.
+/// The classic frame whose data begins here, to the line's end.
 #[tactic(auto, unfolding(crate::specs::Reading::classic_at))]
-pub(crate) fn read_classic(len: usize, id: CanId, rest: &[u8]) -> Result<(Frame, &[u8]), LineFault>
+pub(crate) fn read_classic(
+    len: usize,
+    at: Micros,
+    id: CanId,
+    rest: &[u8],
+) -> Result<Line, LineFault>
     requires short { len ≤ MOST_LINE }
     requires id { id_fits id ≡ true }
-    ensures read { MatchResult result (λ read. classic_at len id rest.now ≡ Ok (read.0, read.1.now)) (λ fault. classic_at len id rest.now ≡ Err fault) }
-    ensures lawful { IfOk result (λ read. IsLawful read.0) }
+    requires dated { at.0 < 2 ^ 32 * 10 ^ 6 }
+    ensures read { result ≡ ended_at len at.0 (classic_at len id rest.now) }
+    ensures lawful { IfOk result IsLawfulLine }
 {
-    let (bytes, left) = read_data(len, rest)?;
-    let frame = frame_of(len, id, false, false, &bytes, rest)?;
-    let left = after_length_code(len, bytes.len(), left)?;
-    Ok((frame, left))
+    let mut bytes = [0; MAX_FD];
+    let (count, left) = read_data(len, rest, &mut bytes)?;
+    let frame = frame_of(len, id, false, false, &bytes[..count], rest)?;
+    let left = after_length_code(len, count, left)?;
+    read_end(len, left)?;
+    Ok(Line::Frame { at, frame })
 }
 
 /// What stands after spaces and a direction, else what stands after the spaces.
@@ -153,7 +174,7 @@ fn after_direction(rest: &[u8]) -> &[u8]
 
 /// Looks at what stands after a frame: the end, perhaps after a direction.
 #[tactic(auto, unfolding(crate::specs::Reading::end_at))]
-pub(crate) fn read_end(len: usize, rest: &[u8]) -> Result<(), LineFault>
+fn read_end(len: usize, rest: &[u8]) -> Result<(), LineFault>
     requires { len ≤ MOST_LINE }
     ensures { result ≡ end_at len rest.now }
 {

@@ -1,11 +1,10 @@
 //! The pieces that a line's fields are made of.
-ghost use Rattle.std.specs.Prelude.{◌≡◌, ◌<◌, ◌≤◌, ◌^◌, true, false, length, drop, take, MatchOption};
+ghost use Rattle.std.specs.Prelude.{◌≡◌, ◌≤◌, true, false, length, drop, MatchOption};
 ghost use Rattle.std.specs.List.{list_all, prefix_len};
 ghost use Rattle.candump_line.specs.Fault.{fault_at};
-ghost use Rattle.candump_line.specs.Reading.{after_spaces, begins, digits_in, is_hex, is_space, is_visible, number_in};
+ghost use Rattle.candump_line.specs.Reading.{after_spaces, begins, is_space, is_visible};
 
 use crate::fault::{LineFault, LineKind};
-use crate::spell::HEX;
 
 /// The most bytes of a line, without its line end.
 pub(crate) const MOST_LINE: usize = 512;
@@ -69,37 +68,4 @@ pub(crate) fn count_visible(rest: &[u8]) -> usize
     rest.iter()
         .take_while(|byte| byte.is_ascii_graphic())
         .count()
-}
-
-/// How many hex digits stand at the front.
-pub(crate) fn count_hex(rest: &[u8]) -> usize
-    ensures count { result ≡ prefix_len is_hex rest.now }
-    ensures fits { result ≤ length rest.now }
-{
-    rest.iter()
-        .take_while(|byte| char::from(**byte).is_digit(HEX))
-        .count()
-}
-
-/// The number that the digits at the front write, of which so many are looked at, and how many they are.
-pub(crate) fn number(rest: &[u8], base: u32, most: usize) -> (u64, usize)
-    requires base { (2 ≤ base) × (base ≤ 16) }
-    requires short { most ≤ 10 }
-    ensures digits { result.1 ≡ digits_in base most rest.now }
-    ensures value { result.0 ≡ number_in base result.1 rest.now }
-    ensures below { result.0 < base ^ result.1 }
-    ensures fits { result.1 ≤ length rest.now }
-    ensures few { result.1 ≤ most }
-{
-    let front = &rest[..most.min(rest.len())];
-    let mut value = 0;
-    let mut count = 0;
-    for digit in front {
-        let Some(digit) = char::from(*digit).to_digit(base) else {
-            return (value, count);
-        };
-        value = value * u64::from(base) + u64::from(digit);
-        count += 1;
-    }
-    (value, count)
 }

@@ -3,9 +3,9 @@ ghost use Rattle.std.specs.Prelude.{◌≡◌, ◌≤◌, ◌^◌, ◌<◌, true
 ghost use Rattle.can_frame.specs.Id.{id_fits};
 ghost use Rattle.candump_line.specs.Reading.{id_at, id_of, interface_at, is_error_frame};
 
+use crate::digit::{HEX, number};
 use crate::fault::{LineFault, LineKind};
-use crate::fields::{MOST_LINE, after, after_spaces, count_visible, fault_at, number, skip};
-use crate::spell::HEX;
+use crate::fields::{MOST_LINE, after, after_spaces, count_visible, fault_at, skip};
 use can_frame::{CanId, MAX_EXT, MAX_STD};
 
 /// The most characters of an interface's name.

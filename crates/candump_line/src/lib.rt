@@ -2,6 +2,7 @@
 #![tactic(auto)]
 
 mod data;
+mod digit;
 mod fault;
 mod fields;
 mod id;
@@ -13,7 +14,7 @@ mod stamp;
 mod write;
 
 pub use fault::{LineFault, LineKind};
-pub use law::reading_law;
+pub use law::{reading_law, spelling_law};
 pub use line::Line;
 pub use read::read_line;
 pub use write::write_line;

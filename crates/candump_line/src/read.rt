@@ -1,30 +1,16 @@
 //! A line of a log that is read.
-ghost use Rattle.std.specs.Prelude.{◌≡◌, ◌≤◌, ◌<◌, ◌^◌, ◌*◌, true, false, length, Some, None, Ok, Err, IfOk, MatchResult};
-ghost use Rattle.can_frame.specs.Frame.{IsLawful};
+ghost use Rattle.std.specs.Prelude.{◌≡◌, ◌≤◌, ◌<◌, ◌^◌, ◌*◌, true, length, Some, None, Ok, Err, IfOk};
 ghost use Rattle.can_frame.specs.Id.{id_fits};
-ghost use Rattle.candump_line.specs.Reading.{IsLawfulLine, content_at, frame_at, is_remote, line_of, named_at};
+ghost use Rattle.candump_line.specs.Reading.{IsLawfulLine, content_at, is_remote, line_of, named_at};
 
-use crate::data::{read_classic, read_end, read_fd};
+use crate::data::{read_classic, read_fd};
 use crate::fault::{LineFault, LineKind};
 use crate::fields::{MOST_LINE, after, fault_at, is_blank};
 use crate::id::{read_id, read_interface};
 use crate::line::Line;
 use crate::stamp::read_stamp;
-use can_frame::{CanId, Frame};
+use can_frame::CanId;
 use gw_base::Micros;
-
-/// The frame whose data, or whose second `#`, begins here, and what stands after it.
-fn read_frame(len: usize, id: CanId, rest: &[u8]) -> Result<(Frame, &[u8]), LineFault>
-    requires short { len ≤ MOST_LINE }
-    requires id { id_fits id ≡ true }
-    ensures read { MatchResult result (λ read. frame_at len id rest.now ≡ Ok (read.0, read.1.now)) (λ fault. frame_at len id rest.now ≡ Err fault) }
-    ensures lawful { IfOk result (λ read. IsLawful read.0) }
-{
-    match after(b'#', rest) {
-        Some(flags) => read_fd(len, id, flags),
-        None => read_classic(len, id, rest),
-    }
-}
 
 /// Whether a remote frame's mark stands here.
 fn is_remote(rest: &[u8]) -> bool
@@ -48,9 +34,10 @@ fn read_content(len: usize, at: Micros, id: CanId, rest: &[u8]) -> Result<Line, 
     if is_remote(rest) {
         return Ok(Line::Passed);
     }
-    let (frame, left) = read_frame(len, id, rest)?;
-    read_end(len, left)?;
-    Ok(Line::Frame { at, frame })
+    match after(b'#', rest) {
+        Some(flags) => read_fd(len, at, id, flags),
+        None => read_classic(len, at, id, rest),
+    }
 }
 
 /// What stands after the bus's own name.

@@ -1,7 +1,10 @@
-ghost use Rattle.std.specs.Prelude.{◌≡◌, ◌+◌, ◌*◌, ◌^◌, ◌<◌, ◌≤◌, [], ◌∷◌, ◌++◌, length, slice_index};
+//! The pieces of a line that is written.
+ghost use Rattle.std.specs.Prelude.{◌≡◌, ◌+◌, ◌*◌, ◌^◌, ◌<◌, ◌≤◌, [], ◌∷◌, ◌++◌, length, slice_index, All};
+ghost use Rattle.can_frame.specs.Frame.{IsLawful};
 ghost use Rattle.hex.specs.Hex.{upper_digits, encode_upper};
 ghost use Rattle.candump_line.specs.Line.{IsInterface, stamp_text, hex_number, id_text, kind_text, frame_text, entry_text};
 
+use crate::digit::HEX;
 use arrayvec::ArrayVec;
 use can_frame::{CanId, Frame};
 use gw_base::{Micros, decimal};
@@ -28,11 +31,8 @@ const STD_WIDTH: u8 = 3;
 /// How many hex digits an identifier of the extended format has.
 const EXT_WIDTH: u8 = 8;
 
-/// The base of hex digits.
-pub(crate) const HEX: u32 = 16;
-
-/// The base of hex digits, as a byte.
-const HEX_BYTE: u8 = 16;
+/// The base of hex digits, as a number of an identifier's width.
+const HEX_WIDE: u32 = 16;
 
 /// The hex digits.
 const UPPER_DIGITS: [u8; 16] = *b"0123456789ABCDEF";
@@ -65,8 +65,8 @@ fn put_number(text: &mut Text, number: u32, width: u8)
     ensures len { length text.new.items ≡ length text.old.items + width }
 {
     if width > 0 {
-        put_number(text, number / HEX, width - 1);
-        put_digit(text, (number % HEX) as u8);
+        put_number(text, number / HEX_WIDE, width - 1);
+        put_digit(text, (number % HEX_WIDE) as u8);
     }
 }
 
@@ -75,10 +75,11 @@ fn put_bytes(text: &mut Text, bytes: &[u8])
     requires { length text.old.items + 2 * length bytes.now ≤ MOST_BYTES }
     ensures text { text.new.items ≡ text.old.items ++ encode_upper bytes.now }
     ensures len { length text.new.items ≡ length text.old.items + 2 * length bytes.now }
+    ensures small { All (λ b. b < 256) bytes.now }
 {
     for byte in bytes {
-        put_digit(text, byte / HEX_BYTE);
-        put_digit(text, byte % HEX_BYTE);
+        put_digit(text, byte / HEX);
+        put_digit(text, byte % HEX);
     }
 }
 
@@ -128,6 +129,8 @@ pub(crate) fn spell(at: Micros, iface: &[u8], frame: &Frame) -> Text
     requires name { IsInterface iface.now }
     ensures text { result.items ≡ entry_text at.0 iface.now frame.now }
     ensures len { length result.items < MOST_BYTES }
+    ensures lawful { IsLawful frame.now }
+    ensures bytes { All (λ b. b < 256) frame.now.bytes }
 {
     let mut text = stamp(at);
     put(&mut text, b" ");

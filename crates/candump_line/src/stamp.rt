@@ -1,14 +1,15 @@
 //! A line's stamp.
-ghost use Rattle.std.specs.Prelude.{◌≡◌, ◌<◌, ◌≤◌, ◌^◌, ◌*◌, length, Ok, Err, MatchResult, IfOk};
-ghost use Rattle.candump_line.specs.Reading.{micros_at, seconds_at, stamp_at};
+ghost use Rattle.std.specs.Prelude.{◌≡◌, ◌==◌, ◌&&◌, ◌||◌, ◌<◌, ◌≤◌, ◌^◌, ◌*◌, length, Ok, Err, MatchResult, IfOk};
+ghost use Rattle.candump_line.specs.Reading.{stamp_at};
 
+use crate::digit::number;
 use crate::fault::{LineFault, LineKind};
-use crate::fields::{MOST_LINE, after, fault_at, number, skip};
+use crate::fields::{MOST_LINE, after, fault_at, skip};
 use crate::spell::{MICROS_WIDTH, SECOND, SECONDS_WIDTH};
 use gw_base::Micros;
 
 /// The base of a stamp's digits.
-const DECIMAL: u32 = 10;
+const DECIMAL: u8 = 10;
 
 /// How many digits after the microseconds are dropped: those of nanoseconds.
 const NANOS_WIDTH: usize = 3;
@@ -19,48 +20,18 @@ const MOST_SECONDS: u64 = 4_294_967_295;
 /// The place of the seconds, after the parenthesis.
 const SECONDS_AT: u32 = 1;
 
-/// The seconds, and what stands after the dot.
-#[tactic(auto, unfolding(crate::specs::Reading::seconds_at))]
-fn read_seconds(len: usize, rest: &[u8]) -> Result<(u64, &[u8]), LineFault>
-    requires { len ≤ MOST_LINE }
-    ensures { MatchResult result (λ read. seconds_at len rest.now ≡ Ok (read.0, read.1.now)) (λ fault. seconds_at len rest.now ≡ Err fault) }
+/// Whether so many digits of microseconds and so many further ones stand in a stamp.
+fn is_fraction(micros: usize, more: usize) -> bool
+    ensures { result ≡ (micros == 6 && (more == 0 || more == 3)) }
 {
-    let (seconds, digits) = number(rest, DECIMAL, SECONDS_WIDTH);
-    let rest = skip(rest, digits);
-    if digits == 0 {
-        return Err(fault_at(len, LineKind::BadStamp, rest));
+    if micros != MICROS_WIDTH {
+        return false;
     }
-    let Some(later) = after(b'.', rest) else {
-        return Err(fault_at(len, LineKind::BadStamp, rest));
-    };
-    Ok((seconds, later))
-}
-
-/// The microseconds, and what stands after the parenthesis.
-#[tactic(auto, unfolding(crate::specs::Reading::micros_at))]
-fn read_micros(len: usize, rest: &[u8]) -> Result<(u64, &[u8]), LineFault>
-    requires { len ≤ MOST_LINE }
-    ensures read { MatchResult result (λ read. micros_at len rest.now ≡ Ok (read.0, read.1.now)) (λ fault. micros_at len rest.now ≡ Err fault) }
-    ensures below { IfOk result (λ read. read.0 < 1_000_000) }
-{
-    let (micros, digits) = number(rest, DECIMAL, MICROS_WIDTH);
-    let rest = skip(rest, digits);
-    let (_, more) = number(rest, DECIMAL, NANOS_WIDTH);
-    let rest = skip(rest, more);
-    if digits != MICROS_WIDTH {
-        return Err(fault_at(len, LineKind::BadStamp, rest));
-    }
-    if more != 0 && more != NANOS_WIDTH {
-        return Err(fault_at(len, LineKind::BadStamp, rest));
-    }
-    let Some(later) = after(b')', rest) else {
-        return Err(fault_at(len, LineKind::BadStamp, rest));
-    };
-    Ok((micros, later))
+    more == 0 || more == NANOS_WIDTH
 }
 
 /// The stamp that begins a line, and what stands after it.
-#[tactic(auto, unfolding(crate::specs::Reading::stamp_at))]
+#[tactic(auto, unfolding(crate::specs::Reading::stamp_at, crate::specs::Reading::seconds_at, crate::specs::Reading::micros_at))]
 pub(crate) fn read_stamp(line: &[u8]) -> Result<(Micros, &[u8]), LineFault>
     requires { length line.now ≤ MOST_LINE }
     ensures read { MatchResult result (λ read. stamp_at line.now ≡ Ok (read.0.0, read.1.now)) (λ fault. stamp_at line.now ≡ Err fault) }
@@ -72,8 +43,24 @@ pub(crate) fn read_stamp(line: &[u8]) -> Result<(Micros, &[u8]), LineFault>
             at: 0,
         });
     };
-    let (seconds, rest) = read_seconds(line.len(), rest)?;
-    let (micros, rest) = read_micros(line.len(), rest)?;
+    let (seconds, digits) = number(rest, DECIMAL, SECONDS_WIDTH);
+    let rest = skip(rest, digits);
+    if digits == 0 {
+        return Err(fault_at(line.len(), LineKind::BadStamp, rest));
+    }
+    let Some(rest) = after(b'.', rest) else {
+        return Err(fault_at(line.len(), LineKind::BadStamp, rest));
+    };
+    let (micros, digits) = number(rest, DECIMAL, MICROS_WIDTH);
+    let rest = skip(rest, digits);
+    let (_, more) = number(rest, DECIMAL, NANOS_WIDTH);
+    let rest = skip(rest, more);
+    if !is_fraction(digits, more) {
+        return Err(fault_at(line.len(), LineKind::BadStamp, rest));
+    }
+    let Some(rest) = after(b')', rest) else {
+        return Err(fault_at(line.len(), LineKind::BadStamp, rest));
+    };
     if seconds > MOST_SECONDS {
         return Err(LineFault {
             kind: LineKind::BadStamp,

@@ -1,5 +1,7 @@
-ghost use Rattle.std.specs.Prelude.{◌≡◌, ◌^◌, ◌<◌, ◌++◌, OnOk, OnErr};
-ghost use Rattle.candump_line.specs.Line.{IsInterface, line_text};
+//! A line that is written.
+ghost use Rattle.std.specs.Prelude.{◌≡◌, ◌^◌, ◌*◌, ◌<◌, ◌≤◌, ◌++◌, All, OnOk, OnErr};
+ghost use Rattle.candump_line.specs.Line.{IsInterface, entry_text, line_text};
+ghost use Rattle.candump_line.specs.Reading.{ReadsBack};
 
 use crate::spell::{put, spell};
 use can_frame::Frame;
@@ -7,11 +9,15 @@ use gw_base::{Bytes, Memory, Micros};
 
 /// Appends the line of a frame, with its line feed, in candump's log format: `(0000000001.000000) can0 700#021122`.
 ///
+/// The line is read, in the log of its interface, as that stamp and that frame, where the stamp is below 2^32 seconds.
+///
 /// After `Memory` nothing was appended.
 pub fn write_line(at: Micros, iface: &[u8], frame: &Frame, out: &mut Bytes) -> Result<(), Memory>
     requires date { at.0 < 10 ^ 16 }
     requires name { IsInterface iface.now }
     ensures ok { OnOk result (out.new ≡ out.old ++ line_text at.0 iface.now frame.now) }
+    ensures reads_back { at.0 < 2 ^ 32 * 10 ^ 6 → ReadsBack at.0 iface.now frame.now }
+    ensures one_line { All (λ b. 0x20 ≤ b) (entry_text at.0 iface.now frame.now) }
     ensures err { OnErr result (out.new ≡ out.old) }
 {
     let mut line = spell(at, iface, frame);

@@ -81,6 +81,19 @@ line_ended source content line count old new so_far adds = record {
   supported = supported-push source line old new so_far.supported adds;
 }
 
+-- a line of which nothing was read yet is read whole, without its line feed
+pub line_begun : (source : Source) (content piece line : List ℕ) (count : ℕ) (frames : List Stamped) →
+    ReadSoFar source content piece count frames → piece ≡ [] → HasNoFeed line → ReadSoFar source (content ++ line) line count frames
+line_begun source content piece line count frames so_far none no_feed =
+    subst (λ t. ReadSoFar source (content ++ line) t count frames) (ap (λ t. t ++ line) none) (part_kept source content piece line count frames so_far no_feed)
+
+-- and then with it
+pub line_read : (source : Source) (content piece line : List ℕ) (count : ℕ) (old new : List Stamped) →
+    ReadSoFar source content piece count old → piece ≡ [] → HasNoFeed line → AddsLine source line old new → ReadSoFar source ((content ++ line) ++ 10 ∷ []) piece (count + 1) new
+line_read source content piece line count old new so_far none no_feed adds =
+    subst (λ t. ReadSoFar source ((content ++ line) ++ 10 ∷ []) t (count + 1) new) (sym none)
+    (line_ended source (content ++ line) line count old new (line_begun source content piece line count old so_far none no_feed) adds)
+
 -- the end of the file ends the log after a line feed
 pub log_ended : (source : Source) (content piece : List ℕ) (count : ℕ) (frames : List Stamped) →
     ReadSoFar source content piece count frames → piece ≡ [] → IsTakenLog source content count frames

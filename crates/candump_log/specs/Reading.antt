@@ -1,5 +1,5 @@
 -- How a log is read on: from what was read of it so far, to its end or to what stops the reading.
-use Rattle.std.specs.Prelude.{◌≡◌, ℕ, Bool, Some, Result, Err, List, ◌∷◌, ◌++◌, All}
+use Rattle.std.specs.Prelude.{◌≡◌, ℕ, Bool, Some, Result, Err, List, [], ◌∷◌, ◌++◌, All}
 use Rattle.gw_depot.specs.Fault.{Blame, Rose}
 use Rattle.gw_depot.specs.Files.{Files}
 use Rattle.gw_depot.specs.declared.outside.CallKind.TheVariants.{Read}
@@ -21,6 +21,10 @@ IsRead source content read = ReadSoFar source content read.piece.items read.line
 abbrev pub ReadsOn : Source → (added : List ℕ) → (old new : LogSoFar) → Type 0
 ReadsOn source added old new = (content : List ℕ) → IsRead source content old → IsRead source (content ++ added) new
 
+-- with this line and its line feed after it, it is all that is read now
+abbrev pub ReadsLine : Source → (line : List ℕ) → (old new : LogSoFar) → Type 0
+ReadsLine source line old new = (content : List ℕ) → IsRead source content old → IsRead source ((content ++ line) ++ 10 ∷ []) new
+
 -- these bytes after it stop the reading, whatever comes later
 abbrev pub StopsIn : Source → (most : ℕ) → (added : List ℕ) → LogSoFar → LineStop → Type 0
 StopsIn source most added old stop = (content later : List ℕ) → IsRead source content old → Stops source most (content ++ added ++ later) stop
@@ -28,6 +32,10 @@ StopsIn source most added old stop = (content later : List ℕ) → IsRead sourc
 -- so does a line feed after it
 abbrev pub StopsAtFeed : Source → (most : ℕ) → LogSoFar → LineStop → Type 0
 StopsAtFeed source most old stop = (content later : List ℕ) → IsRead source content old → Stops source most (content ++ 10 ∷ later) stop
+
+-- so does this line with a line feed
+abbrev pub StopsAtLine : Source → (most : ℕ) → (line : List ℕ) → LogSoFar → LineStop → Type 0
+StopsAtLine source most line old stop = (content later : List ℕ) → IsRead source content old → Stops source most ((content ++ line) ++ 10 ∷ later) stop
 
 -- and so does its end
 abbrev pub StopsAtEnd : Source → (most : ℕ) → LogSoFar → LineStop → Type 0

@@ -19,41 +19,7 @@ fn without_return(piece: &[u8]) -> &[u8]
     }
 }
 
-/// The frame that a line lists in the log of a classic bus, which passes over FD frames.
-fn listed(line: Line) -> Option<Stamped>
-    requires { IsLawfulLine line }
-    ensures listed { result ≡ listed line }
-    ensures dated { IfSome result (λ stamped. stamped.at.0 < 2 ^ 32 * 10 ^ 6) }
-    ensures short { IfSome result (λ stamped. length stamped.frame.bytes ≤ 8) }
-{
-    let Line::Frame { at, frame } = line else {
-        return None;
-    };
-    if frame.fd() {
-        return None;
-    }
-    Some(Stamped { at, frame })
-}
-
-/// The frame that a line gives; None where it gives none.
-fn take_line<S: LogSource>(source: &S, piece: &[u8]) -> Result<Option<Stamped>, LineRefusal>
-    ensures taken { result ≡ taken_by (S.source source.now) piece.now }
-    ensures supported { IfOk result (λ taken. IfSome taken (IsTakenStamped (S.source source.now))) }
-{
-    let line = match read_line(without_return(piece), source.interface()) {
-        Ok(line) => line,
-        Err(fault) => return Err(LineRefusal::Bad(fault)),
-    };
-    let Some(stamped) = listed(line) else {
-        return Ok(None);
-    };
-    if source.is_unsupported(&stamped.frame) {
-        return Err(LineRefusal::Unsupported);
-    }
-    Ok(Some(stamped))
-}
-
-/// Reads one more line, without its line feed, after so many.
+/// Reads one more line, without its line feed, after so many. A classic bus passes over FD frames.
 pub(crate) fn push_line<S: LogSource>(
     source: &S,
     piece: &[u8],
@@ -67,9 +33,20 @@ pub(crate) fn push_line<S: LogSource>(
     ensures refused { IfErr result (Refuses (S.source source.now) piece.now before) }
 {
     let line = before + 1;
-    match take_line(source, piece) {
-        Ok(None) => Ok(()),
-        Ok(Some(stamped)) => Ok(frames.push(stamped)?),
-        Err(refusal) => Err(LineStop::Refused { line, refusal }),
+    let (at, frame) = match read_line(without_return(piece), source.interface()) {
+        Ok(Line::Frame { at, frame }) => (at, frame),
+        Ok(Line::Passed | Line::Empty) => return Ok(()),
+        Err(fault) => {
+            let refusal = LineRefusal::Bad(fault);
+            return Err(LineStop::Refused { line, refusal });
+        }
+    };
+    if frame.fd() {
+        return Ok(());
     }
+    if source.is_unsupported(&frame) {
+        let refusal = LineRefusal::Unsupported;
+        return Err(LineStop::Refused { line, refusal });
+    }
+    Ok(frames.push(Stamped { at, frame })?)
 }

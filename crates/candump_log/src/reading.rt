@@ -8,7 +8,7 @@ ghost use Rattle.candump_log.specs.Reading.{FaultsReading, IsLogIn};
 
 use crate::line::push_line;
 use crate::log::{LineRefusal, LineStop, Log, LogStop};
-use crate::so_far::LogSoFar;
+use crate::so_far::{LogSoFar, MOST_KEPT};
 use crate::source::LogSource;
 use arrayvec::ArrayVec;
 use candump_line::{LineFault, LineKind};
@@ -34,7 +34,7 @@ fn feed_place(bytes: &[u8]) -> Option<usize>
 }
 
 impl LogSoFar {
-    ghost use Rattle.candump_log.specs.Reading.{EndsAs, KeepsSupported, ReadsOn, StopsAtEnd, StopsAtFeed, StopsIn};
+    ghost use Rattle.candump_log.specs.Reading.{EndsAs, KeepsSupported, ReadsLine, ReadsOn, StopsAtEnd, StopsAtFeed, StopsAtLine, StopsIn};
 
     /// Whether no further line may begin.
     fn is_past_limit(&self) -> bool
@@ -81,6 +81,23 @@ impl LogSoFar {
         Ok(())
     }
 
+    /// Takes a whole line of the log and its line feed, after which nothing of a line is kept, as before it.
+    fn take_line<S: LogSource>(&mut self, source: &S, line: &[u8]) -> Result<(), LineStop>
+        requires few { self.old.lines < self.old.most }
+        requires between { self.old.piece.items ≡ [] }
+        requires kept { HasNoFeed line.now }
+        requires short { length line.now ≤ 513 }
+        ensures same { self.new.most ≡ self.old.most }
+        ensures count { OnOk result (self.new.taken ≡ self.old.taken + (length line.now + 1)) }
+        ensures read { OnOk result (ReadsLine (S.source source.now) line.now self.old self.new) }
+        ensures stops { IfErr result (StopsAtLine (S.source source.now) self.old.most line.now self.old) }
+    {
+        push_line(source, line, self.lines, &mut self.frames)?;
+        self.lines += 1;
+        self.taken += line.len() as u64 + 1;
+        Ok(())
+    }
+
     /// Takes the next bytes of the log, as far as their first line feed or else all, and says how many.
     fn take_part<S: LogSource>(&mut self, source: &S, bytes: &[u8]) -> Result<usize, LineStop>
         requires { 0 < length bytes.now }
@@ -97,6 +114,10 @@ impl LogSoFar {
             self.keep(source, bytes)?;
             return Ok(bytes.len());
         };
+        if self.piece.is_empty() && end <= MOST_KEPT {
+            self.take_line(source, &bytes[..end])?;
+            return Ok(end + 1);
+        }
         self.keep(source, &bytes[..end])?;
         self.end_line(source)?;
         Ok(end + 1)

@@ -6,7 +6,7 @@ use arrayvec::ArrayVec;
 use gw_base::ListOf;
 
 /// The most bytes that are kept of a line: the most that it may have, and a carriage return.
-const MOST_KEPT: usize = 513;
+pub(crate) const MOST_KEPT: usize = 513;
 
 /// A log as far as it was read.
 #[derive(Debug, Drop)]

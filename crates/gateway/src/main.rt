@@ -19,7 +19,7 @@ fn main(rt: HostRuntime) -> ExitCode {
     let Ok(words) = words else {
         return ExitCode::from(Status::Memory.code());
     };
-    let mut depot = FolderDepot::new(&rt);
+    let mut depot = FolderDepot::new(rt.alloc(), &rt);
     let mut say = OutSink::new(&rt);
     let status = run(
         &rt,

@@ -1,5 +1,5 @@
 -- What one read says of a file whose content is known.
-use Rattle.std.proofs.Common.{◌≡◌, ℕ, ◌+◌, ◌-◌, ◌≤◌, List, length, take, drop, Some, sym, ◌∙◌, ap, length-drop, length-take, arith}
+use Rattle.std.proofs.Common.{◌≡◌, ℕ, ◌+◌, ◌-◌, ◌≤◌, List, length, take, drop, Some, ◌∙◌, ap, length-drop, length-take, arith}
 use Rattle.std.proofs.Math.Seq.{take-length}
 use Rattle.gw_base.proofs.Lists.{same-some}
 use Rattle.gw_depot.specs.Files.{Files, ReadsFile}

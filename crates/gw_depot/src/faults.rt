@@ -7,7 +7,7 @@ use arrayvec::ArrayVec;
 use std::marker::Model;
 
 /// The most bytes of a file's name.
-const MOST_NAME_BYTES: usize = 64;
+pub(crate) const MOST_NAME_BYTES: usize = 64;
 
 /// How often a depot has failed, and the kind and the name of its last failed call.
 #[derive(Debug, Drop)]

@@ -1,25 +1,30 @@
-ghost use Rattle.std.specs.Prelude.{◌≡◌, ◌<◌, ◌≤◌, length, None, false, IfOk};
+//! The files of the current folder.
+ghost use Rattle.std.specs.Prelude.{◌≡◌, None, false};
 ghost use Rattle.gw_depot.specs.Fault.{no_faults};
 
 use crate::faults::Faults;
+use crate::open_files::OpenFiles;
 use crate::outside::{CallKind, Depot, Failed};
-use crate::piece::write_piece;
-use std::fs::{self, OpenOptions};
-use std::io::{self, ErrorKind, Read, Seek, SeekFrom};
+use std::alloc::Global;
+use std::fs::File;
 use std::marker::Model;
 use std::rt::Files;
 
 /// The files of the program's current folder. It doesn't tell its contents.
 ///
-/// Each call opens the file by its name and closes it again. A read seeks its place. A file that isn't there is a
-/// fault of a read and of an append. Contracts see the faults.
+/// A file is opened at the first call for its name, and stays open: a log that is replaced by name while it is read is read to
+/// its end as it was. A file that isn't there is a fault of a read and of an append. So is, before anything is cut or written:
+/// to read what isn't a regular file; to write what is neither that nor a character device; to write a file that is open under
+/// another name, that another run has locked, or that the standard output goes to. What is written is brought to its device
+/// before an append answers. Contracts see the faults.
 #[derive(Drop)]
-pub struct FolderDepot<'a, R: Files> {
+pub struct FolderDepot<'a, R: Files<File = File>> {
     rt: &'a R,
+    files: OpenFiles,
     faults: Faults,
 }
 
-impl<'a, R: Files> Model for FolderDepot<'a, R> {
+impl<'a, R: Files<File = File>> Model for FolderDepot<'a, R> {
     ghost use Rattle.gw_depot.specs.Fault.{Faults};
 
     ghost Value = { Faults };
@@ -27,19 +32,20 @@ impl<'a, R: Files> Model for FolderDepot<'a, R> {
     ghost view = { λ a. a.faults };
 }
 
-impl<'a, R: Files> FolderDepot<'a, R> {
+impl<'a, R: Files<File = File>> FolderDepot<'a, R> {
     /// The current folder; nothing is opened yet.
-    pub fn new(rt: &'a R) -> FolderDepot<'a, R>
+    pub fn new(alloc: Global, rt: &'a R) -> FolderDepot<'a, R>
         ensures { result ≡ no_faults }
     {
         FolderDepot {
             rt,
+            files: OpenFiles::new(alloc),
             faults: Faults::new(),
         }
     }
 }
 
-impl<R: Files> Depot for FolderDepot<'_, R> {
+impl<R: Files<File = File>> Depot for FolderDepot<'_, R> {
     ghost told = { λ _. false };
 
     ghost files = { λ _ _. None };
@@ -49,46 +55,23 @@ impl<R: Files> Depot for FolderDepot<'_, R> {
     ghost blame = { λ depot. depot.blame };
 
     fn read(&mut self, name: &str, at: u64, into: &mut [u8]) -> Result<usize, Failed> {
-        match read_at(self.rt, name, at, into) {
+        match self.files.read_at(self.rt, name, at, into) {
             Ok(count) => Ok(count),
             Err(_) => Err(self.faults.count(CallKind::Read, name)),
         }
     }
 
     fn create(&mut self, name: &str) -> Result<(), Failed> {
-        match fs::create(self.rt, name) {
+        match self.files.create(self.rt, name) {
             Ok(_) => Ok(()),
             Err(_) => Err(self.faults.count(CallKind::Create, name)),
         }
     }
 
     fn append(&mut self, name: &str, piece: &[u8]) -> Result<usize, Failed> {
-        match append_some(self.rt, name, piece) {
+        match self.files.append(self.rt, name, piece) {
             Ok(count) => Ok(count),
             Err(_) => Err(self.faults.count(CallKind::Append, name)),
         }
     }
-}
-
-/// Reads once from the place on, again where the system was interrupted.
-fn read_at<R: Files>(rt: &R, name: &str, at: u64, into: &mut [u8]) -> io::Result<usize>
-    ensures { IfOk result (λ count. count ≤ length into.old) }
-{
-    let mut file = fs::open(rt, name)?;
-    file.seek(SeekFrom::Start(at))?;
-    for _ in 0..u64::MAX {
-        match file.read(into) {
-            Err(error) if error.kind() == ErrorKind::Interrupted => {}
-            answer => return answer,
-        }
-    }
-    Err(ErrorKind::Interrupted.into())
-}
-
-/// Writes once at the end of the file, which is there.
-fn append_some<R: Files>(rt: &R, name: &str, piece: &[u8]) -> io::Result<usize>
-    ensures { IfOk result (λ count. (0 < count) × (count ≤ length piece.now)) }
-{
-    let mut file = OpenOptions::new().append(true).open(rt, name)?;
-    write_piece(&mut file, piece)
 }

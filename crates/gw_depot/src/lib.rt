@@ -7,6 +7,8 @@ mod mem_depot;
 mod mem_files;
 mod mem_sink;
 mod never_fails;
+mod open_files;
+mod opened_file;
 mod out_sink;
 mod outside;
 mod piece;

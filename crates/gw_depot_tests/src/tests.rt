@@ -93,7 +93,10 @@ fn append_in_memory(depot: &mut MemDepot, piece: &[u8]) -> Result<usize, Failed>
     depot.append(NAME, piece)
 }
 
-fn append_in_folder<R: Files>(depot: &mut FolderDepot<'_, R>, piece: &[u8]) -> Result<usize, Failed>
+fn append_in_folder<R: Files<File = fs::File>>(
+    depot: &mut FolderDepot<'_, R>,
+    piece: &[u8],
+) -> Result<usize, Failed>
     requires { 0 < length piece.now }
 {
     depot.append(NAME, piece)
@@ -162,7 +165,7 @@ fn what_was_set_is_read_and_nothing_is_kept(rt: HostRuntime) {
 
 #[test]
 fn a_real_file_is_made_grows_and_is_read(rt: HostRuntime) {
-    let mut depot = FolderDepot::new(&rt);
+    let mut depot = FolderDepot::new(rt.alloc(), &rt);
     assert!(rt; !finds(&mut depot, 0, b""), "a missing file");
     assert_eq!(rt;
         append_in_folder(&mut depot, b"ab"),

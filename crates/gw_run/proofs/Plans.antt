@@ -76,6 +76,8 @@ forwards before after config report setup source destination plan planned is res
   tells = planned.tells;
   left = rw (← planned.prints.source_output, ← planned.prints.output, ← planned.prints.report) results;
   counted = planned.prints.counted;
+  source_log = planned.source_log;
+  log = planned.log;
 }
 
 -- what was planned was begun

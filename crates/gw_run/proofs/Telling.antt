@@ -17,7 +17,7 @@ use Rattle.hub_core.proofs.Turns.{came-append}
 use Rattle.hub_core.specs.Turns.{came_by}
 use Rattle.receiver_law.specs.Looks.{AreShort}
 use Rattle.tp_receiver.specs.Runs.{frames_in}
-use Rattle.gw_run.specs.Works.{RunTold, turns_of, view_of}
+use Rattle.gw_run.specs.Works.{RunTold, moments_of, turns_of, view_of}
 use Rattle.gw_run.proofs.works.RxLooks.{all-look}
 use Rattle.gw_run.proofs.works.RxParts.{turns-same}
 use Rattle.gw_run.proofs.works.Runs.{Played, account, is-run, never-busy, run_of}
@@ -38,6 +38,7 @@ use Rattle.gw_law.specs.Channels.{InTick, is_same_id, seen_in}
 use Rattle.gw_run.specs.Frames.{in_ticks_from, with_id}
 use Rattle.gw_run.specs.Machines.{AreMachines}
 use Rattle.gw_run.specs.Played.{Plays, Told, account_of}
+use Rattle.gw_run.proofs.Outputs.{controls-classic, frames-classic}
 use Rattle.gw_run.specs.Setup.{AreMachinesOf, IsBuiltFrame, Setup, is_long_first, is_other_control}
 
 -- ---- flow controls that are built let everything come at once
@@ -125,3 +126,14 @@ tells_of setup m clock last source destination told are period last_is lawful pl
   period_is = ap (λ (c : Clock). c.period) plays.clock_is ∙ period;
   buffers = plays.buffers;
 }
+
+-- and all that was sent is classic
+pub told-controls : (m : Machines) (clock : Clock) (last : ℕ) (source destination : List Stamped) (told : Told) → AreMachines m.rx m.shape m.tx → Plays m clock last source destination told →
+    AllByRecursion (λ (w : Written). w.frame.fd ≡ false) told.controls
+told-controls m clock last source destination told are plays =
+    subst (AllByRecursion (λ (w : Written). w.frame.fd ≡ false)) (ap (λ (r : RunTold). r.controls) plays.tells) (controls-classic m.shape (turns_of (plays.end ∷ plays.ticks)) are.controls.fd)
+
+pub told-frames : (m : Machines) (clock : Clock) (last : ℕ) (source destination : List Stamped) (told : Told) → AreMachines m.rx m.shape m.tx → Plays m clock last source destination told →
+    AllByRecursion (λ (w : Written). w.frame.fd ≡ false) told.frames
+told-frames m clock last source destination told are plays =
+    subst (AllByRecursion (λ (w : Written). w.frame.fd ≡ false)) (ap (λ (r : RunTold). r.frames) plays.tells) (frames-classic m.tx.shape (moments_of (plays.end ∷ plays.ticks)) are.frames.fd)

@@ -19,7 +19,7 @@ use Rattle.gw_run.specs.declared.status.Status.TheVariants.{Ok, Accepted, Usage,
 use Rattle.gw_run.specs.Config.{ReadsConfig}
 use Rattle.gw_run.specs.Frames.{greatest_tick}
 use Rattle.gw_run.specs.Log.{IsBuiltLog}
-use Rattle.gw_run.specs.Output.{output_text}
+use Rattle.gw_run.specs.Output.{IsLogWhereDated, output_text}
 use Rattle.gw_run.specs.Played.{Told, account_of}
 use Rattle.gw_run.specs.Results.{HasBegun, HasResults}
 use Rattle.gw_run.specs.Setup.{AreMachinesOf, Bus, IsBuiltConfig, Setup}
@@ -113,6 +113,9 @@ pub record Forwards (before after : Files) (config report : List ℕ) (summary :
   pub tells : Tells setup source destination start told
   pub left : HasResults before after setup (output_text start setup.period setup.source.interface told.controls) (output_text start setup.period setup.destination.interface told.frames) report (report_text told.report)
   pub counted : Counts told.report summary
+  -- each output can be read in one way only, as a log of just the frames that left
+  pub source_log : IsLogWhereDated start setup.period setup.source.interface told.controls
+  pub log : IsLogWhereDated start setup.period setup.destination.interface told.frames
 
 -- such a run has begun: the outputs and the report are beginnings of those that it leaves
 pub record BeginsToForward (before after : Files) (config report : List ℕ) : Type 0 where

@@ -1,11 +1,11 @@
 -- What a run is going to leave behind, by the frames of both logs.
-use Rattle.std.specs.Prelude.{◌≡◌, ℕ, List}
+use Rattle.std.specs.Prelude.{◌≡◌, ℕ, List, All}
 use Rattle.std.specs.String.{string_bytes}
 use Rattle.session_report.specs.Lines.{report_text}
 use Rattle.candump_log.specs.declared.log.Stamped.{Stamped}
 use Rattle.gw_run.specs.declared.plan.Plan.{Plan}
 use Rattle.gw_run.specs.Forwarded.{Counts, HasLawfulTicks, Tells}
-use Rattle.gw_run.specs.Output.{output_text}
+use Rattle.gw_run.specs.Output.{IsLogWhereDated, IsOneLine, output_text}
 use Rattle.gw_run.specs.Played.{Told}
 use Rattle.gw_run.specs.Setup.{Setup}
 
@@ -13,6 +13,8 @@ use Rattle.gw_run.specs.Setup.{Setup}
 pub record Prints (start : ℕ) (setup : Setup) (told : Told) (plan : Plan) : Type 0 where
   pub source_output : plan.source_output ≡ output_text start setup.period setup.source.interface told.controls
   pub output : plan.output ≡ output_text start setup.period setup.destination.interface told.frames
+  pub source_lines : All (IsOneLine start setup.period setup.source.interface) told.controls
+  pub lines : All (IsOneLine start setup.period setup.destination.interface) told.frames
   pub report : string_bytes plan.report ≡ report_text told.report
   pub counted : Counts told.report plan.summary
 
@@ -23,3 +25,5 @@ pub record IsPlan (setup : Setup) (source destination : List Stamped) (plan : Pl
   pub told : Told
   pub tells : Tells setup source destination start told
   pub prints : Prints start setup told plan
+  pub source_log : IsLogWhereDated start setup.period setup.source.interface told.controls
+  pub log : IsLogWhereDated start setup.period setup.destination.interface told.frames

@@ -1,7 +1,7 @@
 //! The lines of the frames that a bus sends.
 ghost use Rattle.std.specs.Prelude.{◌≡◌, ◌<◌, ◌≤◌, ◌++◌, All, OnOk, IfOk};
 ghost use Rattle.candump_line.specs.Line.{IsInterface};
-ghost use Rattle.gw_run.specs.Output.{line_of, output_text};
+ghost use Rattle.gw_run.specs.Output.{IsOneLine, line_of, output_text};
 
 use crate::played::Sent;
 use candump_line::write_line;
@@ -15,7 +15,8 @@ fn push_line(clock: &Clock, interface: &[u8], sent: &Sent, text: &mut Bytes) -> 
     requires date { clock.now.start.0 < 4_294_967_296_000_000 }
     requires tick { sent.now.tick ≤ 10_000_000 }
     requires name { IsInterface interface.now }
-    ensures { OnOk result (text.new ≡ text.old ++ line_of clock.now.start.0 clock.now.period interface.now sent.now) }
+    ensures line { OnOk result (text.new ≡ text.old ++ line_of clock.now.start.0 clock.now.period interface.now sent.now) }
+    ensures one_line { IsOneLine clock.now.start.0 clock.now.period interface.now sent.now }
 {
     let at = clock.stamp_of(sent.tick);
     write_line(at, interface, &sent.frame, text)
@@ -32,7 +33,8 @@ pub(crate) fn output_text(
     requires date { clock.now.start.0 < 4_294_967_296_000_000 }
     requires ticks { All (λ sent. sent.tick ≤ 10_000_000) frames.now }
     requires name { IsInterface interface.now }
-    ensures { IfOk result (λ text. text ≡ output_text clock.now.start.0 clock.now.period interface.now frames.now) }
+    ensures lines { IfOk result (λ _. All (IsOneLine clock.now.start.0 clock.now.period interface.now) frames.now) }
+    ensures text { IfOk result (λ text. text ≡ output_text clock.now.start.0 clock.now.period interface.now frames.now) }
 {
     let mut text = Bytes::new(alloc);
     for sent in frames {

@@ -1,5 +1,5 @@
 use Rattle.std.proofs.Common.{◌++◌, List, ℕ, append-nil, append_assoc, sym, ap, ◌∙◌, arith}
-use Rattle.candump_line.proofs.Digits.{encode_upper-none, encode_upper-more}
+use Rattle.candump_line.proofs.Digits.{bytes-small, encode_upper-none, encode_upper-more}
 use Rattle.candump_line.proofs.spell.put_bytes.Goals as goal
 
 pub loop-byte-init : goal.loop-byte-init
@@ -12,3 +12,6 @@ loop-byte-preserved c = (
       (ap (λ (digits : List ℕ). c.args.text.now.items ++ digits) (sym (encode_upper-more c.args.bytes.now c.loop-byte.byte-index c.loop-byte-test.true))),
   omega arith,
 )
+
+pub returns-clause-small : goal.returns-clause-small
+returns-clause-small c = bytes-small c.args.bytes.now (λ i. omega (arith, c.type_inv.bytes i))

@@ -6,7 +6,8 @@ use Rattle.gw_run.specs.declared.setup.Side.TheVariants.{Destination}
 use Rattle.gw_run.specs.Answers.{IsPlainAnswer}
 use Rattle.gw_run.specs.Forwarded.{last_of}
 use Rattle.gw_run.specs.Setup.{IsBuiltFrame}
-use Rattle.gw_run.proofs.Telling.{controls-within, frames-within, lawful_of, plain-answer, tells_of}
+use Rattle.gw_run.proofs.Outputs.{written-log}
+use Rattle.gw_run.proofs.Telling.{controls-within, frames-within, lawful_of, plain-answer, tells_of, told-controls, told-frames}
 use Rattle.gw_run.proofs.plan.plan_results.Goals as goal
 
 pub play-requires-clause-answers : goal.play-requires-clause-answers
@@ -37,4 +38,8 @@ returns-clause-planned c =
           (lawful_of c.machines-machines.result _ (c.max.result + c.from.result) c.args.source.now c.args.destination.now c.in-Ok.played c.machines-machines.result.are (subst (λ side. All (λ s. IsBuiltFrame side s.frame) c.args.source.now) c.machines-machines.ensures.source c.requires.units) c.in-Ok.ensures)
           c.in-Ok.ensures;
       prints = c.in-Ok-print_all.ensures;
+      source_log = written-log c.start_of.result.0 c.args.setup.now.period c.args.setup.now.source.interface c.in-Ok.played.controls c.in-Ok-print_all.ensures.source_lines
+          (told-controls c.machines-machines.result _ _ c.args.source.now c.args.destination.now c.in-Ok.played c.machines-machines.result.are c.in-Ok.ensures);
+      log = written-log c.start_of.result.0 c.args.setup.now.period c.args.setup.now.destination.interface c.in-Ok.played.frames c.in-Ok-print_all.ensures.lines
+          (told-frames c.machines-machines.result _ _ c.args.source.now c.args.destination.now c.in-Ok.played c.machines-machines.result.are c.in-Ok.ensures);
     }

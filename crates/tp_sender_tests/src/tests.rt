@@ -72,6 +72,7 @@ fn write<P: Port>(port: &mut P, source: Source) -> bool
     requires sessions { length ((P.state port.old).view.sessions 0) ≡ 0 }
     ensures readings { (P.state port.new).view.readings ≡ (P.state port.old).view.readings }
     ensures reads { (P.state port.new).means.reads ≡ (P.state port.old).means.reads }
+    ensures groups { (P.state port.new).means.groups ≡ (P.state port.old).means.groups }
 {
     let Take::Granted { change: _, held } = port.take(GroupNo(0), 1) else {
         return false;

@@ -1,6 +1,5 @@
 -- What is planned, and what is done of it.
 use Rattle.std.proofs.Common.{◌≡◌, ℕ, ◌-◌, ◌≤◌, Bool, true, List}
-use Rattle.std.specs.String.{string_bytes}
 use Rattle.gw_depot.specs.Files.{Files}
 use Rattle.candump_log.specs.declared.log.Stamped.{Stamped}
 use Rattle.gw_run.specs.declared.plan.Plan.{Plan}
@@ -65,7 +64,7 @@ plan-cause told before config report setup lines lines' source destination (Limi
 -- what was planned was done
 pub forwards : (before after : Files) (config report : List ℕ) (setup : Setup) (source destination : List Stamped) (plan : Plan) →
     (planned : IsPlan setup source destination plan) → IsBuilt before config report setup source destination planned.start →
-    HasResults before after setup plan.source_output plan.output report (string_bytes plan.report) → Forwards before after config report plan.summary
+    HasResults before after setup plan.source_output plan.output report plan.report → Forwards before after config report plan.summary
 forwards before after config report setup source destination plan planned is results = record {
   setup = setup;
   source = source;
@@ -83,7 +82,7 @@ forwards before after config report setup source destination plan planned is res
 -- what was planned was begun
 pub begins : (before after : Files) (config report : List ℕ) (setup : Setup) (source destination : List Stamped) (plan : Plan) →
     (planned : IsPlan setup source destination plan) → IsBuilt before config report setup source destination planned.start →
-    HasBegun before after setup plan.source_output plan.output report (string_bytes plan.report) → BeginsToForward before after config report
+    HasBegun before after setup plan.source_output plan.output report plan.report → BeginsToForward before after config report
 begins before after config report setup source destination plan planned is begun = record {
   setup = setup;
   source = source;

@@ -1,6 +1,5 @@
 -- What a run is going to leave behind, by the frames of both logs.
 use Rattle.std.specs.Prelude.{◌≡◌, ℕ, List, All}
-use Rattle.std.specs.String.{string_bytes}
 use Rattle.session_report.specs.Lines.{report_text}
 use Rattle.candump_log.specs.declared.log.Stamped.{Stamped}
 use Rattle.gw_run.specs.declared.plan.Plan.{Plan}
@@ -15,7 +14,7 @@ pub record Prints (start : ℕ) (setup : Setup) (told : Told) (plan : Plan) : Ty
   pub output : plan.output ≡ output_text start setup.period setup.destination.interface told.frames
   pub source_lines : All (IsOneLine start setup.period setup.source.interface) told.controls
   pub lines : All (IsOneLine start setup.period setup.destination.interface) told.frames
-  pub report : string_bytes plan.report ≡ report_text told.report
+  pub report : plan.report ≡ report_text told.report
   pub counted : Counts told.report plan.summary
 
 -- and so of what a run over the frames has sent and tells

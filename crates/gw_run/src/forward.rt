@@ -81,7 +81,7 @@ fn carry_out<D: Depot>(alloc: Global, setup: &Setup<'_>, report: &str, depot: &m
         plan.source_output.items(),
         plan.output.items(),
         report,
-        plan.report.as_bytes(),
+        plan.report.items(),
     ) {
         return Status::WriteFault(role);
     }

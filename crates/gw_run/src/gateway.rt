@@ -20,12 +20,17 @@ use crate::played::{Played, Sent};
 use can_frame::Frame;
 use gw_base::{GroupNo, ListOf, Memory, Tick};
 use hub_core::PlainHub;
-use session_report::{DestLines, MoveLines, PoolLine, Report, SessionLines};
+use session_report::{
+    DestLines, GroupMoveLines, GroupPoolLines, IfLines, MoveLines, PoolLine, Report, SessionLines,
+};
 use std::alloc::Global;
 use tick_clock::Clock;
 use tp_receiver::{Receiver, RxActs, RxEvent};
 use tp_sender::{Sender, TxActs, TxEvent};
 use tp_unit::{Unit, read_unit};
+
+/// The version of a report of one group, in which no unit was refused.
+const REPORT_VERSION: u8 = 1;
 
 /// The free set of a pool whose one buffer is free.
 const ALL_FREE: u64 = 1;
@@ -143,14 +148,19 @@ impl Gateway {
     }
 
     /// The run's end in its last tick: both machines are told, and this is what the run tells.
-    pub(crate) fn finish(mut self, clock: &Clock, last: Tick) -> Result<Played, Memory>
+    pub(crate) fn finish(
+        mut self,
+        alloc: Global,
+        clock: &Clock,
+        last: Tick,
+    ) -> Result<Played, Memory>
         requires tick { last.0 ≤ 10_000_000 }
         requires at { (seen : List Seen) × (answers : List Answer) × (next : ℕ) × (next ≤ last.0 + 1) × (IsQuiet self ⊎ (next ≡ last.0 + 1)) × AtBarrier self seen answers next }
         ensures { IfOk result (λ told. (seen : List Seen) (answers : List Answer) (next : ℕ) → next ≤ last.0 + 1 → IsQuiet self ⊎ (next ≡ last.0 + 1) → AtBarrier self seen answers next → Finishes self.machines clock.now last.0 seen answers told) }
     {
         self.tell_receiver(RxEvent::RunEnd, last)?;
         self.end_sender(last)?;
-        Ok(self.told(clock))
+        Ok(self.told(alloc, clock))
     }
 }
 
@@ -237,7 +247,7 @@ impl Gateway {
     }
 
     /// What the run tells.
-    fn told(self, clock: &Clock) -> Played
+    fn told(self, alloc: Global, clock: &Clock) -> Played
         ensures { Tells self clock.now result }
     {
         let word = self.hub.word(GroupNo(0));
@@ -245,15 +255,19 @@ impl Gateway {
             controls: self.controls,
             frames: self.frames,
             report: Report {
+                version: REPORT_VERSION,
                 clock: *clock,
                 sessions: self.sessions,
                 dests: self.dests,
+                ifs: IfLines::new(alloc),
                 moves: self.moves,
                 pool: PoolLine {
                     buffers: 1,
                     changes: (word / ONE_CHANGE) as u32,
                     free: (word % ONE_CHANGE) as u32,
                 },
+                other_moves: GroupMoveLines::new(alloc),
+                other_pools: GroupPoolLines::new(alloc),
             },
         }
     }

@@ -28,7 +28,7 @@ pub(crate) struct Plan {
     /// The output of the source's bus, and of the destination's.
     pub(crate) source_output: Bytes,
     pub(crate) output: Bytes,
-    pub(crate) report: String,
+    pub(crate) report: Bytes,
     pub(crate) summary: Summary,
 }
 

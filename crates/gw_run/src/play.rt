@@ -109,5 +109,5 @@ pub(crate) fn play(
             &destination_coming,
         );
     }
-    gateway.finish(clock, last)
+    gateway.finish(alloc, clock, last)
 }

@@ -1,1 +1,4 @@
 pub mod Lines
+pub mod Orders
+pub mod Printing
+pub mod Reading

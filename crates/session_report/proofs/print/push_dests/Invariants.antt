@@ -1,7 +1,7 @@
+-- The lines so far are those of the items so far.
 use Rattle.std.proofs.Common.{◌≡◌, ◌++◌, flat_map, take}
-use Rattle.std.specs.String.{string_bytes}
-use Rattle.session_report.specs.Lines.{dest_line}
+use Rattle.session_report.specs.Printing.{dest_text}
 use Rattle.session_report.proofs.print.push_dests.Given as goal
 
 abbrev pub invariant-loop-record : goal.invariant-loop-record
-invariant-loop-record l = string_bytes l.text ≡ string_bytes l.initial.text ++ flat_map dest_line (take l.record-index l.records)
+invariant-loop-record l = l.text ≡ l.initial.text ++ flat_map dest_text (take l.record-index l.records)

@@ -1,7 +1,7 @@
+-- The lines so far are those of the items so far.
 use Rattle.std.proofs.Common.{◌≡◌, ◌++◌, flat_map, take}
-use Rattle.std.specs.String.{string_bytes}
-use Rattle.session_report.specs.Lines.{move_line}
+use Rattle.session_report.specs.Printing.{move_text}
 use Rattle.session_report.proofs.print.push_moves.Given as goal
 
-abbrev pub invariant-loop-made : goal.invariant-loop-made
-invariant-loop-made l = string_bytes l.text ≡ string_bytes l.initial.text ++ flat_map move_line (take l.made-index l.moves)
+abbrev pub invariant-loop-moved : goal.invariant-loop-moved
+invariant-loop-moved l = l.text ≡ l.initial.text ++ flat_map (move_text l.version) (take l.moved-index l.moves)

@@ -1,5 +1,5 @@
 -- The cancellations of a bus among those of a tick.
-use Rattle.std.proofs.Common.{◌≡◌, ℕ, Bool, true, false, cond, ◌&&◌, List, [], ◌∷◌, ◌++◌, filter, take, get_or, length, Option, Some, None, slice_get, option_map, inl, inr, append-nil, refl, sym, ap, ◌∙◌, arith}
+use Rattle.std.proofs.Common.{◌≡◌, ℕ, List, [], ◌∷◌, filter, slice_get, inl, inr, refl, ap, ◌∙◌}
 use Rattle.std.proofs.lemmas.Bool.{cases_Bool}
 use Rattle.cancel_plan.specs.declared.entry.CancelEntry.{CancelEntry}
 use Rattle.cancel_plan.specs.Plan.{due_entries, is_in, is_on}

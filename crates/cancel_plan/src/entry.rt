@@ -1,3 +1,4 @@
+//! One configured cancellation.
 use gw_base::{BusNo, DestNo, PathNo, Tick};
 
 /// A configured cancellation.

@@ -1,3 +1,4 @@
+//! The cancellations of a configuration, found by their bus and tick.
 ghost use Rattle.std.specs.Prelude.{◌≡◌, List, filter, slice_get, option_map, IfOk, OnOk};
 ghost use Rattle.cancel_plan.specs.Plan.{AddsEntry, IsPlanOf, due_entries, entries_at, is_on};
 

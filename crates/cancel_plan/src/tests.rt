@@ -1,3 +1,4 @@
+//! A plan over several buses and ticks, asked for each.
 use super::*;
 use gw_base::{BusNo, DestNo, PathNo, Tick};
 use std::test::*;

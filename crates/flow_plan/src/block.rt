@@ -1,3 +1,4 @@
+//! What a flow control grants.
 /// What a flow control grants (ISO 15765-2, flow control).
 #[derive(Clone, Copy, Debug, PartialEq, Eq)]
 pub enum Grant {

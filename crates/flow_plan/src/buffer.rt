@@ -1,3 +1,4 @@
+//! How many cells a message needs of its buffer.
 ghost use Rattle.std.specs.Prelude.{◌≡◌, ◌<◌, ◌≤◌};
 ghost use Rattle.flow_plan.specs.Need.{needed};
 

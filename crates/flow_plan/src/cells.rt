@@ -1,3 +1,4 @@
+//! How many cells bytes take.
 ghost use Rattle.std.specs.Prelude.{◌≡◌, ◌+◌, ◌-◌, ◌<◌, ◌≤◌};
 ghost use Rattle.flow_plan.specs.Cells.{cells_for, cells_left};
 

@@ -1,3 +1,4 @@
+//! The separation time in ticks.
 ghost use Rattle.std.specs.Prelude.{◌≡◌, ◌<◌, ◌≤◌};
 ghost use Rattle.flow_plan.specs.Gap.{IsGap, gap_in, separation};
 

@@ -1,3 +1,4 @@
+//! Which block a receiver grants, by the room of its buffer.
 ghost use Rattle.std.specs.Prelude.{◌≡◌, ◌<◌};
 ghost use Rattle.flow_plan.specs.Grant.{granted, with_room};
 

@@ -1,3 +1,4 @@
+//! The laws of needs and grants, as contracts of functions that do nothing.
 ghost use Rattle.flow_plan.specs.Laws.{GrantedLaw, PayloadsLaw, ProgressLaw};
 
 /// The payloads of a message's consecutive frames have as many cells as the formula says; the function does nothing.

@@ -1,7 +1,7 @@
 -- The run's end: both machines are told, and the whole run is one.
-use Rattle.std.proofs.Common.{◌≡◌, ◌⊎◌, ℕ, zero, suc, true, ◌+◌, ◌-◌, ◌*◌, ◌<◌, ◌≤◌, Option, Some, None, List, [], ◌∷◌, ◌++◌, length, refl, sym, subst, ap, ◌∙◌, append-nil, length-append, arith}
+use Rattle.std.proofs.Common.{◌≡◌, ◌⊎◌, ℕ, zero, suc, ◌+◌, ◌-◌, ◌*◌, ◌<◌, ◌≤◌, Option, List, [], ◌∷◌, ◌++◌, length, refl, sym, subst, ap, ◌∙◌, append-nil, length-append, arith}
 use Rattle.tp_unit.specs.Box.{Answer, Written}
-use Rattle.tp_receiver.specs.State.{Reception, RxDid, RxState, RunEnd, RxTurn}
+use Rattle.tp_receiver.specs.State.{RunEnd, RxTurn}
 use Rattle.tp_receiver.proofs.Made.{idle-ended}
 use Rattle.hub_core.specs.Turns.{came_by, calls_by}
 use Rattle.tp_receiver.specs.Runs.{frames_in}
@@ -20,20 +20,17 @@ use Rattle.hub_core.specs.declared.record.SessionRecord.{SessionRecord}
 use Rattle.gw_run.specs.Works.{IsIdle, RunTold, Work, moments_of, turns_of, view_of}
 use Rattle.tick_clock.specs.declared.clock.Clock.{Clock}
 use Rattle.tp_attempts.specs.Seen.{Seen}
-use Rattle.tp_receiver.specs.declared.set.RxSet.{RxSet}
-use Rattle.tp_sender.specs.Port.{ActsFor as ActsForSender}
-use Rattle.tp_sender.specs.State.{Transmission, TxDid, TxState, TxTurn, set_of, state_of}
+use Rattle.tp_sender.specs.State.{TxState, TxTurn, set_of, state_of}
 use Rattle.sender_law.proofs.causes.RunEnds.{none-told, sent_now, some-told}
-use Rattle.tp_sender.specs.declared.event.TxEvent.{TxEvent}
 use Rattle.tp_sender.specs.declared.event.TxEvent.TheVariants.{RunEnd}
 use Rattle.tp_sender.specs.declared.set.TxSet.{TxSet}
 use Rattle.tp_unit.specs.Unit.{Meaning}
 use Rattle.gw_run.specs.Played.{Told, told_with}
 use Rattle.gw_run.specs.Standing.{groups_in, AtBarrier, Finishes, IsQuiet, RxStands, Stands, TxStands, lying, view_in}
-use Rattle.gw_run.specs.Telling.{EndsTelling, IsOver, Tells, TellsReceiver, TellsSender, means_in}
+use Rattle.gw_run.specs.Telling.{EndsTelling, IsOver, Tells, TellsReceiver, TellsSender}
 use Rattle.gw_run.specs.declared.gateway.Gateway.{Gateway}
 use Rattle.gw_run.specs.declared.machines.Machines.{Machines}
-use Rattle.gw_run.specs.declared.machines.TheConstants.{BUDGET, BUFFER_CELLS}
+use Rattle.gw_run.specs.declared.machines.TheConstants.{BUFFER_CELLS}
 use Rattle.gw_run.proofs.Barriers.{frames-same}
 use Rattle.gw_run.proofs.Beginning.{idle-or, stands-later}
 use Rattle.gw_run.proofs.RxTurns.{turn-stands}

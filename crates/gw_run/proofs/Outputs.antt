@@ -1,5 +1,5 @@
 -- An output is a log of the frames that it was written for.
-use Rattle.std.proofs.Common.{◌≡◌, ◌≢◌, ℕ, ◌+◌, ◌-◌, ◌*◌, ◌^◌, ◌<◌, ◌≤◌, Bool, true, false, cond, ◌==◌, eqb, Option, None, Some, Result, Ok, Err, is_ok, List, [], ◌∷◌, ◌++◌, length, map, get_or, take, refl, sym, subst, ◌∙◌, ap, append-nil, inl, arith}
+use Rattle.std.proofs.Common.{◌≡◌, ℕ, ◌+◌, ◌-◌, ◌*◌, ◌^◌, ◌<◌, Bool, true, false, Option, None, Some, Ok, is_ok, List, [], ◌∷◌, ◌++◌, length, map, get_or, take, refl, sym, subst, ◌∙◌, ap, append-nil, inl, arith}
 use Rattle.std.specs.List.{All, AllByRecursion}
 use Rattle.std.specs.Prelude.{slice_index}
 use Rattle.std.proofs.lemmas.Bool.{ne_eqb}
@@ -21,10 +21,9 @@ use Rattle.tp_sender.specs.Runs.{box_after, left_by, written_at}
 use Rattle.tp_sender.specs.State.{TxTurn}
 use Rattle.tp_sender.specs.declared.event.TxEvent.{TxEvent}
 use Rattle.tp_sender.specs.declared.event.TxEvent.TheVariants.{Fc, Left, RunEnd as SendEnd, Turn}
-use Rattle.candump_log.specs.declared.log.LineRefusal.{LineRefusal}
 use Rattle.candump_log.specs.declared.log.Stamped.{Stamped}
 use Rattle.candump_log.specs.Line.{line_taken, taken_of, without_return}
-use Rattle.candump_log.specs.Log.{AreTaken, HasNoFeed, IsLog, ended, frames_of, given}
+use Rattle.candump_log.specs.Log.{AreTaken, HasNoFeed, ended, frames_of, given}
 use Rattle.gw_run.specs.Output.{AreDatedLines, IsLogOf, IsLogWhereDated, IsOneLine, IsReadable, line_of as output_line, output_text, stamped_of}
 
 -- no frame is held for unbuilt

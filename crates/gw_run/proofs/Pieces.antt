@@ -1,6 +1,6 @@
 -- A whole text that is appended, compared or read, piece by piece.
-use Rattle.std.proofs.Common.{◌≡◌, ℕ, ◌+◌, ◌≤◌, Bool, true, List, ◌++◌, length, take, drop, Option, Some, None, Ok, IsSome, refl, sym, ◌∙◌, ap, append_assoc, length-append, length-drop, length-take, ◌-◌, ◌<◌, arith}
-use Rattle.std.proofs.Math.Seq.{take-add, take-length}
+use Rattle.std.proofs.Common.{◌≡◌, ℕ, ◌+◌, ◌≤◌, Bool, true, List, ◌++◌, length, take, drop, Option, Some, None, Ok, IsSome, refl, sym, ◌∙◌, ap, append_assoc, length-append, length-drop, ◌-◌, ◌<◌, arith}
+use Rattle.std.proofs.Math.Seq.{take-add}
 use Rattle.gw_depot.specs.Fault.{Blame}
 use Rattle.gw_depot.specs.Files.{Files, OthersStay, AppendsFile, ReadsFile}
 use Rattle.gw_depot.proofs.ReadLemmas.{read_within, take-whole}

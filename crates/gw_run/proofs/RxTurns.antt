@@ -1,5 +1,5 @@
 -- One more turn of the receiver, and all stands.
-use Rattle.std.proofs.Common.{◌≡◌, ℕ, ◌+◌, ◌*◌, ◌≤◌, Option, List, [], ◌∷◌, ◌++◌, length, map, refl, sym, subst, ap, ◌∙◌, append-nil, append_assoc, length-append, arith}
+use Rattle.std.proofs.Common.{◌≡◌, ℕ, ◌+◌, ◌≤◌, Option, List, [], ◌∷◌, ◌++◌, length, map, refl, sym, subst, ap, ◌∙◌, append-nil, append_assoc, length-append, arith}
 use Rattle.tp_sender.specs.State.{TxTurn}
 use Rattle.tp_unit.specs.Box.{Written, box_then}
 use Rattle.tp_receiver.specs.Port.{Knows, takes_for}

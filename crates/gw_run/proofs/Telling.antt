@@ -30,7 +30,6 @@ use Rattle.tp_unit.specs.Reading.{unit_of}
 use Rattle.tp_unit.specs.Unit.{Meaning, SingleFrame, FirstFrame, ConsecutiveFrame, FlowControl, NoUnit}
 use Rattle.candump_log.specs.declared.log.Stamped.{Stamped}
 use Rattle.gw_run.specs.declared.machines.Machines.{Machines}
-use Rattle.gw_run.specs.declared.machines.TheConstants.{BUFFER_CELLS}
 use Rattle.gw_run.specs.declared.setup.Side.TheVariants.{Source, Destination}
 use Rattle.gw_run.specs.Answers.{IsPlainAnswer, IsPlainControl}
 use Rattle.gw_run.specs.Forwarded.{Tells, last_of}

@@ -1,5 +1,5 @@
 -- The gateway at its work: what its fields are after what the receiver and the sender did, and where in a tick its work stands.
-use Rattle.std.specs.Prelude.{◌≡◌, ◌⊎◌, ℕ, ◌+◌, ◌-◌, ◌*◌, ◌≤◌, true, None, Some, Option, option_map, List, [], ◌∷◌, ◌++◌, length, map}
+use Rattle.std.specs.Prelude.{◌≡◌, ◌⊎◌, ℕ, ◌+◌, ◌-◌, ◌≤◌, true, None, Some, Option, option_map, List, [], ◌∷◌, ◌++◌, length, map}
 use Rattle.tp_unit.specs.Box.{Answer, Written}
 use Rattle.tp_sender.specs.Runs.{HasSent, controls_in, box_after, clear_from, left_by}
 use Rattle.tp_sender.specs.Port.{Knows as KnowsPort}

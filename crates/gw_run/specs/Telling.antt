@@ -1,5 +1,5 @@
 -- One step of the gateway: what a step of the receiver or of the sender over the hub needs, what it comes to, and what is noted of it.
-use Rattle.std.specs.Prelude.{◌≡◌, ℕ, ◌+◌, ◌≤◌, None, Some, Option, List, [], ◌∷◌, ◌++◌, length}
+use Rattle.std.specs.Prelude.{◌≡◌, ℕ, ◌+◌, ◌≤◌, None, Some, Option, List, ◌++◌, length}
 use Rattle.tp_unit.specs.Box.{Written, box_then, written_of}
 use Rattle.hub_core.specs.Turns.{calls_by}
 use Rattle.tp_sender.specs.Port.{Knows as KnowsPort, ActsFor as ActsForSender}

@@ -1,3 +1,4 @@
+//! The law of a source channel's flow controls.
 ghost use Rattle.receiver_law.specs.Laws.{RunsAskForFrames};
 
 /// A law on the flow controls of a source channel; the function does nothing.

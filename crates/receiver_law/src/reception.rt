@@ -1,3 +1,4 @@
+//! The law of what brings the records of receptions about.
 ghost use Rattle.receiver_law.specs.Laws.{RunsHaveCauses};
 
 /// A law on the causes of a source channel's records; the function does nothing.

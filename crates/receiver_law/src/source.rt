@@ -1,3 +1,4 @@
+//! The law of a source channel's records.
 ghost use Rattle.receiver_law.specs.Laws.{RunsTellSources, StepsStoreWhatIsTold, StepsTellSources};
 
 /// A law on the receptions of a source channel; the function does nothing.

@@ -1,3 +1,4 @@
+//! The law of what a receiver puts into its sessions.
 ghost use Rattle.receiver_law.specs.Laws.{SessionsHoldWhatIsPut};
 
 /// A law on the sessions of a source channel's path; the function does nothing.

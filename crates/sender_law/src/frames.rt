@@ -1,3 +1,4 @@
+//! The law of the data frames that leave on a destination's channel.
 ghost use Rattle.std.specs.Prelude.{ℕ};
 ghost use Rattle.sender_law.specs.Emission.{DataEmission, DestRecords};
 ghost use Rattle.sender_law.specs.Runs.{IsTxRun, TxRun, leg_of};

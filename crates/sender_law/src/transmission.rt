@@ -1,3 +1,4 @@
+//! The law of what brings the records of transmissions about.
 ghost use Rattle.std.specs.Prelude.{List, ℕ};
 ghost use Rattle.sender_law.specs.Boxed.{BoxedLaw};
 ghost use Rattle.sender_law.specs.Runs.{HasLimits, IsTxRun, TxRun, leg_of, turns_in};

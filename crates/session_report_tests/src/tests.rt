@@ -1,3 +1,4 @@
+//! Reports printed and read, and each line of one changed.
 ghost use Rattle.std.specs.Prelude.{◌^◌, ◌<◌, length};
 
 use gw_base::{BufNo, Bytes, ChanNo, DestNo, Memory, Micros, PathNo, Tick};

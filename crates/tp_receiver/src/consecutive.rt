@@ -1,3 +1,4 @@
+//! What a receiver does with a consecutive frame.
 use crate::putting::put_all;
 use crate::reception::{Reception, State};
 use crate::{Receiver, RxActs};

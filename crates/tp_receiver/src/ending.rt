@@ -1,3 +1,4 @@
+//! How a reception ends, and what is told of it.
 use crate::reception::{Reception, State};
 use crate::{Receiver, RxActs};
 use gw_base::Tick;

@@ -1,3 +1,4 @@
+//! What a receiver does with a single frame and a first frame.
 ghost use Rattle.std.specs.Prelude.{◌≡◌};
 ghost use Rattle.tp_unit.specs.Unit.{box_meaning_of, FlowControl, Offers};
 

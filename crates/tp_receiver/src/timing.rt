@@ -1,3 +1,4 @@
+//! What a receiver does once a tick is over.
 use crate::reception::State;
 use crate::{Receiver, RxActs};
 use gw_base::Tick;

@@ -1,9 +1,8 @@
 -- The works of the loop are a run of the machines over the account that is told.
-use Rattle.std.proofs.Common.{◌≡◌, ◌⊎◌, inl, inr, ℕ, ◌+◌, ◌<◌, ◌≤◌, zero, suc, Bool, true, false, ◌&&◌, ◌==◌, cond, None, Some, List, [], ◌∷◌, ◌++◌, length, filter, refl, ap, sym, ◌∙◌, subst, arith, eq-eqb}
+use Rattle.std.proofs.Common.{◌≡◌, ◌⊎◌, inl, inr, ℕ, ◌+◌, ◌≤◌, zero, suc, Bool, true, false, ◌&&◌, ◌==◌, cond, Some, List, [], ◌∷◌, length, filter, refl, ap, sym, ◌∙◌, subst, arith, eq-eqb}
 use Rattle.std.specs.Prelude.{slice_get}
 use Rattle.std.specs.List.{AllByRecursion}
 use Rattle.gw_base.proofs.Lists.{all-weaker}
-use Rattle.hub_core.specs.Moves.{move_of}
 use Rattle.hub_core.specs.Turns.{came_by, records_by, state_after}
 use Rattle.hub_core.specs.View.{View}
 use Rattle.hub_core.specs.declared.record.DestRecord.{DestRecord}
@@ -18,18 +17,11 @@ use Rattle.sender_law.proofs.records.DestRecords.{dest_records}
 use Rattle.sender_law.specs.Channel.{DestChannel, WritesData}
 use Rattle.sender_law.specs.Emission.{IsOfDestination}
 use Rattle.sender_law.specs.Runs.{TxRun, leg_of, turns_in as sent_in}
-use Rattle.tp_attempts.specs.Seen.{Seen, is_data}
 use Rattle.tp_receiver.specs.Runs.{controls_by, frames_in}
 use Rattle.tp_sender.specs.Runs.{controls_in, left_by}
 use Rattle.tp_sender.specs.State.{tx_new}
-use Rattle.tp_unit.proofs.RoundTrip.{reads_back}
 use Rattle.tp_unit.proofs.Rises.{Rise, all-by, at-most-once, never-fall}
-use Rattle.tp_unit.specs.Box.{Answer, IsNoData, Written, left_in}
-use Rattle.tp_unit.specs.Reading.{unit_of}
-use Rattle.tp_unit.specs.Shape.{IsShape, address_size, fits_shape}
-use Rattle.tp_unit.specs.Unit.{ConsecutiveFrame, FirstFrame, FlowControl, Meaning, NoUnit, SingleFrame}
-use Rattle.tp_unit.specs.Writing.{frame_of, read_back}
-use Rattle.tp_unit.specs.declared.shape.Shape.{Shape}
+use Rattle.tp_unit.specs.Box.{Written, left_in}
 use Rattle.gw_law.proofs.Addressed.{IsControlOf, IsDataOf, control-is, controls-kept, data-is, data-kept}
 use Rattle.gw_base.specs.declared.numbers.ChanNo.{ChanNo}
 use Rattle.gw_base.specs.declared.numbers.DestNo.{DestNo}
@@ -37,20 +29,17 @@ use Rattle.gw_base.specs.declared.numbers.PathNo.{PathNo}
 use Rattle.gw_law.proofs.Sources.{sessions-of}
 use Rattle.gw_law.proofs.runs.Moments.{rx-within}
 use Rattle.gw_law.specs.Account.{Account, dest_in, dests_of, sessions_of, source_in}
-use Rattle.gw_law.specs.Channels.{controls_of, data_of}
-use Rattle.gw_law.specs.Deeds.{StandsIn}
-use Rattle.gw_law.specs.Emission.{AreByPriority, BusLaw, IsControlOn, IsDataOn, IsOfReceiving, IsOfSending, NoOthers}
-use Rattle.gw_law.specs.Plan.{HasSending, IsLawfulPlan, Plan, Receiving, Sending}
-use Rattle.gw_law.specs.Run.{AreAllShort, IsNeverBusy, IsReceiverRun, IsRun, IsSenderRun}
+use Rattle.gw_law.specs.Emission.{AreByPriority, BusLaw, IsControlOn, IsDataOn, IsOfReceiving, IsOfSending}
+use Rattle.gw_law.specs.Plan.{IsLawfulPlan, Receiving, Sending}
+use Rattle.gw_law.specs.Run.{IsNeverBusy, IsRun}
 use Rattle.candump_log.specs.declared.log.Stamped.{Stamped}
 use Rattle.tick_clock.specs.declared.clock.Clock.{Clock}
 use Rattle.gw_run.specs.Machines.{AreMachines}
-use Rattle.gw_run.specs.Played.{Plays, Told, account_of, by_bus, destination_answers, plan_of, receiving_of, sending_of, source_seen}
-use Rattle.gw_run.specs.Works.{RunTold, moments_of, told_by, turns_of, view_of}
+use Rattle.gw_run.specs.Played.{Plays, Told, account_of, destination_answers, plan_of, receiving_of, sending_of, source_seen}
+use Rattle.gw_run.specs.Works.{RunTold, told_by, view_of}
 use Rattle.gw_run.specs.declared.machines.Machines.{Machines}
 use Rattle.gw_run.specs.declared.machines.TheConstants.{BUDGET, BUFFER_CELLS}
-use Rattle.gw_run.proofs.works.RxLooks.{all-look}
-use Rattle.gw_run.proofs.works.RxParts.{is-rx-run, never, rx_run, turns-are, turns-same}
+use Rattle.gw_run.proofs.works.RxParts.{is-rx-run, never, rx_run, turns-are}
 use Rattle.gw_run.proofs.works.SerialRun.{SerialRun, works_of}
 use Rattle.gw_run.proofs.works.TxParts.{is-tx-run, run-turns, tx_run}
 use Rattle.gw_run.proofs.works.Windows.{deeds_of, joined-in, rx-lies, tx-lies, windows-are, windows_of}

@@ -1,5 +1,5 @@
 -- The receiver of the loop's works, by itself: its run is one of those that the laws of a receiver speak of.
-use Rattle.std.proofs.Common.{◌≡◌, inl, inr, ℕ, ◌+◌, ◌≤◌, Bool, false, Option, None, Some, List, [], ◌∷◌, ◌++◌, refl, ap, sym, ◌∙◌, subst, arith, append_assoc}
+use Rattle.std.proofs.Common.{◌≡◌, inl, inr, ℕ, Bool, false, Option, None, Some, List, [], ◌∷◌, ◌++◌, refl, ap, sym, ◌∙◌, subst, arith, append_assoc}
 use Rattle.hub_core.proofs.Turns.{happened-front}
 use Rattle.hub_core.specs.Turns.{Part, state_after, tick_after as tick_after_parts, turns_of as turns_of_parts}
 use Rattle.receiver_law.specs.Parts.{ControlLeaves, ReceivesIn}

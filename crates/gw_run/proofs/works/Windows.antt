@@ -1,12 +1,12 @@
 -- Each work of the loop is a window of one tick, and after it the hub's view is what both parties did up to then.
-use Rattle.std.proofs.Common.{◌≡◌, ◌⊎◌, inl, inr, ℕ, ◌+◌, ◌<◌, ◌≤◌, zero, suc, Bool, true, false, cond, Some, List, [], ◌∷◌, ◌++◌, refl, ap, sym, ◌∙◌, subst, arith, append_assoc}
+use Rattle.std.proofs.Common.{◌≡◌, ◌⊎◌, inl, inr, ℕ, ◌+◌, ◌<◌, ◌≤◌, zero, suc, true, false, cond, List, [], ◌∷◌, ◌++◌, refl, ap, sym, ◌∙◌, subst, arith, append_assoc}
 use Rattle.std.specs.Prelude.{nat_lt}
 use Rattle.std.specs.List.{AllByRecursion}
 use Rattle.std.proofs.lemmas.Bool.Decides.{nat_tests}
 use Rattle.gw_base.proofs.Lists.{all-weaker}
 use Rattle.hub_core.proofs.Turns.{happened-front}
 use Rattle.hub_core.specs.Turns.{Part, calls_by, turns_of as turns_of_parts}
-use Rattle.hub_core.specs.View.{Change, Session, View, session_at}
+use Rattle.hub_core.specs.View.{Change, View}
 use Rattle.receiver_law.specs.RxRun.{RxRun}
 use Rattle.sender_law.specs.Runs.{TxRun}
 use Rattle.tp_receiver.specs.Runs.{HasReceived}

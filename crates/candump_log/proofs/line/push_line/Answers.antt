@@ -1,7 +1,6 @@
 -- A line that lists a supported frame adds it.
-use Rattle.std.proofs.Common.{rules, ◌≡◌, ◌≤◌, ◌++◌, ◌∷◌, [], List, ℕ, Some, Ok, Err, if◌then◌else◌, Bool, true, false, length, refl, sym, subst, ap, ◌∙◌, arith}
+use Rattle.std.proofs.Common.{◌≡◌, ◌≤◌, ◌++◌, ◌∷◌, [], List, ℕ, Some, Ok, Err, if◌then◌else◌, Bool, true, false, length, refl, sym, subst, ap, ◌∙◌}
 use Rattle.std.proofs.lemmas.Bool.{leb-true}
-use Rattle.can_frame.specs.Frame.{CanFrame, IsLawful}
 use Rattle.can_frame.specs.Length.{length_fits}
 use Rattle.candump_line.specs.Reading.{IsLawfulLine, line_of}
 use Rattle.candump_line.specs.declared.line.Line.TheVariants.{Frame}

@@ -1,5 +1,5 @@
 -- A part more, or what stops in it.
-use Rattle.std.proofs.Common.{◌++◌, ◌+◌, ◌∙◌, take, length, length-drop, ap, arith}
+use Rattle.std.proofs.Common.{◌++◌, ◌∙◌, take, length, length-drop, ap, arith}
 use Rattle.std.proofs.lemmas.List.{take_rest}
 use Rattle.std.proofs.lemmas.Result.{err_from_is_err_and}
 use Rattle.candump_log.proofs.Logs.{part_more}

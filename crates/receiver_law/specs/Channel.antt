@@ -1,9 +1,9 @@
 -- A source channel: how it is configured, what came and what left on it, and what is told of its receptions.
-use Rattle.std.specs.Prelude.{◌≡◌, ◌⊎◌, ◌==◌, ℕ, Bool, true, List, length}
+use Rattle.std.specs.Prelude.{◌≡◌, ◌⊎◌, ℕ, true, List}
 use Rattle.hub_core.specs.declared.record.SessionRecord.{SessionRecord}
 use Rattle.tp_attempts.specs.Seen.{Seen}
 use Rattle.tp_receiver.specs.declared.set.RxSet.{RxSet}
-use Rattle.tp_unit.specs.Box.{Written, left_in}
+use Rattle.tp_unit.specs.Box.{Written}
 use Rattle.tp_unit.specs.Shape.{fits_shape}
 use Rattle.tp_unit.specs.Unit.{Meaning, FlowControl}
 use Rattle.tp_unit.specs.Writing.{frame_of}
@@ -28,7 +28,3 @@ pub record WritesControl (set : RxSet) (shape : Shape) (w : Written) : Type 0 wh
   pub either : (meaning ≡ FlowControl 0 0 set.st) ⊎ (meaning ≡ FlowControl 2 0 0)
   pub fits : fits_shape shape meaning ≡ true
   pub frame : w.frame ≡ frame_of shape meaning
-
--- in that tick the source's bus sent as many frames as it may
-abbrev pub is_full : SourceChannel → ℕ → Bool
-is_full r tick = length (left_in tick r.controls) == r.budget

@@ -15,7 +15,7 @@ pub struct CancelPlan {
 }
 
 impl CancelPlan {
-    /// The plan of these cancellations, which are in configuration order.
+    /// The plan of these cancellations, which are in configuration order. `Memory` comes where the plan can't be kept.
     pub fn new(alloc: Global, entries: &[CancelEntry]) -> Result<CancelPlan, Memory>
         ensures { IfOk result (IsPlanOf entries.now) }
     {

@@ -1,9 +1,9 @@
 ghost use Rattle.gw_law.specs.Laws.{RunsAreLawful};
 
-/// The laws of a run over one path with one destination; the function does nothing.
+/// The laws of a run, whatever its buses, channels, paths, destinations and windows; the function does nothing.
 ///
-/// What every whole run of a receiver and of a sender over one hub tells, with limits of at least a tick and messages that
-/// fit the one buffer, keeps all the laws.
+/// What is told of every run whose buses always have a place, and whose messages each fit a buffer of four cells, keeps all
+/// the laws: the configuration, the logs that came and left, and the report.
 pub fn run_law()
     ensures { RunsAreLawful }
 {}

@@ -12,7 +12,7 @@ use Rattle.tp_unit.specs.declared.shape.Shape.{Shape}
 -- a source channel in a run
 pub record SourceChannel : Type 0 where
   pub rx : RxSet
-  -- the shape of its flow controls, the most frames that its bus sends in a tick (read by the laws of buses alone), and the run's last tick
+  -- the shape of its flow controls, the most frames that its bus sends in a tick, and the run's last tick
   pub shape : Shape
   pub budget : ℕ
   pub last : ℕ

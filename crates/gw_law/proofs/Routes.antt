@@ -107,7 +107,7 @@ crossing a d windows v place other r s rx tx is never rx_there tx_there rx_is tx
     let same : v.sessions tx.set.path.0 ≡ v.sessions rx.set.path.0 = ap (λ (p : PathNo). v.sessions p.0) paths in
     let pair : Pair = record {
       d = d;
-      groups = a.plan.sizes ∷ [];
+      groups = a.plan.groups;
       most = a.plan.window;
       some = is.plan.window;
       windows = windows;
@@ -138,7 +138,7 @@ crossing a d windows v place other r s rx tx is never rx_there tx_there rx_is tx
           path = paths;
           received = rx_is.run_is.happened;
           sent = tx_is.run_is.happened;
-          met = met (a.plan.sizes ∷ []) v is.joint;
+          met = met a.plan.groups v is.joint;
           sessions = all-at (λ (run : RxRun). IsWrittenBy v run (received_in run)) d.receivers place rx is.joined.sessions rx_there;
           readings = all-at (λ (run : TxRun). IsReadBy v run (sent_in run)) d.senders other tx is.joined.readings tx_there;
         };

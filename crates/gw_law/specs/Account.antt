@@ -17,12 +17,13 @@ pub record Account : Type 0 where
   -- by bus: the frames of its log, and the frames that it sent, each with its tick
   pub came : ℕ → List InTick
   pub left : ℕ → List Written
-  -- the report: the sessions of all channels, the destinations' records, the moves of the pool, their number, and the last free set
+  -- the report: the sessions of all channels, the destinations' records, and the moves of the pool
   pub sessions : List SessionRecord
   pub dests : List DestRecord
   pub moves : List Move
-  pub count : ℕ
-  pub free : ℕ
+  -- its pool lines, by group: the number of the group's moves, and its last free set
+  pub counts : ℕ → ℕ
+  pub frees : ℕ → ℕ
 
 -- the records of a channel, and of a path's destination
 abbrev pub sessions_of : (chan : ℕ) → List SessionRecord → List SessionRecord

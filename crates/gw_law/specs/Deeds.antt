@@ -1,6 +1,7 @@
 -- What the machines of a run did, each by itself, and what their hub held at the barriers between windows: no order of machines is told.
-use Rattle.std.specs.Prelude.{◌≡◌, ◌⊎◌, ℕ, ◌+◌, ◌<◌, ◌≤◌, nat_lt, if◌then◌else◌, List, [], ◌∷◌, Some, slice_get}
+use Rattle.std.specs.Prelude.{◌≡◌, ◌⊎◌, ℕ, ◌+◌, ◌<◌, ◌≤◌, nat_lt, if◌then◌else◌, List, [], ◌∷◌, ◌++◌, Some, slice_get}
 use Rattle.std.specs.List.{AllByRecursion}
+use Rattle.hub_core.specs.Floors.{AreFresh, floors_of}
 use Rattle.hub_core.specs.Joint.{Joint}
 use Rattle.hub_core.specs.Turns.{Part, calls_by, turns_of}
 use Rattle.hub_core.specs.View.{Change, Event, Session, View, empty_view, grows, session_at}
@@ -59,22 +60,40 @@ pub record IsJoined (d : Deeds) (received : RxRun → List RxTurn) (sent : TxRun
   pub made : AllByRecursion (λ (run : RxRun). IsMadeIn v (calls_by (received run))) d.receivers
   pub only : AllByRecursion (IsMadeBy d received sent) v.changes
 
--- a window has a tick at least and no more than so many; after it the hub's view is joint, and is what the machines did up to then
-pub record IsWindow (groups : List (List ℕ)) (most : ℕ) (d : Deeds) (w : Window) : Type 0 where
+-- the calls that came to those before are no older than the floors of a view
+abbrev pub AreFreshAfter : List (List ℕ) → View → (earlier all : List Event) → Type 0
+AreFreshAfter groups opening earlier all = (calls : List Event) × (all ≡ earlier ++ calls) × AreFresh (floors_of groups opening) (own_view earlier) calls
+
+-- what a machine saw in a window is no older than the view that stood before it
+abbrev pub SeesReceived : List (List ℕ) → View → Window → RxRun → Type 0
+SeesReceived groups opening w run = AreFreshAfter groups opening (calls_by (turns_of (before w.from run.parts))) (calls_by (turns_of (before w.to run.parts)))
+
+abbrev pub SeesSent : List (List ℕ) → View → Window → TxRun → Type 0
+SeesSent groups opening w run = AreFreshAfter groups opening (calls_by (turns_of (before w.from run.parts))) (calls_by (turns_of (before w.to run.parts)))
+
+-- a window has a tick at least and no more than so many; in it each machine sees what stood before it, or more; after it the hub's
+-- view is joint, and is what the machines did up to then
+pub record IsWindow (groups : List (List ℕ)) (most : ℕ) (d : Deeds) (opening : View) (w : Window) : Type 0 where
   pub some : w.from < w.to
   pub short : w.to ≤ w.from + most
+  pub received_fresh : AllByRecursion (SeesReceived groups opening w) d.receivers
+  pub sent_fresh : AllByRecursion (SeesSent groups opening w) d.senders
   pub joint : Joint groups w.view
   pub joined : IsJoined d (λ run. turns_of (before w.to run.parts)) (λ run. turns_of (before w.to run.parts)) w.view
 
--- the tick from which on no window is over yet, for windows newest first
+-- the tick from which on no window is over yet, and the view that stands then, for windows newest first
 abbrev pub over_at : List Window → ℕ
 over_at [] = 0
 over_at (w ∷ earlier) = w.to
 
+abbrev pub view_at : List Window → View
+view_at [] = empty_view
+view_at (w ∷ earlier) = w.view
+
 -- each window comes after the one before it
 abbrev pub AreWindows : List (List ℕ) → (most : ℕ) → Deeds → List Window → Type 0
 AreWindows groups most d [] = Unit {0}
-AreWindows groups most d (w ∷ earlier) = IsWindow groups most d w × (over_at earlier ≤ w.from) × AreWindows groups most d earlier
+AreWindows groups most d (w ∷ earlier) = IsWindow groups most d (view_at earlier) w × (over_at earlier ≤ w.from) × AreWindows groups most d earlier
 
 -- a tick lies in one of the windows
 abbrev pub LiesIn : List Window → (tick : ℕ) → Type 0

@@ -73,13 +73,13 @@ sending path data_id control threshold bus = record {
 }
 
 -- path 0 from bus 0 to bus 1, whose messages are forwarded from two cells on; path 1 back, whose data frames have the identifier
--- that is given; a buffer of two cells and one of four; ticks 0 to 4
+-- that is given; a group of two buffers, of two cells and of four; ticks 0 to 4
 abbrev pub two_paths : (data_id : ℕ) → Plan
 two_paths data_id = record {
   receivers = receiving 0 0x700 0x708 0 ∷ receiving 1 0x500 0x508 1 ∷ [];
   senders = sending 0 0x710 0x718 2 1 ∷ sending 1 data_id 0x608 1 0 ∷ [];
   budget = λ bus. 1;
-  sizes = 2 ∷ 4 ∷ [];
+  groups = (2 ∷ 4 ∷ []) ∷ [];
   window = 3;
   last = 4;
 }
@@ -157,8 +157,8 @@ lawful_run = record {
   sessions = long_session ∷ short_session 2 ∷ [];
   dests = unsent ∷ sent_on 1 ∷ [];
   moves = takes 1 0 ∷ takes 2 1 ∷ frees 3 1 ∷ frees 4 0 ∷ [];
-  count = 4;
-  free = 3;
+  counts = λ group. 4;
+  frees = λ group. 3;
 }
 
 -- a byte is changed on its way
@@ -227,7 +227,20 @@ numbered_from_two = record lawful_run { moves = takes 2 0 ∷ takes 3 1 ∷ free
 
 -- the run ends before the long message's buffer is free
 abbrev pub buffer_never_freed : Account
-buffer_never_freed = record lawful_run { moves = takes 1 0 ∷ takes 2 1 ∷ frees 3 1 ∷ []; count = 3; free = 2 }
+buffer_never_freed = record lawful_run { moves = takes 1 0 ∷ takes 2 1 ∷ frees 3 1 ∷ []; counts = λ group. 3; frees = λ group. 2 }
+
+-- the short message takes a buffer of another group than its path's
+abbrev pub buffer_of_another_group : Account
+buffer_of_another_group = record lawful_run {
+  plan = record (two_paths 0x600) { groups = (2 ∷ []) ∷ (4 ∷ []) ∷ [] };
+  moves = takes 1 0 ∷ frees 2 0 ∷ takes 1 1 ∷ frees 2 1 ∷ [];
+  counts = λ group. 2;
+  frees = λ group. 1;
+}
+
+-- a move is of a buffer that the pool hasn't
+abbrev pub no_such_buffer : Account
+no_such_buffer = record lawful_run { moves = takes 1 0 ∷ takes 2 1 ∷ frees 3 1 ∷ frees 4 0 ∷ takes 1 2 ∷ [] }
 
 -- none of the neighbours keeps all laws; in brackets the law that it breaks
 pub record NeighboursAreUnlawful : Type 0 where
@@ -261,5 +274,7 @@ pub record NeighboursAreUnlawful : Type 0 where
   -- (PoolLaw)
   pub two_takes_of_one_buffer : Lawful two_takes_of_one_buffer → ⊥
   pub numbered_from_two : Lawful numbered_from_two → ⊥
+  pub buffer_of_another_group : Lawful buffer_of_another_group → ⊥
   -- (PoolOf)
   pub buffer_never_freed : Lawful buffer_never_freed → ⊥
+  pub no_such_buffer : Lawful no_such_buffer → ⊥

@@ -29,17 +29,17 @@ abbrev pub SessionsAreTold : Type 0
 SessionsAreTold = (rx : RxSet) (turns : List RxTurn) (tx : TxSet) (moments : List TxTurn) (v : View) → AreWholeRuns rx turns tx moments v →
     length (v.sessions rx.path.0) ≤ (state_after tx_new moments).next → AreOfEach (records_by turns) (records_by moments)
 
--- the moves of the pool replay, and each session has a take of its own
+-- the moves of a group of buffers replay, and each session has a take of its own
 abbrev pub PoolsReplay : Type 0
-PoolsReplay = (sources : List Source) (sizes : List ℕ) (count free : ℕ) (v : View) (moves : List Move) → IsPoolRun sources sizes count free v moves → PoolLaw sizes count free (map channel_of sources) moves
+PoolsReplay = (sources : List Source) (groups : List (List ℕ)) (group count free : ℕ) (v : View) (moves : List Move) → IsPoolRun sources groups group count free v moves → PoolLaw groups group count free (map channel_of sources) moves
 
 -- where each take is a session's in the view, it is one's in the records
 abbrev pub TakesAreNamed : Type 0
-TakesAreNamed = (sources : List Source) (sizes : List ℕ) (count free : ℕ) (v : View) (moves : List Move) → IsPoolRun sources sizes count free v moves → AreAllUsed v → AreNamed (map channel_of sources) moves
+TakesAreNamed = (sources : List Source) (groups : List (List ℕ)) (group count free : ℕ) (v : View) (moves : List Move) → IsPoolRun sources groups group count free v moves → AreAllUsed groups group v → AreNamed groups (map channel_of sources) moves
 
--- where all sessions are over, all buffers are free
+-- where all sessions are over, all buffers of the group are free
 abbrev pub PoolsEnd : Type 0
-PoolsEnd = (sources : List Source) (sizes : List ℕ) (count free : ℕ) (v : View) (moves : List Move) → IsPoolRun sources sizes count free v moves → AreAllOver v → PoolEnds sizes free (map channel_of sources) moves
+PoolsEnd = (sources : List Source) (groups : List (List ℕ)) (group count free : ℕ) (v : View) (moves : List Move) → IsPoolRun sources groups group count free v moves → AreAllOver v → PoolEnds groups group free (map channel_of sources) moves
 
 -- what every run tells whose buses are never full and whose messages are short keeps all laws
 abbrev pub RunsAreLawful : Type 0

@@ -1,5 +1,5 @@
 -- What a configuration fixes of a run: its source channels and its destinations, their buses, the buffers and the ticks.
-use Rattle.std.specs.Prelude.{◌≡◌, ℕ, ◌<◌, ◌≤◌, Option, Some, List, slice_get}
+use Rattle.std.specs.Prelude.{◌≡◌, ℕ, ◌<◌, ◌≤◌, Option, Some, List, length, slice_get}
 use Rattle.std.specs.List.{AllByRecursion}
 use Rattle.can_frame.specs.declared.id.CanId.{CanId}
 use Rattle.tp_receiver.specs.declared.set.RxSet.{RxSet}
@@ -26,18 +26,20 @@ pub record Sending : Type 0 where
   pub bus : ℕ
 
 -- how a run is configured: its source channels, the destinations of their paths, the most frames that each bus sends in a tick,
--- the cells of the buffers, the most ticks of a window, and the last tick
+-- the cells of the buffers of each group, the most ticks of a window, and the last tick
 pub record Plan : Type 0 where
   pub receivers : List Receiving
   pub senders : List Sending
   pub budget : ℕ → ℕ
-  pub sizes : List ℕ
+  pub groups : List (List ℕ)
   pub window : ℕ
   pub last : ℕ
 
--- a source channel's flow controls have a lawful shape, its limits are of a tick at least, and its bus sends a frame in a tick at least
+-- a source channel's flow controls have a lawful shape, its path's group of buffers is there, its limits are of a tick at least, and its
+-- bus sends a frame in a tick at least
 pub record IsLawfulReceiving (p : Plan) (r : Receiving) : Type 0 where
   pub shape : IsShape r.shape
+  pub group : r.set.group.0 < length p.groups
   pub n_ar : 1 ≤ r.set.n_ar
   pub n_cr : 1 ≤ r.set.n_cr
   pub budget : 1 ≤ p.budget r.bus

@@ -4,7 +4,7 @@ use Rattle.tp_unit.specs.Box.{Answer, written_of, Written}
 use Rattle.tp_sender.specs.Runs.{controls_in, after_left, box_after, clear_from}
 use Rattle.tp_sender.specs.State.{TxTurn}
 use Rattle.tp_receiver.specs.State.{RxTurn}
-use Rattle.hub_core.specs.Turns.{calls_by, came_by}
+use Rattle.hub_core.specs.Turns.{AreFreshTurns, calls_by, came_by}
 use Rattle.hub_core.specs.View.{View, grows}
 use Rattle.sender_law.specs.Parts.{FrameLeaves}
 use Rattle.gw_run.specs.Works.{Work, moments_of, turns_of, view_of}
@@ -16,7 +16,7 @@ use Rattle.sender_law.specs.Parts.{AnswersIn}
 use Rattle.gw_run.specs.Standing.{AtBarrier, InDestination, Stands, lying}
 use Rattle.gw_run.specs.Telling.{LeavesFrame, TellsSender}
 use Rattle.gw_run.specs.declared.gateway.Gateway.{Gateway}
-use Rattle.gw_run.proofs.Ticks.{stands-joint}
+use Rattle.gw_run.proofs.Ticks.{fresh-at, fresh-join, groups, stands-joint}
 use Rattle.gw_run.proofs.TxMoments.{moment-stands}
 use Rattle.hub_core.proofs.Growing.{grows-append}
 use Rattle.hub_core.proofs.Turns.{calls-append}
@@ -58,6 +58,7 @@ answered g h seen answers tick fs bs st at told =
       looks = at.looks;
       between = at.between;
       only = (subst A (sym step.event_is) step.tick_is, at.only);
+      sees = (fresh-at g tick (at.turns ++ turns_of at.earlier) moments view turn.did.calls at.stands step.fresh, at.sees);
       stands = subst V (sym (grows-append (calls_by at.moments) turn.did.calls (grows (calls_by at.turns) (view_of at.earlier)))) stands;
       clear = subst C (sym step.event_is) at.clear;
       seen_is = at.seen_is;
@@ -72,13 +73,14 @@ record FrameLeft (h : Gateway) (tick : ℕ) (turns : List RxTurn) (moments : Lis
   left_is : FrameLeaves tick (box_after moments) left
   answers : came_by controls_in (left ++ moments) ≡ came_by controls_in moments
   clear : clear_from moments ≤ tick + 1 → clear_from (left ++ moments) ≤ tick + 1
+  sees : AreFreshTurns groups view left
   stands : Stands h tick turns (left ++ moments) (grows (calls_by left) view)
 
 frame-left : (g h : Gateway) (tick : ℕ) (turns : List RxTurn) (moments : List TxTurn) (view : View) (lies : Option Meaning) → lying g.frame ≡ lies → Stands g tick turns moments view → LeavesFrame lies g h tick → FrameLeft h tick turns moments view
 frame-left g h tick turns moments view None is s same =
     let P : Option Meaning → Type 0 = λ l. FrameLeaves tick l [] in
     let H : Gateway → Type 0 = λ x. Stands x tick turns moments view in
-    record { left = []; left_is = subst P (sym is ∙ s.sends.lies_is) refl; answers = refl; clear = λ clear. clear; stands = subst H (sym same) s }
+    record { left = []; left_is = subst P (sym is ∙ s.sends.lies_is) refl; answers = refl; clear = λ clear. clear; sees = tt; stands = subst H (sym same) s }
 frame-left g h tick turns moments view (Some meaning) is s told =
     let turn = told.turn in
     let step = told.stepped in
@@ -90,6 +92,7 @@ frame-left g h tick turns moments view (Some meaning) is s told =
       left_is = subst P (sym is ∙ s.sends.lies_is) ((step.event_is, step.tick_is), refl);
       answers = ap (λ (e : TxEvent). came_by controls_in moments ++ controls_in turn.did.tick e) step.event_is ∙ append-nil (came_by controls_in moments);
       clear = λ clear. subst C (sym step.event_is) (omega (arith, step.tick_is));
+      sees = (fresh-at g tick turns moments view turn.did.calls s step.fresh, tt);
       stands = moment-stands g h tick tick turns moments view Left s (omega arith) tt (frames-with g h Left tick None _ _ same told);
     }
 
@@ -117,6 +120,8 @@ destination-ends g k h seen answers tick at told leaves =
     let L : List TxTurn → Type 0 = λ l. Stands h tick all l (grows (calls_by out.left) (grows turn.did.calls (view_at at.earlier at.turns at.moments))) in
     let V : View → Type 0 = λ v. Stands h tick all (done ++ moments_of at.earlier) v in
     let now : Stands h tick all (done ++ moments_of at.earlier) (grows (calls_by done) start) = subst V (sym view_is) (subst L (sym done_are) out.stands) in
+    let mid : grows (calls_by (turn ∷ at.moments)) start ≡ grows turn.did.calls (view_at at.earlier at.turns at.moments) = grows-append (calls_by at.moments) turn.did.calls start in
+    let sees_left : AreFreshTurns groups (grows (calls_by (turn ∷ at.moments)) start) out.left = (let P : View → Type 0 = λ v. AreFreshTurns groups v out.left in subst P (sym mid) out.sees) in
     let work : Work = record { tick = tick; turns = at.turns; moments = done } in
     let K : ℕ → Type 0 = λ k. Stands h k all (done ++ moments_of at.earlier) (grows (calls_by done) start) in
     let M : List TxTurn → Type 0 = λ l. clear_from l ≤ tick + 1 in
@@ -132,6 +137,7 @@ destination-ends g k h seen answers tick at told leaves =
           looks = at.looks;
           between = at.between;
           sends = record { answers = at.moments; turn = turn; left = out.left; moments_are = refl; answers_only = at.only; turn_is = step.event_is; turn_tick = step.tick_is; left_is = out.left_is };
+          sees = fresh-join out.left (turn ∷ at.moments) start sees_left (fresh-at g tick all old (view_at at.earlier at.turns at.moments) turn.did.calls at.stands step.fresh, at.sees);
           after = stands-joint h tick _ _ _ now;
         },
         at.ticks,

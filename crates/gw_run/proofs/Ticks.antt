@@ -3,15 +3,14 @@ use Rattle.std.proofs.Common.{◌≡◌, ℕ, Option, Some, None, List, [], ◌�
 use Rattle.tp_unit.specs.Box.{Answer, Written, written_of}
 use Rattle.tp_sender.specs.State.{TxTurn}
 use Rattle.tp_receiver.specs.State.{RxEvent, Came, Timer, FcLeft, RxTurn}
-use Rattle.hub_core.specs.Turns.{calls_by, came_by}
+use Rattle.hub_core.specs.Turns.{AreFreshTurns, Turn, calls_by, came_by}
 use Rattle.tp_receiver.specs.Runs.{frames_in}
 use Rattle.can_frame.specs.Frame.{CanFrame}
-use Rattle.hub_core.specs.Floors.{floors_of}
+use Rattle.hub_core.specs.Floors.{AreFresh, floors_of}
 use Rattle.hub_core.specs.Joint.{Joint}
-use Rattle.hub_core.specs.View.{View, grows}
+use Rattle.hub_core.specs.View.{Event, View, grows}
 use Rattle.hub_core.proofs.Hubs.{is-joint}
-use Rattle.gw_run.proofs.works.RxLooks.{fresh-counts}
-use Rattle.receiver_law.specs.Parts.{AreLooks, ControlLeaves, LooksCount}
+use Rattle.receiver_law.specs.Parts.{ControlLeaves}
 use Rattle.gw_run.specs.Works.{IsJoint, moments_of, turns_of, view_of}
 use Rattle.tp_receiver.specs.Runs.{control_after}
 use Rattle.tp_attempts.specs.Seen.{Seen, seen_frame}
@@ -39,11 +38,16 @@ told-with g h event tick lies controls other is told = record { did = told.did; 
 abbrev pub told-same : (g h : Gateway) (event : RxEvent) (tick : ℕ) (lies : Option Meaning) → TellsReceiver g h event tick lies g.controls → TellsReceiver g h event tick lies (g.controls ++ [])
 told-same g h event tick lies told = told-with g h event tick lies g.controls (g.controls ++ []) (sym (append-nil g.controls)) told
 
--- the step's looks at the room count all but what was put
-counts-at : (g h : Gateway) (t tick : ℕ) (turns : List RxTurn) (moments : List TxTurn) (view : View) (event : RxEvent) (lies : Option Meaning) (controls : List Written) → Stands g t turns moments view →
-    (told : TellsReceiver g h event tick lies controls) → LooksCount view told.did.calls
-counts-at g h t tick turns moments view event lies controls s told =
-    let P : View → Type 0 = λ v. LooksCount v told.did.calls in subst P s.pool.view_is (fresh-counts (floors_of (groups_in g.hub) (view_in g.hub)) (view_in g.hub) told.did.calls told.stepped.fresh)
+-- the one group of buffers
+abbrev pub groups : List (List ℕ)
+groups = (BUFFER_CELLS ∷ []) ∷ []
+
+-- what a step saw stands in the view before it
+pub fresh-at : (g : Gateway) (t : ℕ) (turns : List RxTurn) (moments : List TxTurn) (view : View) (calls : List Event) → Stands g t turns moments view → AreFresh (floors_of (groups_in g.hub) (view_in g.hub)) (view_in g.hub) calls → AreFresh (floors_of groups view) view calls
+fresh-at g t turns moments view calls s fresh =
+    let P : List (List ℕ) → Type 0 = λ l. AreFresh (floors_of l (view_in g.hub)) (view_in g.hub) calls in
+    let Q : View → Type 0 = λ v. AreFresh (floors_of groups v) v calls in
+    subst Q s.pool.view_is (subst P s.pool.groups fresh)
 
 -- a frame of the source channel came
 pub received : (g h : Gateway) (seen : List Seen) (answers : List Answer) (tick : ℕ) (frame : CanFrame) → InSource g seen answers tick →
@@ -62,7 +66,7 @@ received g h seen answers tick frame at told =
       later = at.later;
       next = at.next;
       came = (told.stepped.tick_is, at.came);
-      looks = (counts-at g h tick tick _ _ view event (lying g.control) g.controls at.stands told, at.looks);
+      looks = (fresh-at g tick _ _ view told.did.calls at.stands told.stepped.fresh, at.looks);
       stands = subst V (sym (grows-append (calls_by at.turns) told.did.calls (view_of at.earlier))) stands;
       clear = at.clear;
       seen_is = ap (λ (k : ℕ). came_by frames_in (at.turns ++ turns_of at.earlier) ++ (record { at = k; size = length frame.bytes; meaning = unit_of 0 frame } ∷ [])) told.stepped.tick_is
@@ -75,7 +79,7 @@ record ControlLeft (h : Gateway) (tick : ℕ) (turns : List RxTurn) (moments : L
   left : List RxTurn
   left_is : ControlLeaves tick (control_after turns) left
   none_seen : came_by frames_in (left ++ turns) ≡ came_by frames_in turns
-  looks : AreLooks view left
+  looks : AreFreshTurns groups view left
   stands : Stands h tick (left ++ turns) moments (grows (calls_by left) view)
 
 control-left : (g h : Gateway) (tick : ℕ) (turns : List RxTurn) (moments : List TxTurn) (view : View) (lies : Option Meaning) → lying g.control ≡ lies → Stands g tick turns moments view → LeavesControl lies g h tick → ControlLeft h tick turns moments view
@@ -91,17 +95,18 @@ control-left g h tick turns moments view (Some meaning) is s told =
       left = turn ∷ [];
       left_is = subst P (sym is ∙ s.receives.lies_is) (refl, told.stepped.tick_is, refl);
       none_seen = append-nil (came_by frames_in turns);
-      looks = (counts-at g h tick tick turns moments view FcLeft None _ s told, tt);
+      looks = (fresh-at g tick turns moments view told.did.calls s told.stepped.fresh, tt);
       stands = turn-stands g h tick tick turns moments view FcLeft s (omega arith) (told-with g h FcLeft tick None _ _ same told);
     }
 
 grows-join : (left rest : List RxTurn) (view : View) → grows (calls_by (left ++ rest)) view ≡ grows (calls_by left) (grows (calls_by rest) view)
 grows-join left rest view = ap (λ c. grows c view) (calls-append left rest) ∙ grows-append (calls_by rest) (calls_by left) view
 
-looks-join : (left rest : List RxTurn) (view : View) → AreLooks (grows (calls_by rest) view) left → AreLooks view rest → AreLooks view (left ++ rest)
-looks-join [] rest view one other = other
-looks-join (turn ∷ left) rest view one other =
-    let P : View → Type 0 = λ v. LooksCount v turn.did.calls in (subst P (sym (grows-join left rest view)) one.0, looks-join left rest view one.1 other)
+pub fresh-join : {E A R S : Type 0} (left rest : List (Turn E Event A R S)) (view : View) → AreFreshTurns groups (grows (calls_by rest) view) left → AreFreshTurns groups view rest → AreFreshTurns groups view (left ++ rest)
+fresh-join [] rest view one other = other
+fresh-join (turn ∷ left) rest view one other =
+    let P : View → Type 0 = λ v. AreFresh (floors_of groups v) v turn.did.calls in
+    (subst P (sym (ap (λ c. grows c view) (calls-append left rest) ∙ grows-append (calls_by rest) (calls_by left) view)) one.0, fresh-join left rest view one.1 other)
 
 -- the receiver's timer
 pub timer-stands : (g k : Gateway) (seen : List Seen) (answers : List Answer) (tick : ℕ) → (at : InSource g seen answers tick) → (told : TellsReceiver g k Timer tick (lying g.control) g.controls) →
@@ -125,7 +130,7 @@ source-ends g k h seen answers tick at told leaves =
     let V : View → Type 0 = λ v. Stands h tick ((out.left ++ timer ∷ at.turns) ++ turns_of at.earlier) (moments_of at.earlier) v in
     let now : Stands h tick ((out.left ++ timer ∷ at.turns) ++ turns_of at.earlier) (moments_of at.earlier) (grows (calls_by (out.left ++ timer ∷ at.turns)) (view_of at.earlier)) =
     subst V (sym all) (subst L (sym turns_are) out.stands) in
-    let looks_left : AreLooks (grows (calls_by (timer ∷ at.turns)) (view_of at.earlier)) out.left = (let P : View → Type 0 = λ v. AreLooks v out.left in subst P (sym mid) out.looks) in
+    let looks_left : AreFreshTurns groups (grows (calls_by (timer ∷ at.turns)) (view_of at.earlier)) out.left = (let P : View → Type 0 = λ v. AreFreshTurns groups v out.left in subst P (sym mid) out.looks) in
     record {
       earlier = at.earlier;
       turns = out.left ++ timer ∷ at.turns;
@@ -134,9 +139,10 @@ source-ends g k h seen answers tick at told leaves =
       later = at.later;
       next = at.next;
       receives = record { came = at.turns; timer = timer; left = out.left; turns_are = refl; came_only = at.came; timer_is = refl; timer_tick = told.stepped.tick_is; left_is = out.left_is };
-      looks = looks-join out.left (timer ∷ at.turns) (view_of at.earlier) looks_left (counts-at g k tick tick _ _ view Timer (lying g.control) g.controls at.stands told, at.looks);
+      looks = fresh-join out.left (timer ∷ at.turns) (view_of at.earlier) looks_left (fresh-at g tick _ _ view told.did.calls at.stands told.stepped.fresh, at.looks);
       between = stands-joint h tick _ _ _ now;
       only = tt;
+      sees = tt;
       stands = now;
       clear = at.clear;
       seen_is = ap (came_by frames_in) turns_are ∙ out.none_seen ∙ append-nil (came_by frames_in (at.turns ++ turns_of at.earlier)) ∙ at.seen_is;

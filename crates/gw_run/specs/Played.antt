@@ -32,9 +32,9 @@ receiving_of m = record { set = m.rx; comes = record { id = m.source_id; byte = 
 abbrev pub sending_of : Machines → Sending
 sending_of m = record { set = m.tx; comes = record { id = m.destination_id; byte = None }; bus = 1 }
 
--- the run's plan: windows of one tick, and one buffer
+-- the run's plan: windows of one tick, and one group of one buffer
 abbrev pub plan_of : Machines → (last : ℕ) → Plan
-plan_of m last = record { receivers = receiving_of m ∷ []; senders = sending_of m ∷ []; budget = λ bus. BUDGET; sizes = BUFFER_CELLS ∷ []; window = 1; last = last }
+plan_of m last = record { receivers = receiving_of m ∷ []; senders = sending_of m ∷ []; budget = λ bus. BUDGET; groups = (BUFFER_CELLS ∷ []) ∷ []; window = 1; last = last }
 
 -- what is told of the run: the frames of both logs, and what was sent and reported
 abbrev pub account_of : Machines → (start period last : ℕ) → (source destination : List Stamped) → Told → Account
@@ -45,8 +45,8 @@ account_of m start period last source destination told = record {
   sessions = told.report.sessions;
   dests = told.report.dests;
   moves = told.report.moves;
-  count = told.report.pool.changes;
-  free = told.report.pool.free;
+  counts = λ group. told.report.pool.changes;
+  frees = λ group. told.report.pool.free;
 }
 
 -- what the machines tell, where these frames and flow controls came

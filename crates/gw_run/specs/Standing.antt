@@ -7,9 +7,9 @@ use Rattle.tp_receiver.specs.Port.{Knows}
 use Rattle.tp_receiver.specs.State.{WaitsBy, state_of as receiver_state, RxTurn, rx_new}
 use Rattle.hub_core.specs.Moves.{move_of}
 use Rattle.tp_receiver.specs.Runs.{HasReceived, frames_in}
-use Rattle.hub_core.specs.Turns.{calls_by, now_of, came_by, state_after, records_by}
+use Rattle.hub_core.specs.Turns.{AreFreshTurns, calls_by, now_of, came_by, state_after, records_by}
 use Rattle.std.specs.List.{AllByRecursion}
-use Rattle.receiver_law.specs.Parts.{AreLooks, CameIn, ReceivesIn}
+use Rattle.receiver_law.specs.Parts.{CameIn, ReceivesIn}
 use Rattle.gw_run.specs.Works.{AreTicks, IsIdle, IsJoint, IsSerialRun, Work, moments_of, tick_after, told_by, turns_of, view_of}
 use Rattle.sender_law.specs.Parts.{IsAnswerIn}
 use Rattle.tp_receiver.specs.Runs.{control_after, controls_by}
@@ -122,7 +122,7 @@ pub record InSource (g : Gateway) (seen : List Seen) (answers : List Answer) (ti
   pub later : tick_after earlier ≤ tick
   pub next : IsIdle earlier ⊎ (tick ≡ tick_after earlier)
   pub came : AllByRecursion (λ (turn : RxTurn). CameIn tick turn.event turn.did.tick) turns
-  pub looks : AreLooks (view_of earlier) turns
+  pub looks : AreFreshTurns ((BUFFER_CELLS ∷ []) ∷ []) (view_of earlier) turns
   pub stands : Stands g tick (turns ++ turns_of earlier) (moments_of earlier) (grows (calls_by turns) (view_of earlier))
   pub clear : clear_from (moments_of earlier) ≤ tick
   pub seen_is : came_by frames_in (turns ++ turns_of earlier) ≡ seen
@@ -137,9 +137,10 @@ pub record InDestination (g : Gateway) (seen : List Seen) (answers : List Answer
   pub later : tick_after earlier ≤ tick
   pub next : IsIdle earlier ⊎ (tick ≡ tick_after earlier)
   pub receives : ReceivesIn tick (turns_of earlier) turns
-  pub looks : AreLooks (view_of earlier) turns
+  pub looks : AreFreshTurns ((BUFFER_CELLS ∷ []) ∷ []) (view_of earlier) turns
   pub between : IsJoint (BUFFER_CELLS ∷ []) (grows (calls_by turns) (view_of earlier))
   pub only : AllByRecursion (IsAnswerIn tick) moments
+  pub sees : AreFreshTurns ((BUFFER_CELLS ∷ []) ∷ []) (grows (calls_by turns) (view_of earlier)) moments
   pub stands : Stands g tick (turns ++ turns_of earlier) (moments ++ moments_of earlier) (grows (calls_by moments) (grows (calls_by turns) (view_of earlier)))
   pub clear : clear_from (moments ++ moments_of earlier) ≤ tick
   pub seen_is : came_by frames_in (turns ++ turns_of earlier) ≡ seen

@@ -6,7 +6,7 @@ use Rattle.tp_sender.specs.State.{TxTurn, tx_new}
 use Rattle.tp_receiver.specs.State.{RunEnd, RxTurn, rx_new}
 use Rattle.hub_core.specs.Moves.{move_of}
 use Rattle.tp_receiver.specs.Runs.{HasReceived, frames_in}
-use Rattle.hub_core.specs.Turns.{calls_by, came_by, state_after, records_by}
+use Rattle.hub_core.specs.Turns.{AreFreshTurns, calls_by, came_by, state_after, records_by}
 use Rattle.std.specs.List.{AllByRecursion}
 use Rattle.hub_core.specs.Groups.{IsWordOf}
 use Rattle.hub_core.specs.Joint.{Joint}
@@ -22,7 +22,7 @@ use Rattle.tp_sender.specs.declared.event.TxEvent.TheVariants.{RunEnd}
 use Rattle.tp_sender.specs.declared.set.TxSet.{TxSet}
 use Rattle.tp_unit.specs.Shape.{IsShape}
 use Rattle.tp_unit.specs.declared.shape.Shape.{Shape}
-use Rattle.receiver_law.specs.Parts.{AreLooks, EndsReceiving, ReceivesIn}
+use Rattle.receiver_law.specs.Parts.{EndsReceiving, ReceivesIn}
 use Rattle.receiver_law.specs.Source.{CountsFrom}
 use Rattle.sender_law.specs.Parts.{IsStepIn, SendsIn}
 use Rattle.tp_receiver.specs.Runs.{controls_by}
@@ -65,14 +65,15 @@ pub record IsIdle (works : List Work) : Type 0 where
   pub receiver : (state_after rx_new (turns_of works)).busy ≡ None
   pub sender : (state_after tx_new (moments_of works)).live ≡ None
 
--- the work of one tick, after that of earlier ones; no tick is left out but where all is idle
+-- the work of one tick, after that of earlier ones, in which each machine sees all that stands; no tick is left out but where all is idle
 pub record IsTick (sizes : List ℕ) (earlier : List Work) (work : Work) : Type 0 where
   pub later : tick_after earlier ≤ work.tick
   pub next : IsIdle earlier ⊎ (work.tick ≡ tick_after earlier)
   pub receives : ReceivesIn work.tick (turns_of earlier) work.turns
-  pub looks : AreLooks (view_of earlier) work.turns
+  pub looks : AreFreshTurns (sizes ∷ []) (view_of earlier) work.turns
   pub between : IsJoint sizes (view_between earlier work)
   pub sends : SendsIn work.tick (moments_of earlier) work.moments
+  pub sees : AreFreshTurns (sizes ∷ []) (view_between earlier work) work.moments
   pub after : IsJoint sizes (view_of (work ∷ earlier))
 
 abbrev pub AreTicks : List ℕ → List Work → Type 0

@@ -189,33 +189,37 @@ reading-rises : (path dest seq : ℕ) (f : Reading → Reading) (v : View) → (
     (q e : ℕ) → ReadingsGrow (v.readings q e) (at_two path dest (change_at seq f (v.readings path dest)) v.readings q e)
 reading-rises path dest seq f v risen = two-grown _ _ _ path dest (change_at seq f (v.readings path dest)) v.readings (grown-changed _ _ _ seq f (v.readings path dest) (λ r there. record { number = (risen r).0; same = refl; left = (risen r).1 }))
 
+-- no more of a session is published than was put
+abbrev pub ShowsPut : View → Type 0
+ShowsPut v = (path seq : ℕ) (s : Session) → session_at v path seq ≡ Some s → s.shown ≤ length s.cells
+
 -- no event lowers the present floors
-rises : (groups : List (List ℕ)) (e : Event) (v : View) → AreStreams v → Rise (floors_of groups v) (floors_of groups (grow e v))
+pub rises : (groups : List (List ℕ)) (e : Event) (v : View) → ShowsPut v → Rise (floors_of groups v) (floors_of groups (grow e v))
 unfolding grow
-rises groups (Took group number buf size need) v streams = rise-of groups (Took group number buf size need) v (Taken number buf need ∷ []) refl (same-sessions v) (same-readings v)
-rises groups (Refused group number free need) v streams = rise-same (floors_of groups v)
-rises groups (Entered path seq buf number size len readers) v streams =
+rises groups (Took group number buf size need) v put = rise-of groups (Took group number buf size need) v (Taken number buf need ∷ []) refl (same-sessions v) (same-readings v)
+rises groups (Refused group number free need) v put = rise-same (floors_of groups v)
+rises groups (Entered path seq buf number size len readers) v put =
     rise-of groups (Entered path seq buf number size len readers) v [] (sym (append-nil v.changes)) (one-grown _ _ _ path _ v.sessions (grown-pushed _ _ _ (v.sessions path) (session_new buf number size len readers))) (same-readings v)
-rises groups (Asked path seq cells readers) v streams =
+rises groups (Asked path seq cells readers) v put =
     rise-of groups (Asked path seq cells readers) v [] (sym (append-nil v.changes)) (session-rises path seq (λ s. record s { room = cells; readers = readers }) v (λ s there. (omega arith, λ left. left, refl, refl))) (same-readings v)
-rises groups (Put path seq cell) v streams =
+rises groups (Put path seq cell) v put =
     rise-of groups (Put path seq cell) v [] (sym (append-nil v.changes)) (session-rises path seq (λ s. record s { cells = s.cells ++ cell ∷ []; room = s.room - 1 }) v (λ s there. (omega arith, λ left. left, refl, refl))) (same-readings v)
-rises groups (Published path seq bytes) v streams =
-    rise-of groups (Published path seq bytes) v [] (sym (append-nil v.changes)) (session-rises path seq (λ s. record s { shown = length s.cells; told = s.told + bytes }) v (λ s there. ((streams.written path seq s there).shown, λ left. left, refl, refl))) (same-readings v)
-rises groups (Joining path dest seq buf len) v streams =
+rises groups (Published path seq bytes) v put =
+    rise-of groups (Published path seq bytes) v [] (sym (append-nil v.changes)) (session-rises path seq (λ s. record s { shown = length s.cells; told = s.told + bytes }) v (λ s there. (put path seq s there, λ left. left, refl, refl))) (same-readings v)
+rises groups (Joining path dest seq buf len) v put =
     rise-of groups (Joining path dest seq buf len) v [] (sym (append-nil v.changes)) (same-sessions v) (two-grown _ _ _ path dest _ v.readings (grown-pushed _ _ _ (v.readings path dest) (reading_new buf len)))
-rises groups (Missed group path dest seq) v streams = rise-same (floors_of groups v)
-rises groups (Saw path dest seq cells bytes writer) v streams =
+rises groups (Missed group path dest seq) v put = rise-same (floors_of groups v)
+rises groups (Saw path dest seq cells bytes writer) v put =
     rise-of groups (Saw path dest seq cells bytes writer) v [] (sym (append-nil v.changes)) (same-sessions v) (reading-rises path dest seq (λ r. record r { seen = cells; bytes = bytes; writer = writer }) v (λ r. (omega arith, λ left. left)))
-rises groups (Read path dest seq cell) v streams =
+rises groups (Read path dest seq cell) v put =
     rise-of groups (Read path dest seq cell) v [] (sym (append-nil v.changes)) (same-sessions v) (reading-rises path dest seq (λ r. record r { cells = r.cells ++ cell ∷ [] }) v (λ r. (omega (arith, length-append r.cells (cell ∷ [])), λ left. left)))
-rises groups (Closed path seq freed) v streams =
+rises groups (Closed path seq freed) v put =
     rise-of groups (Closed path seq freed) v freed refl (session-rises path seq (λ s. record s { stands = false }) v (λ s there. (omega arith, λ left. refl, refl, refl))) (same-readings v)
-rises groups (Parted path dest seq freed) v streams =
+rises groups (Parted path dest seq freed) v put =
     rise-of groups (Parted path dest seq freed) v freed refl (same-sessions v) (reading-rises path dest seq (λ r. record r { stands = false }) v (λ r. (omega arith, λ left. refl)))
 
 pub rise-grow : (groups : List (List ℕ)) (e : Event) (v w : View) → AreStreams v → w ≡ grow e v → Rise (floors_of groups v) (floors_of groups w)
-rise-grow groups e v w streams grown = let P : View → Type 0 = λ x. Rise (floors_of groups v) (floors_of groups x) in subst P (sym grown) (rises groups e v streams)
+rise-grow groups e v w streams grown = let P : View → Type 0 = λ x. Rise (floors_of groups v) (floors_of groups x) in subst P (sym grown) (rises groups e v (λ path seq s there. (streams.written path seq s there).shown))
 
 -- a list has no item from its end on
 pub past-end : {A : Type 0} (xs : List A) (k : ℕ) → slice_get xs k ≡ None → length xs ≤ k

@@ -19,6 +19,7 @@ mod Taking
 pub mod Beside
 pub mod Fresh
 pub mod Growing
+pub mod Later
 pub mod Turns
 pub mod Led
 pub mod Numbered

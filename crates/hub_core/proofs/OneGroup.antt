@@ -79,7 +79,7 @@ module _ (sizes : List ℕ) (v : View) (joint : Joint (sizes ∷ []) v) where
   same = all-one sizes v.changes no-other
 
   -- a session's buffer is one of the group
-  its : (path seq : ℕ) (s : Session) → session_at v path seq ≡ Some s → (group_of groups s.buf ≡ 0) × (place_of groups s.buf ≡ s.buf)
+  pub its : (path seq : ℕ) (s : Session) → session_at v path seq ≡ Some s → (group_of groups s.buf ≡ 0) × (place_of groups s.buf ≡ s.buf)
   its path seq s at = elim (cases_lt s.buf (length sizes)) [
     | inl below ↦ first-group sizes [] s.buf below
     | inr past ↦ absurd (

@@ -51,29 +51,36 @@ abbrev pub Frees : Change → Type 0
 Frees (Taken number buf need) = ⊥
 Frees (Freed number buf) = Unit {0}
 
+-- the number and the buffer of a take
+abbrev pub NumberedBuf : Type 0
+NumberedBuf = ℕ × ℕ
+
 -- a take is one of these
-abbrev pub IsUsed : List ℕ → Change → Type 0
-IsUsed takes (Taken number buf need) = (seq : ℕ) × (slice_get takes seq ≡ Some number)
+abbrev pub IsUsed : List NumberedBuf → Change → Type 0
+IsUsed takes (Taken number buf need) = (seq : ℕ) × (slice_get takes seq ≡ Some (number, buf))
 IsUsed takes (Freed number buf) = Unit {0}
 
-frees-used : (takes : List ℕ) (changes : List Change) → AllByRecursion Frees changes → AllByRecursion (IsUsed takes) changes
+frees-used : (takes : List NumberedBuf) (changes : List Change) → AllByRecursion Frees changes → AllByRecursion (IsUsed takes) changes
 frees-used takes [] all = tt
 frees-used takes (Taken number buf need ∷ changes) all = absurd all.0
 frees-used takes (Freed number buf ∷ changes) all = (tt, frees-used takes changes all.1)
 
-used-more : (takes : List ℕ) (take : ℕ) (changes : List Change) → AllByRecursion (IsUsed takes) changes → AllByRecursion (IsUsed (takes ++ take ∷ [])) changes
+used-more : (takes : List NumberedBuf) (take : NumberedBuf) (changes : List Change) → AllByRecursion (IsUsed takes) changes → AllByRecursion (IsUsed (takes ++ take ∷ [])) changes
 used-more takes take [] all = tt
-used-more takes take (Taken number buf need ∷ changes) all = ((all.0.0, slice_get-more takes (take ∷ []) all.0.0 number all.0.1), used-more takes take changes all.1)
+used-more takes take (Taken number buf need ∷ changes) all = ((all.0.0, slice_get-more takes (take ∷ []) all.0.0 (number, buf) all.0.1), used-more takes take changes all.1)
 used-more takes take (Freed number buf ∷ changes) all = (tt, used-more takes take changes all.1)
 
 -- the takes of sessions
-abbrev pub takes_of : List Session → List ℕ
-takes_of sessions = map (λ (s : Session). s.number) sessions
+abbrev pub take_of : Session → NumberedBuf
+take_of s = (s.number, s.buf)
 
-takes-kept : (seq : ℕ) (f : Session → Session) (sessions : List Session) → ((s : Session) → (f s).number ≡ s.number) → takes_of (change_at seq f sessions) ≡ takes_of sessions
+abbrev pub takes_of : List Session → List NumberedBuf
+takes_of sessions = map take_of sessions
+
+takes-kept : (seq : ℕ) (f : Session → Session) (sessions : List Session) → ((s : Session) → take_of (f s) ≡ take_of s) → takes_of (change_at seq f sessions) ≡ takes_of sessions
 takes-kept seq f [] keeps = refl
 takes-kept zero f (s ∷ sessions) keeps = ap (λ n. n ∷ takes_of sessions) (keeps s)
-takes-kept (suc seq) f (s ∷ sessions) keeps = ap (λ l. s.number ∷ l) (takes-kept seq f sessions keeps)
+takes-kept (suc seq) f (s ∷ sessions) keeps = ap (λ l. take_of s ∷ l) (takes-kept seq f sessions keeps)
 
 -- so many sessions, each for so many destinations, all left by their writer but the one that it writes, and each take is one of theirs
 pub record Written (dests n : ℕ) (going : Option ℕ) (sessions : List Session) (changes : List Change) : Type 0 where
@@ -89,15 +96,15 @@ pub record WasRead (n : ℕ) (going : Option ℕ) (readings : List Reading) : Ty
 pub written-freed : (dests n : ℕ) (going : Option ℕ) (sessions : List Session) (changes freed : List Change) → AllByRecursion Frees freed → Written dests n going sessions changes → Written dests n going sessions (changes ++ freed)
 written-freed dests n going sessions changes freed frees so = record { count = so.count; left = so.left; used = all-join (IsUsed (takes_of sessions)) changes freed so.used (frees-used (takes_of sessions) freed frees) }
 
-used-kept : (seq : ℕ) (f : Session → Session) (sessions : List Session) (changes : List Change) → ((s : Session) → (f s).number ≡ s.number) → AllByRecursion (IsUsed (takes_of sessions)) changes → AllByRecursion (IsUsed (takes_of (change_at seq f sessions))) changes
-used-kept seq f sessions changes keeps all = let P : List ℕ → Type 0 = λ l. AllByRecursion (IsUsed l) changes in subst P (sym (takes-kept seq f sessions keeps)) all
+used-kept : (seq : ℕ) (f : Session → Session) (sessions : List Session) (changes : List Change) → ((s : Session) → take_of (f s) ≡ take_of s) → AllByRecursion (IsUsed (takes_of sessions)) changes → AllByRecursion (IsUsed (takes_of (change_at seq f sessions))) changes
+used-kept seq f sessions changes keeps all = let P : List NumberedBuf → Type 0 = λ l. AllByRecursion (IsUsed l) changes in subst P (sym (takes-kept seq f sessions keeps)) all
 
-pub written-changed : (dests n seq : ℕ) (going : Option ℕ) (f : Session → Session) (sessions : List Session) (changes : List Change) → ((s : Session) → (f s).number ≡ s.number) → ((s : Session) → (f s).dests ≡ s.dests) → ((s : Session) → (f s).stands ≡ s.stands) →
+pub written-changed : (dests n seq : ℕ) (going : Option ℕ) (f : Session → Session) (sessions : List Session) (changes : List Change) → ((s : Session) → take_of (f s) ≡ take_of s) → ((s : Session) → (f s).dests ≡ s.dests) → ((s : Session) → (f s).stands ≡ s.stands) →
     Written dests n going sessions changes → Written dests n going (change_at seq f sessions) changes
-written-changed dests n seq going f sessions changes number same stands so = record {
+written-changed dests n seq going f sessions changes take same stands so = record {
   count = length-change_at seq f sessions ∙ so.count;
   left = left-changed (λ (s : Session). s.stands) (λ (s : Session). s.dests ≡ dests) going seq f sessions (λ s is. same s ∙ is) stands so.left;
-  used = used-kept seq f sessions changes number so.used;
+  used = used-kept seq f sessions changes take so.used;
 }
 
 pub written-left : (dests n seq : ℕ) (sessions : List Session) (changes freed : List Change) → AllByRecursion Frees freed → Written dests n (Some seq) sessions changes → Written dests n None (change_at seq (λ s. record s { stands = false }) sessions) (changes ++ freed)
@@ -109,16 +116,15 @@ written-left dests n seq sessions changes freed frees so =
       used = used-kept seq f sessions changes (λ s. refl) so.used;
     })
 
-pub written-opened : (dests n buf need : ℕ) (s : Session) (sessions : List Session) (changes : List Change) → s.dests ≡ dests → Written dests n None sessions changes → Written dests (n + 1) (Some n) (sessions ++ s ∷ []) (changes ++ Taken s.number buf need ∷ [])
-written-opened dests n buf need s sessions changes same so =
-    let takes : takes_of (sessions ++ s ∷ []) ≡ takes_of sessions ++ s.number ∷ [] = map-append (λ (x : Session). x.number) sessions (s ∷ []) in
+pub written-opened : (dests n need : ℕ) (s : Session) (sessions : List Session) (changes : List Change) → s.dests ≡ dests → Written dests n None sessions changes → Written dests (n + 1) (Some n) (sessions ++ s ∷ []) (changes ++ Taken s.number s.buf need ∷ [])
+written-opened dests n need s sessions changes same so =
+    let takes : takes_of (sessions ++ s ∷ []) ≡ takes_of sessions ++ take_of s ∷ [] = map-append take_of sessions (s ∷ []) in
     let P : ℕ → Type 0 = λ k. AreLeft (λ (x : Session). x.stands) (λ (x : Session). x.dests ≡ dests) (Some k) (sessions ++ s ∷ []) in
-    let Q : List ℕ → Type 0 = λ l. AllByRecursion (IsUsed l) (changes ++ Taken s.number buf need ∷ []) in
-    let last : slice_get (takes_of (sessions ++ s ∷ [])) (length (takes_of sessions)) ≡ Some s.number = ap (λ l. slice_get l (length (takes_of sessions))) takes ∙ slice_get-pushed (takes_of sessions) s.number (length (takes_of sessions)) refl in
+    let last : slice_get (takes_of (sessions ++ s ∷ [])) (length (takes_of sessions)) ≡ Some (take_of s) = ap (λ l. slice_get l (length (takes_of sessions))) takes ∙ slice_get-pushed (takes_of sessions) (take_of s) (length (takes_of sessions)) refl in
     record {
       count = length-append sessions (s ∷ []) ∙ ap (λ k. k + 1) so.count;
       left = subst P so.count (left-added (λ (x : Session). x.stands) (λ (x : Session). x.dests ≡ dests) s sessions same so.left);
-      used = all-join (IsUsed (takes_of (sessions ++ s ∷ []))) changes (Taken s.number buf need ∷ []) (let R : List ℕ → Type 0 = λ l. AllByRecursion (IsUsed l) changes in subst R (sym takes) (used-more (takes_of sessions) s.number changes so.used)) ((length (takes_of sessions), last), tt);
+      used = all-join (IsUsed (takes_of (sessions ++ s ∷ []))) changes (Taken s.number s.buf need ∷ []) (let R : List NumberedBuf → Type 0 = λ l. AllByRecursion (IsUsed l) changes in subst R (sym takes) (used-more (takes_of sessions) (take_of s) changes so.used)) ((length (takes_of sessions), last), tt);
     }
 
 pub read-changed : (n seq : ℕ) (going : Option ℕ) (f : Reading → Reading) (readings : List Reading) → ((r : Reading) → (f r).stands ≡ r.stands) → WasRead n going readings → WasRead n going (change_at seq f readings)

@@ -1,6 +1,6 @@
 -- One vocabulary for every machine that works over a port: what it was told, what its step came to, and what its turns tell together.
 use Rattle.std.specs.Prelude.{◌≡◌, ℕ, ◌+◌, ◌≤◌, List, [], ◌∷◌, ◌++◌}
-use Rattle.hub_core.specs.Floors.{Floors, AreFresh}
+use Rattle.hub_core.specs.Floors.{Floors, AreFresh, floors_of}
 use Rattle.hub_core.specs.Moves.{moves_in}
 use Rattle.hub_core.specs.Stays.{PortState}
 use Rattle.hub_core.specs.View.{View, Event, grows}
@@ -60,6 +60,11 @@ turns_of (part ∷ earlier) = part.turns ++ turns_of earlier
 abbrev pub tick_after : {T : Type 0} → List (Part T) → ℕ
 tick_after [] = 0
 tick_after (part ∷ earlier) = part.tick + 1
+
+-- what each turn saw is no older than the floors of the view in which it began; the first turn began in this view
+abbrev pub AreFreshTurns : {E A R S : Type 0} → List (List ℕ) → View → List (Turn E Event A R S) → Type 0
+AreFreshTurns groups start [] = Unit {0}
+AreFreshTurns groups start (turn ∷ earlier) = AreFresh (floors_of groups (grows (calls_by earlier) start)) (grows (calls_by earlier) start) turn.did.calls × AreFreshTurns groups start earlier
 
 -- a part of a step over a port: these calls made the new view of the old one, none is older than the floors, their moves are told, and the row holds of them
 pub record Over (floors : Floors) (old new : View) (moves : List Move) (Row : List Event → Type 0) : Type 0 where

@@ -35,11 +35,6 @@ pub record ReceivesIn (tick : ℕ) (earlier turns : List RxTurn) : Type 0 where
 abbrev pub LooksCount : View → List Event → Type 0
 LooksCount v calls = (before after : List Event) (path seq cells readers : ℕ) (s : Session) → calls ≡ before ++ Asked path seq cells readers ∷ after → session_at (grows before v) path seq ≡ Some s → s.size ≤ cells + length s.cells
 
--- so do the looks of each turn, from the view in which it began
-abbrev pub AreLooks : View → List RxTurn → Type 0
-AreLooks start [] = Unit {0}
-AreLooks start (turn ∷ earlier) = LooksCount (grows (calls_by earlier) start) turn.did.calls × AreLooks start earlier
-
 -- the receiver is told in that tick that the run ends
 abbrev pub EndsReceiving : ℕ → List RxTurn → Type 0
 EndsReceiving last [] = ⊥

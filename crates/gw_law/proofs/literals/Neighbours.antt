@@ -1,5 +1,5 @@
 -- Each neighbour of the lawful run breaks a law.
-use Rattle.std.proofs.Common.{◌≡◌, ℕ, zero, suc, ◌≤◌, true, false, [], ◌∷◌, Some, None, inl, inr, true≢false, refl, ap, sym, ◌∙◌, subst, arith}
+use Rattle.std.proofs.Common.{◌≡◌, ℕ, zero, suc, ◌<◌, ◌≤◌, true, false, [], ◌∷◌, Some, None, inl, inr, true≢false, refl, ap, sym, ◌∙◌, subst, arith}
 use Rattle.std.specs.Prelude.{take, ◌&&◌, max}
 use Rattle.std.proofs.Math.Nat.{le-max_left}
 use Rattle.gw_base.specs.declared.numbers.PathNo.{PathNo}
@@ -14,7 +14,7 @@ use Rattle.tp_attempts.specs.Seen.{is_data}
 use Rattle.gw_law.proofs.literals.Items.{alone, alone-among}
 use Rattle.gw_law.specs.Channels.{address_in, is_addressed, is_control}
 use Rattle.gw_law.specs.Emission.{IsControlOn, IsDataOn, IsOfSending}
-use Rattle.gw_law.specs.Examples.{NeighboursAreUnlawful, awaited_too_early, changed_byte, frame_of_no_channel, leaves, control_frame, long_session, lower_priority_first, no_such_destination, read_to_the_end, receiving, sent_before_it_came, sent_on, single_frame, short_session, sending, takes, two_takes_of_one_buffer, unsent}
+use Rattle.gw_law.specs.Examples.{NeighboursAreUnlawful, awaited_too_early, buffer_of_another_group, changed_byte, frame_of_no_channel, leaves, control_frame, long_session, lower_priority_first, no_such_destination, read_to_the_end, receiving, sent_before_it_came, sent_on, single_frame, short_session, sending, takes, two_takes_of_one_buffer, unsent}
 use Rattle.gw_law.specs.JointCauses.{IsOwnEnd}
 use Rattle.gw_law.specs.Lawful.{Lawful}
 use Rattle.gw_law.specs.Plan.{Receiving, Sending}
@@ -93,9 +93,17 @@ still-reads law =
 -- the second move takes a buffer that isn't free
 one-take : Lawful two_takes_of_one_buffer → ⊥
 one-take law =
-    let each = law.pool.law.replayed.each 1 (omega arith) in
+    let each = (law.pool.each 0 (omega arith)).law.replayed.each 1 (omega arith) in
     let move : takes 2 0 ≡ each.0 = let there = each.1 in cc in
     (subst (λ (m : Move). IsLawfulMove (2 ∷ 4 ∷ []) 2 m) (sym move) each.2).kind.0 refl refl
+
+-- the short message's buffer is the second group's
+other-group : Lawful buffer_of_another_group → ⊥
+unfolding unit_in
+other-group law =
+    let served = (law.pool.each 0 (omega arith)).law.asks.1.0.0.served _ refl in
+    let group : 1 ≡ 0 = served.its in
+    omega (arith, group)
 
 pub neighbours : NeighboursAreUnlawful
 unfolding unit_in
@@ -115,6 +123,8 @@ neighbours = record {
   destination_after_the_end = λ law. let end : 5 ≤ 4 = law.dests.1.0.records.own.0.end in omega (arith, end);
   sent_too_late = λ law. let left : 0 ≡ 1 = law.dests.1.0.transmissions.sent.0.cause in omega (arith, left);
   two_takes_of_one_buffer = one-take;
-  numbered_from_two = λ law. let number : 2 ≡ 1 = law.pool.law.replayed.numbered.0 in omega (arith, number);
-  buffer_never_freed = λ law. law.pool.whole 0 (omega arith) refl;
+  numbered_from_two = λ law. let number : 2 ≡ 1 = (law.pool.each 0 (omega arith)).law.replayed.numbered.0 in omega (arith, number);
+  buffer_of_another_group = other-group;
+  buffer_never_freed = λ law. (law.pool.each 0 (omega arith)).whole 0 (omega arith) refl;
+  no_such_buffer = λ law. let there : 1 < 1 = law.pool.there.1.1.1.1.0 in omega (arith, there);
 }

@@ -5,17 +5,24 @@ use Rattle.std.proofs.lemmas.Bool.Decides.{eqb_tells}
 use Rattle.gw_base.proofs.Lists.{same-some}
 use Rattle.gw_base.specs.Fit.{Fits, IsSmallest}
 use Rattle.gw_base.specs.declared.numbers.BufNo.{BufNo}
+use Rattle.hub_core.specs.Groups.{place_of}
 use Rattle.hub_core.specs.declared.record.Move.{Move}
 use Rattle.hub_core.specs.declared.record.OpenedAt.{OpenedAt}
 use Rattle.hub_core.specs.declared.record.SessionRecord.{SessionRecord}
 use Rattle.tp_unit.specs.Reading.{unit_in}
 use Rattle.gw_law.specs.Examples.{frees, lawful_run, long_session, short_session, takes}
-use Rattle.gw_law.specs.Pool.{AreFreed, AreNamed, Channel, IsLawfulMove, IsUnnamed, free_at, IsNextMove, IsOpened, IsServed, MovesBuf, freeing, move_numbered, taking}
-use Rattle.gw_law.specs.PoolOfAccount.{PoolOf, channels_in}
+use Rattle.gw_law.specs.Pool.{AreFreed, AreNamed, Channel, IsLawfulMove, IsUnnamed, free_at, IsNextMove, IsOpened, IsServed, MovesBuf, freeing, move_numbered, place_in, taking}
+use Rattle.gw_law.specs.PoolOfAccount.{PoolOf, PoolOfGroup, channels_of}
 use Rattle.gw_law.proofs.literals.Items.{alone}
+
+abbrev groups : List (List ℕ)
+groups = lawful_run.plan.groups
 
 abbrev moves : List Move
 moves = lawful_run.moves
+
+abbrev channels : List Channel
+channels = channels_of lawful_run 0
 
 -- the four moves
 data IsMove (number : ℕ) (move : Move) : Type 0 where
@@ -75,7 +82,7 @@ at-zero : {A : Type 0} (x y : A) (place : ℕ) → slice_get (x ∷ []) place �
 at-zero x y zero there = refl
 at-zero x y (suc place) there = absurd (let none : None ≡ Some y = there in cc)
 
-opened-is : (chan place : ℕ) (opened : OpenedAt) → IsOpened (channels_in lawful_run) chan place opened → IsOneOpened chan place opened
+opened-is : (chan place : ℕ) (opened : OpenedAt) → IsOpened channels chan place opened → IsOneOpened chan place opened
 opened-is zero place opened is =
     let channel = same-some refl is.channel_is in
     let there : slice_get (long_session ∷ []) place ≡ Some is.told = subst (λ (c : Channel). slice_get c.records place ≡ Some is.told) (sym channel) is.told_is in
@@ -91,10 +98,10 @@ opened-is (suc (suc chan)) place opened is = absurd (let none : None ≡ Some is
 change-is : (one opened : OpenedAt) → one ≡ opened → one.change ≡ opened.change
 change-is one opened same = ap (λ (o : OpenedAt). o.change) same
 
-long-is-opened : IsOpened (channels_in lawful_run) 0 0 long_opened
+long-is-opened : IsOpened channels 0 0 long_opened
 long-is-opened = record { channel = _; channel_is = refl; told = long_session; told_is = refl; opened_is = refl }
 
-short-is-opened : IsOpened (channels_in lawful_run) 1 0 short_opened
+short-is-opened : IsOpened channels 1 0 short_opened
 short-is-opened = record { channel = _; channel_is = refl; told = short_session 2; told_is = refl; opened_is = refl }
 
 -- the first take is of the smaller buffer, the second of the only one that is free
@@ -118,11 +125,11 @@ remaining = record {
   first = λ other fits same. let one = only-free other fits in omega (arith, one);
 }
 
-served-long : (opened : OpenedAt) → Some long_opened ≡ Some opened → IsServed (2 ∷ 4 ∷ []) moves 1 opened
-served-long opened is = subst (IsServed (2 ∷ 4 ∷ []) moves 1) (same-some refl is) (record { before = 0; change_is = refl; takes = refl; smallest = smaller })
+served-long : (opened : OpenedAt) → Some long_opened ≡ Some opened → IsServed groups 0 moves 1 opened
+served-long opened is = subst (IsServed groups 0 moves 1) (same-some refl is) (record { before = 0; change_is = refl; its = refl; takes = refl; smallest = smaller })
 
-served-short : (opened : OpenedAt) → Some short_opened ≡ Some opened → IsServed (2 ∷ 4 ∷ []) moves 1 opened
-served-short opened is = subst (IsServed (2 ∷ 4 ∷ []) moves 1) (same-some refl is) (record { before = 1; change_is = refl; takes = refl; smallest = remaining })
+served-short : (opened : OpenedAt) → Some short_opened ≡ Some opened → IsServed groups 0 moves 1 opened
+served-short opened is = subst (IsServed groups 0 moves 1) (same-some refl is) (record { before = 1; change_is = refl; its = refl; takes = refl; smallest = remaining })
 
 each : (number : ℕ) → number < 4 → (move : Move) × (move_numbered moves (number + 1) ≡ Some move) × IsLawfulMove (2 ∷ 4 ∷ []) (free_at (2 ∷ 4 ∷ []) moves number) move
 each zero below = (takes 1 0, refl, record { there = omega arith; kind = (λ took none. cc, λ free. refl) })
@@ -131,7 +138,7 @@ each (suc (suc zero)) below = (frees 3 1, refl, record { there = omega arith; ki
 each (suc (suc (suc zero))) below = (frees 4 0, refl, record { there = omega arith; kind = (λ took. absurd (true≢false (sym took)), λ free. absurd (free refl)) })
 each (suc (suc (suc (suc number)))) below = absurd (omega (arith, below))
 
-own : (chan other_chan place other : ℕ) (opened reopened : OpenedAt) → IsOpened (channels_in lawful_run) chan place opened → IsOpened (channels_in lawful_run) other_chan other reopened →
+own : (chan other_chan place other : ℕ) (opened reopened : OpenedAt) → IsOpened channels chan place opened → IsOpened channels other_chan other reopened →
     opened.change ≡ reopened.change → (chan ≡ other_chan) × (place ≡ other)
 own chan other_chan place other opened reopened one two same = elim (opened-is chan place opened one) [
   | Long at first is ↦ elim (opened-is other_chan other reopened two) [
@@ -145,7 +152,7 @@ own chan other_chan place other opened reopened one two same = elim (opened-is c
 ]
 
 -- each take has its session
-unused : (number later : ℕ) (buf : BufNo) → move_numbered moves number ≡ Some (taking number buf) → IsUnnamed (channels_in lawful_run) number → MovesBuf moves buf.0 later → later ≤ number
+unused : (number later : ℕ) (buf : BufNo) → move_numbered moves number ≡ Some (taking number buf) → IsUnnamed channels number → MovesBuf moves buf.0 later → later ≤ number
 unused number later buf taken unnamed moved = elim (move-is number _ taken) [
   | First at is ↦ absurd (unnamed 0 0 long_opened long-is-opened (sym at))
   | Second at is ↦ absurd (unnamed 1 0 short_opened short-is-opened (sym at))
@@ -194,13 +201,13 @@ after-first = record {
 after-second : NextOf 1 2 3
 after-second = record { moves_buf = (frees 3 1, refl, refl); after = omega arith; first = λ other moved above. omega (arith, above) }
 
-freed : AreFreed (channels_in lawful_run) moves
+freed : AreFreed groups channels moves
 freed chan place opened is = elim (opened-is chan place opened is) [
-  | Long at first same ↦ subst (λ (o : OpenedAt). (later : ℕ) × NextOf o.buf.0 o.change later × (move_numbered moves later ≡ Some (freeing later o.buf))) same (4, after-first, refl)
-  | Short at first same ↦ subst (λ (o : OpenedAt). (later : ℕ) × NextOf o.buf.0 o.change later × (move_numbered moves later ≡ Some (freeing later o.buf))) same (3, after-second, refl)
+  | Long at first same ↦ subst (λ (o : OpenedAt). (later : ℕ) × NextOf (place_of groups o.buf.0) o.change later × (move_numbered moves later ≡ Some (freeing later (place_in groups o.buf)))) same (4, after-first, refl)
+  | Short at first same ↦ subst (λ (o : OpenedAt). (later : ℕ) × NextOf (place_of groups o.buf.0) o.change later × (move_numbered moves later ≡ Some (freeing later (place_in groups o.buf)))) same (3, after-second, refl)
 ]
 
-named : AreNamed (channels_in lawful_run) moves
+named : AreNamed groups channels moves
 named number move there took = elim (move-is number move there) [
   | First at is ↦ record { chan = 0; place = 0; opened = long_opened; is = long-is-opened; change_is = sym at; buf_is = ap (λ (m : Move). m.buf) is }
   | Second at is ↦ record { chan = 1; place = 0; opened = short_opened; is = short-is-opened; change_is = sym at; buf_is = ap (λ (m : Move). m.buf) is }
@@ -213,9 +220,9 @@ all-free zero below = λ none. cc
 all-free (suc zero) below = λ none. cc
 all-free (suc (suc buf)) below = absurd (omega (arith, below))
 
-pub pool : PoolOf lawful_run
+one_group : PoolOfGroup lawful_run 0
 unfolding unit_in
-pool = record {
+one_group = record {
   law = record {
     replayed = record { numbered = (refl, (refl, (refl, (refl, tt)))); count_is = refl; each = each; free_is = refl };
     asks = (
@@ -230,3 +237,10 @@ pool = record {
   named = named;
   whole = all-free;
 }
+
+each-group : (group : ℕ) → group < 1 → PoolOfGroup lawful_run group
+each-group zero there = one_group
+each-group (suc group) there = absurd (omega (arith, there))
+
+pub pool : PoolOf lawful_run
+pool = record { each = each-group; there = (omega arith, (omega arith, (omega arith, (omega arith, tt)))) }

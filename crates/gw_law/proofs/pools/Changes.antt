@@ -4,10 +4,11 @@ use Rattle.hub_core.specs.Moves.{move_of}
 use Rattle.std.specs.Prelude.{slice_get}
 use Rattle.std.proofs.lemmas.Bool.{ne_eqb, cases_lt}
 use Rattle.std.proofs.lemmas.Bool.Decides.{eqb_tells}
+use Rattle.hub_core.specs.Groups.{group_of, in_group, journal_of}
 use Rattle.hub_core.specs.Journal.{ChangesBuf, IsLawful, IsNextChange, changed_buf, moved, number_of, numbered, replay}
 use Rattle.hub_core.specs.View.{Change, Taken, Freed}
 use Rattle.hub_core.specs.declared.record.Move.{Move}
-use Rattle.gw_law.specs.Pool.{IsLawfulMove, IsNextMove, MovesBuf, free_after, free_at, move_numbered}
+use Rattle.gw_law.specs.Pool.{IsLawfulMove, IsNextMove, MovesBuf, free_after, free_at, move_numbered, moves_of}
 use Rattle.receiver_law.specs.Source.{CountsFrom}
 
 -- the moves of changes, by their numbers
@@ -56,6 +57,22 @@ numbered-at first (x ∷ changes) zero number change counts is there =
 numbered-at first (x ∷ changes) (suc place) number change counts is there =
     let other : number_of x ≢ number = λ e. absurd (omega (arith, counts.0, is, e)) in
     ap (λ b. cond b (Some x) (numbered changes number)) (ne_eqb (number_of x) number other) ∙ numbered-at (first + 1) changes place number change counts.1 (omega (arith, is)) there
+
+-- the moves of a group's changes are the group's moves
+pub grouped-moves : (groups : List (List ℕ)) (group : ℕ) (changes : List Change) → moves_of groups group (map move_of changes) ≡ map move_of (journal_of groups group changes)
+grouped-moves groups group [] = refl
+grouped-moves groups group (Taken number buf need ∷ changes) = by (group_of groups buf == group) (grouped-moves groups group changes)
+  where
+    by : (b : Bool) → moves_of groups group (map move_of changes) ≡ map move_of (journal_of groups group changes) →
+        cond b (move_of (in_group groups (Taken number buf need)) ∷ moves_of groups group (map move_of changes)) (moves_of groups group (map move_of changes)) ≡ map move_of (cond b (in_group groups (Taken number buf need) ∷ journal_of groups group changes) (journal_of groups group changes))
+    by true rest = ap (λ l. move_of (in_group groups (Taken number buf need)) ∷ l) rest
+    by false rest = rest
+grouped-moves groups group (Freed number buf ∷ changes) = by (group_of groups buf == group) (grouped-moves groups group changes)
+  where
+    by : (b : Bool) → moves_of groups group (map move_of changes) ≡ map move_of (journal_of groups group changes) →
+        cond b (move_of (in_group groups (Freed number buf)) ∷ moves_of groups group (map move_of changes)) (moves_of groups group (map move_of changes)) ≡ map move_of (cond b (in_group groups (Freed number buf) ∷ journal_of groups group changes) (journal_of groups group changes))
+    by true rest = ap (λ l. move_of (in_group groups (Freed number buf)) ∷ l) rest
+    by false rest = rest
 
 -- a move's change
 changed : (change : Option Change) (move : Move) → option_map move_of change ≡ Some move → (x : Change) × (change ≡ Some x) × (move_of x ≡ move)

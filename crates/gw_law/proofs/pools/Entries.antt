@@ -77,7 +77,7 @@ pub record IsOpenedBy (v : View) (path : ℕ) (opened : OpenedAt) : Type 0 where
   pub number : session.number ≡ opened.change
   pub buf : session.buf ≡ opened.buf.0
 
-pub opened-by : (v : View) (source : Source) (place : ℕ) (told : SessionRecord) (opened : OpenedAt) → IsWholeRun v source → slice_get (records_by source.turns) place ≡ Some told → told.opened ≡ Some opened → IsOpenedBy v source.set.path.0 opened
+pub opened-by : {groups : List (List ℕ)} {group : ℕ} (v : View) (source : Source) (place : ℕ) (told : SessionRecord) (opened : OpenedAt) → IsWholeRun groups group v source → slice_get (records_by source.turns) place ≡ Some told → told.opened ≡ Some opened → IsOpenedBy v source.set.path.0 opened
 opened-by v source place told opened run there is =
     let path : ℕ = source.set.path.0 in
     let at = entry-at 0 (records_by source.turns) place told opened (source_law_of source.set source.turns run.received run.idle).sessions there is in
@@ -96,7 +96,7 @@ pub record IsTold (records : List SessionRecord) (number buf : ℕ) : Type 0 whe
   pub change_is : opened.change ≡ number
   pub buf_is : opened.buf.0 ≡ buf
 
-pub told-by : (v : View) (source : Source) (seq : ℕ) (s : Session) → IsWholeRun v source → session_at v source.set.path.0 seq ≡ Some s → IsTold (records_by source.turns) s.number s.buf
+pub told-by : {groups : List (List ℕ)} {group : ℕ} (v : View) (source : Source) (seq : ℕ) (s : Session) → IsWholeRun groups group v source → session_at v source.set.path.0 seq ≡ Some s → IsTold (records_by source.turns) s.number s.buf
 told-by v source seq s run at =
     let path : ℕ = source.set.path.0 in
     let law = source_law_of source.set source.turns run.received run.idle in

@@ -6,6 +6,7 @@ use Rattle.std.specs.Int.Bits.{bit_xor, xor_add_and}
 use Rattle.std.proofs.lemmas.Bool.Decides.{eqb_tells}
 use Rattle.std.proofs.lemmas.Nat.{pow_pos}
 use Rattle.std.proofs.lemmas.Nat.Bits.{and_pow, bit_at-lt, bit_at-pow_other, bit_at-pow_same, bit_at_ones, bit_at_xor}
+use Rattle.hub_core.specs.Groups.{place_of, sizes_of}
 use Rattle.hub_core.specs.declared.record.Move.{Move}
 use Rattle.gw_law.specs.Pool.{Channel, AreFreed, AreNamed, IsLawfulMove, IsReplayed, MovesBuf, free_after, free_at, move_numbered}
 use Rattle.receiver_law.specs.Source.{CountsFrom}
@@ -104,13 +105,13 @@ numbered-le first number (x ∷ moves) move counts there =
     numbered-by first number x move moves (x.change == number) refl counts.0 (λ is. numbered-le (first + 1) number moves move counts.1 is) there
 
 -- where each take has its free, every buffer is free in the end
-pub whole-again : (sizes : List ℕ) (count free : ℕ) (channels : List Channel) (moves : List Move) → IsReplayed sizes count free moves → AreFreed channels moves → AreNamed channels moves → (buf : ℕ) → buf < length sizes → IsBitSet free buf
-whole-again sizes count free channels moves replayed freed named buf there = elim (free-or-out sizes count free moves buf count replayed there (omega arith)) [
+pub whole-again : (groups : List (List ℕ)) (group count free : ℕ) (channels : List Channel) (moves : List Move) → IsReplayed (sizes_of groups group) count free moves → AreFreed groups channels moves → AreNamed groups channels moves → (buf : ℕ) → buf < length (sizes_of groups group) → IsBitSet free buf
+whole-again groups group count free channels moves replayed freed named buf there = elim (free-or-out (sizes_of groups group) count free moves buf count replayed there (omega arith)) [
   | inl set ↦ let P : ℕ → Type 0 = λ f. IsBitSet f buf in subst P (sym replayed.free_is) set
   | inr out ↦
       let by = named out.taken out.move out.is out.took in
       let next = freed by.chan by.place by.opened by.is in
-      let same : by.opened.buf.0 ≡ buf = ap (λ b. b.0) by.buf_is ∙ out.buf_is in
+      let same : place_of groups by.opened.buf.0 ≡ buf = ap (λ b. b.0) by.buf_is ∙ out.buf_is in
       let here = next.1.moves_buf in
       let within = numbered-le 1 next.0 moves here.0 replayed.numbered here.1 in
       absurd (omega (arith, out.last next.0 (here.0, here.1, here.2 ∙ same) (omega (arith, within, replayed.count_is)), next.1.after, by.change_is))

@@ -1,16 +1,17 @@
 -- At a run's end all sessions are over, and each take is of one of them.
-use Rattle.std.proofs.Common.{◌≡◌, ℕ, ◌<◌, cond, inl, inr, Option, Some, None, List, [], ◌∷◌, length, get_or, refl, ap, sym, ◌∙◌, subst, arith, append-nil}
+use Rattle.std.proofs.Common.{◌≡◌, ℕ, ◌<◌, zero, suc, cond, inl, inr, Option, Some, None, List, [], ◌∷◌, length, get_or, refl, ap, sym, ◌∙◌, subst, arith, append-nil}
 use Rattle.std.specs.Prelude.{slice_get}
 use Rattle.std.specs.List.{AllByRecursion}
 use Rattle.std.proofs.lemmas.Bool.{false_from_ne_true}
 use Rattle.std.proofs.lemmas.Bool.Decides.{eqb_tells}
 use Rattle.std.proofs.lemmas.Option.{slice_get-get_or, slice_get_within}
 use Rattle.gw_base.proofs.Lists.{all-at, mapped-at, zip-at, zip-back}
-use Rattle.hub_core.proofs.Standing.{IsUsed, Stands, takes_of}
+use Rattle.hub_core.proofs.Standing.{IsUsed, Stands, take_of, takes_of}
 use Rattle.hub_core.specs.Joint.{HasLeft, IsOver}
-use Rattle.hub_core.specs.Journal.{number_of, numbered}
+use Rattle.hub_core.specs.Groups.{group_of, in_group, journal_of}
+use Rattle.hub_core.specs.Journal.{changed_buf, number_of, numbered}
 use Rattle.hub_core.specs.Turns.{calls_by, state_after}
-use Rattle.hub_core.specs.View.{Change, Reading, Session, Taken, View, empty_view, reading_at, reading_new, session_at}
+use Rattle.hub_core.specs.View.{Change, Freed, Reading, Session, Taken, View, empty_view, reading_at, reading_new, session_at}
 use Rattle.receiver_law.proofs.runs.RxLaws.{ends-idle}
 use Rattle.receiver_law.proofs.sessions.StandingWriter.{session_of, turns-step}
 use Rattle.receiver_law.specs.Channel.{SourceChannel}
@@ -120,31 +121,54 @@ all-over a d windows v is path seq s at =
     subst P by.2 (session-over a d windows v by.1.0 by.0 seq s is of (subst Q (sym by.2) at))
 
 -- each take is of a session
-found-change : (P : Change → Type 0) (changes : List Change) (number : ℕ) (change : Change) → AllByRecursion P changes → numbered changes number ≡ Some change → P change
-found-change P [] number change all is = absurd cc
-found-change P (x ∷ changes) number change all is = elim (eqb_tells (number_of x) number) [
-  | inl same ↦ let one : Some x ≡ Some change = ap (λ b. cond b (Some x) (numbered changes number)) (sym same.0) ∙ is in let equal : x ≡ change = cc in subst P equal all.0
-  | inr other ↦ found-change P changes number change all.1 (ap (λ b. cond b (Some x) (numbered changes number)) (sym other.0) ∙ is)
-]
-
 no-items : {A : Type 0} (xs : List A) → length xs ≡ 0 → xs ≡ []
 no-items [] is = refl
 no-items (x ∷ xs) is = absurd (omega (arith, is))
 
-pub all-used : (a : Account) (d : Deeds) (windows : List Window) (v : View) → IsRun a d windows v → AreAllUsed v
-all-used a d windows v is number buf need there = elim (found-change (IsMadeBy d received_in sent_in) v.changes number (Taken number buf need) is.joined.only there) [
+-- a take of a group is a change of the view
+grouped-from : (groups : List (List ℕ)) (group : ℕ) (changes : List Change) (number place need : ℕ) → numbered (journal_of groups group changes) number ≡ Some (Taken number place need) →
+    (at : ℕ) × (buf : ℕ) × (slice_get changes at ≡ Some (Taken number buf need)) × (group_of groups buf ≡ group)
+grouped-from groups group [] number place need is = absurd cc
+grouped-from groups group (x ∷ changes) number place need is = elim (eqb_tells (group_of groups (changed_buf x)) group) [
+  | inr other ↦
+      let rest = grouped-from groups group changes number place need (ap (λ b. numbered (cond b (in_group groups x ∷ journal_of groups group changes) (journal_of groups group changes)) number) (sym other.0) ∙ is) in
+      (suc rest.0, rest.1, rest.2, rest.3)
+  | inl mine ↦
+      let here : numbered (in_group groups x ∷ journal_of groups group changes) number ≡ Some (Taken number place need) = ap (λ b. numbered (cond b (in_group groups x ∷ journal_of groups group changes) (journal_of groups group changes)) number) (sym mine.0) ∙ is in
+      elim (eqb_tells (number_of (in_group groups x)) number) [
+        | inr later ↦
+            let rest = grouped-from groups group changes number place need (ap (λ b. cond b (Some (in_group groups x)) (numbered (journal_of groups group changes) number)) (sym later.0) ∙ here) in
+            (suc rest.0, rest.1, rest.2, rest.3)
+        | inl same ↦
+            let one : Some (in_group groups x) ≡ Some (Taken number place need) = ap (λ b. cond b (Some (in_group groups x)) (numbered (journal_of groups group changes) number)) (sym same.0) ∙ here in
+            taken x mine.1 one
+      ]
+]
+  where
+    taken : (x : Change) → group_of groups (changed_buf x) ≡ group → Some (in_group groups x) ≡ Some (Taken number place need) → (at : ℕ) × (buf : ℕ) × (slice_get (x ∷ changes) at ≡ Some (Taken number buf need)) × (group_of groups buf ≡ group)
+    taken (Taken n buf asked) mine one =
+        let number_is : n ≡ number = cc in
+        let need_is : asked ≡ need = cc in
+        (zero, buf, ap (λ (p : ℕ × ℕ). Some (Taken p.0 buf p.1)) (λ i. (number_is i, need_is i)), mine)
+    taken (Freed n buf) mine one = absurd cc
+
+pub all-used : (a : Account) (d : Deeds) (windows : List Window) (v : View) (group : ℕ) → IsRun a d windows v → AreAllUsed a.plan.groups group v
+all-used a d windows v group is number place need there =
+    let from = grouped-from a.plan.groups group v.changes number place need there in
+    let buf : ℕ = from.1 in
+    elim (all-at (IsMadeBy d received_in sent_in) v.changes from.0 (Taken number buf need) is.joined.only from.2) [
   | inl by ↦
       let of : Receives a d v by.1.0 by.0 = receives a d windows v by.0 by.1.0 is by.1.1 in
       let leaves : RxLeaves by.0 = rx-leaves by.0 of.is.run_is in
       let own : List Session = (own_view (calls_by (received_in by.0))).sessions by.0.set.path.0 in
       let used = all-at (IsUsed (takes_of own)) (own_view (calls_by (received_in by.0))).changes by.2.0 (Taken number buf need) leaves.written.used by.2.1 in
-      let s = mapped-at (λ (x : Session). x.number) used.0 own number used.1 in
-      (by.0.set.path.0, used.0, s.0, ap (λ l. slice_get l used.0) of.sessions ∙ s.1, s.2)
+      let s = mapped-at take_of used.0 own (number, buf) used.1 in
+      (by.0.set.path.0, used.0, s.0, ap (λ l. slice_get l used.0) of.sessions ∙ s.1, ap (λ p. p.0) s.2, ap (λ p. group_of a.plan.groups p.1) s.2 ∙ from.3)
   | inr by ↦
       let one = zip-back (IsSenderRun a) a.plan.senders d.senders by.1.0 by.0 is.senders by.1.1 in
       let leaves : TxLeaves by.0 = tx-leaves by.0 one.2.run_is in
       let none : (own_view (calls_by (sent_in by.0))).sessions by.0.set.path.0 ≡ [] = no-items _ leaves.written.count in
       let used = all-at (IsUsed (takes_of ((own_view (calls_by (sent_in by.0))).sessions by.0.set.path.0))) (own_view (calls_by (sent_in by.0))).changes by.2.0 (Taken number buf need) leaves.written.used by.2.1 in
-      let no : slice_get [] used.0 ≡ Some number = ap (λ (l : List Session). slice_get (takes_of l) used.0) (sym none) ∙ used.1 in
+      let no : slice_get [] used.0 ≡ Some (number, buf) = ap (λ (l : List Session). slice_get (takes_of l) used.0) (sym none) ∙ used.1 in
       absurd cc
-]
+    ]

@@ -13,7 +13,7 @@ use Rattle.receiver_law.specs.RxRun.{IsRxRun, RxRun}
 use Rattle.sender_law.specs.Runs.{IsTxRun, TxRun}
 use Rattle.tp_receiver.specs.Runs.{HasReceived}
 use Rattle.tp_sender.specs.Runs.{HasSent}
-use Rattle.gw_law.specs.Deeds.{AreWindows, Deeds, IsReadBy, IsWindow, IsWrittenBy, LiesIn, LiesWithin, Window, before, over_at}
+use Rattle.gw_law.specs.Deeds.{AreWindows, Deeds, IsReadBy, IsWindow, IsWrittenBy, LiesIn, LiesWithin, Window, before, over_at, view_at}
 use Rattle.gw_law.proofs.runs.Before.{InTicks, cut, same-before, turns-append}
 use Rattle.gw_law.proofs.runs.Meetings.{AsFar, met, met-empty}
 use Rattle.gw_law.proofs.runs.Parts.{rx-rising, tx-rising}
@@ -62,8 +62,8 @@ sent-below p bound =
     (subst H (ap (λ l. p.tx.end ++ turns_of l) (sym so.is) ∙ ap (λ l. p.tx.end ++ l) (turns-append so.later (before bound p.tx.parts)) ∙ sym (append_assoc p.tx.end (turns_of so.later) (turns_of (before bound p.tx.parts)))) p.tx_run.happened)
 
 -- what a window's barrier holds of both
-far-at : (p : Pair) (w : Window) → IsWindow p.groups p.most p.d w → AsFar p.rx.set p.tx.set (turns_of (before w.to p.rx.parts)) (turns_of (before w.to p.tx.parts)) w.view
-far-at p w is = record {
+far-at : (p : Pair) (opening : View) (w : Window) → IsWindow p.groups p.most p.d opening w → AsFar p.rx.set p.tx.set (turns_of (before w.to p.rx.parts)) (turns_of (before w.to p.tx.parts)) w.view
+far-at p opening w is = record {
   shape = p.tx_run.shape;
   path = p.path;
   received = received-below p w.to;
@@ -133,13 +133,13 @@ pred-suc (suc past) some = (past, omega arith)
 barrier-in : (p : Pair) (windows : List Window) (tick : ℕ) → AreWindows p.groups p.most p.d windows → LiesUpTo windows tick p.rx.parts → LiesUpTo windows tick p.tx.parts → Barrier p tick
 barrier-in p [] tick are rx_lies tx_lies = rests p [] tick empty_view tt (omega arith) rx_lies tx_lies (far-none p)
 barrier-in p (w ∷ earlier) tick are rx_lies tx_lies = elim (cases_lt tick w.to) [
-  | inr over ↦ rests p (w ∷ earlier) tick w.view are over rx_lies tx_lies (far-at p w are.0)
+  | inr over ↦ rests p (w ∷ earlier) tick w.view are over rx_lies tx_lies (far-at p (view_at earlier) w are.0)
   | inl below ↦ elim (cases_lt tick w.from) [
     | inl early ↦ barrier-in p earlier tick are.2 (up-to-earlier w earlier tick p.rx.parts early rx_lies) (up-to-earlier w earlier tick p.tx.parts early tx_lies)
     | inr inside ↦
         let last = pred-suc w.to (omega (arith, below)) in
         let P : ℕ → Type 0 = λ bound. AsFar p.rx.set p.tx.set (turns_of (before bound p.rx.parts)) (turns_of (before bound p.tx.parts)) w.view in
-        record { past = last.0; above = omega (arith, last.1, below); near = omega (arith, last.1, are.0.short, inside); view = w.view; far = subst P last.1 (far-at p w are.0) }
+        record { past = last.0; above = omega (arith, last.1, below); near = omega (arith, last.1, are.0.short, inside); view = w.view; far = subst P last.1 (far-at p (view_at earlier) w are.0) }
   ]
 ]
 

@@ -1,5 +1,6 @@
 -- Whose calls a receiver's and a sender's steps make: those of its path's writer and of its destination, and no others.
-use Rattle.std.proofs.Common.{◌≡◌, ℕ, List, [], ◌∷◌, ◌++◌, refl, ◌∙◌}
+use Rattle.std.proofs.Common.{◌≡◌, ℕ, List, [], ◌∷◌, ◌++◌, refl, ap, sym, ◌∙◌}
+use Rattle.std.specs.Prelude.{slice_get}
 use Rattle.tp_sender.specs.Runs.{HasSent}
 use Rattle.tp_sender.specs.State.{TxTurn, tx_new}
 use Rattle.tp_sender.specs.Own.{OfDest}
@@ -10,26 +11,28 @@ use Rattle.tp_receiver.proofs.OwnSteps.{own-step}
 use Rattle.tp_receiver.specs.Runs.{HasReceived}
 use Rattle.hub_core.specs.Turns.{calls_by, state_after}
 use Rattle.std.specs.List.{AllByRecursion}
-use Rattle.hub_core.specs.View.{Event, View, grow, grows, Took, Refused, Entered, Asked, Put, Published, Joining, Missed, Saw, Read, Closed, Parted}
+use Rattle.hub_core.proofs.Beside.{sessions-beside}
+use Rattle.hub_core.specs.Floors.{AreFresh, Floors, IsFresh}
+use Rattle.hub_core.specs.View.{Event, View, grow, grows, session_at, Took, Refused, Entered, Asked, Put, Published, Joining, Missed, Saw, Read, Closed, Parted}
 use Rattle.tp_receiver.specs.declared.set.RxSet.{RxSet}
 use Rattle.tp_sender.specs.declared.set.TxSet.{TxSet}
 use Rattle.gw_base.proofs.Lists.{all-join}
 
 -- a writer's call leaves the readings, and a destination's the sessions
-readings-kept : (path : ℕ) (call : Event) (v : View) → OfWriter path call → (grow call v).readings ≡ v.readings
+readings-kept : (path its : ℕ) (call : Event) (v : View) → OfWriter path its call → (grow call v).readings ≡ v.readings
 unfolding grow
-readings-kept path (Took group number buf size need) v of = refl
-readings-kept path (Refused group number free need) v of = refl
-readings-kept path (Entered p seq buf number size len readers) v of = refl
-readings-kept path (Asked p seq cells readers) v of = refl
-readings-kept path (Put p seq cell) v of = refl
-readings-kept path (Published p seq bytes) v of = refl
-readings-kept path (Joining p dest seq buf len) v of = absurd of
-readings-kept path (Missed group p dest seq) v of = absurd of
-readings-kept path (Saw p dest seq cells bytes writer) v of = absurd of
-readings-kept path (Read p dest seq cell) v of = absurd of
-readings-kept path (Closed p seq freed) v of = refl
-readings-kept path (Parted p dest seq freed) v of = absurd of
+readings-kept path its (Took group number buf size need) v of = refl
+readings-kept path its (Refused group number free need) v of = refl
+readings-kept path its (Entered p seq buf number size len readers) v of = refl
+readings-kept path its (Asked p seq cells readers) v of = refl
+readings-kept path its (Put p seq cell) v of = refl
+readings-kept path its (Published p seq bytes) v of = refl
+readings-kept path its (Joining p dest seq buf len) v of = absurd of
+readings-kept path its (Missed group p dest seq) v of = absurd of
+readings-kept path its (Saw p dest seq cells bytes writer) v of = absurd of
+readings-kept path its (Read p dest seq cell) v of = absurd of
+readings-kept path its (Closed p seq freed) v of = refl
+readings-kept path its (Parted p dest seq freed) v of = absurd of
 
 sessions-kept : (path dest : ℕ) (call : Event) (v : View) → OfDest path dest call → (grow call v).sessions ≡ v.sessions
 unfolding grow
@@ -46,9 +49,9 @@ sessions-kept path dest (Read p d seq cell) v of = refl
 sessions-kept path dest (Closed p seq freed) v of = absurd of
 sessions-kept path dest (Parted p d seq freed) v of = refl
 
-pub readings-stay : (path : ℕ) (calls : List Event) (v : View) → AllByRecursion (OfWriter path) calls → (grows calls v).readings ≡ v.readings
-readings-stay path [] v all = refl
-readings-stay path (call ∷ calls) v all = readings-stay path calls (grow call v) all.1 ∙ readings-kept path call v all.0
+pub readings-stay : (path its : ℕ) (calls : List Event) (v : View) → AllByRecursion (OfWriter path its) calls → (grows calls v).readings ≡ v.readings
+readings-stay path its [] v all = refl
+readings-stay path its (call ∷ calls) v all = readings-stay path its calls (grow call v) all.1 ∙ readings-kept path its call v all.0
 
 pub sessions-stay : (path dest : ℕ) (calls : List Event) (v : View) → AllByRecursion (OfDest path dest) calls → (grows calls v).sessions ≡ v.sessions
 sessions-stay path dest [] v all = refl
@@ -56,14 +59,14 @@ sessions-stay path dest (call ∷ calls) v all = sessions-stay path dest calls (
 
 -- the rows of a receiver
 abbrev pub Writes : RxSet → List Event → Type 0
-Writes set calls = AllByRecursion (OfWriter set.path.0) calls
+Writes set calls = AllByRecursion (OfWriter set.path.0 set.group.0) calls
 
 -- the turns after earlier ones
 pub received-writes : (set : RxSet) (turns earlier : List RxTurn) → HasReceived set (turns ++ earlier) → Writes set (calls_by turns)
 received-writes set [] earlier happened = tt
 received-writes set (turn ∷ turns) earlier happened =
     let old : RxState = state_after rx_new (turns ++ earlier) in
-    all-join (OfWriter set.path.0) (calls_by turns) turn.did.calls (received-writes set turns earlier happened.2) (own-step set old turn.event turn.did happened.1).writes
+    all-join (OfWriter set.path.0 set.group.0) (calls_by turns) turn.did.calls (received-writes set turns earlier happened.2) (own-step set old turn.event turn.did happened.1).writes
 
 -- a sender's calls
 abbrev pub Reads : TxSet → List Event → Type 0
@@ -74,3 +77,43 @@ pub sent-reads : (set : TxSet) (moments earlier : List TxTurn) → HasSent set (
 sent-reads set [] earlier happened = tt
 sent-reads set (m ∷ moments) earlier happened =
     all-join (OfDest set.path.0 set.dest.0) (calls_by moments) m.did.calls (sent-reads set moments earlier happened.2) (own set (state_after tx_new (moments ++ earlier)) m.event m.did happened.1.1).calls
+
+-- what a writer's calls saw is as fresh over its own view, with the same sessions of its path
+writer-fresh : (path its : ℕ) (f : Floors) (call : Event) (v w : View) → v.sessions path ≡ w.sessions path → OfWriter path its call → IsFresh v f call → IsFresh w f call
+writer-fresh path its f (Took group number buf size need) v w same of fresh = fresh
+writer-fresh path its f (Refused group number free need) v w same of fresh = fresh
+writer-fresh path its f (Entered p seq buf number size len readers) v w same of fresh = tt
+writer-fresh path its f (Asked p seq cells readers) v w same of fresh = λ s there.
+    fresh s (ap (λ k. session_at v k seq) of ∙ ap (λ l. slice_get l seq) same ∙ ap (λ k. session_at w k seq) (sym of) ∙ there)
+writer-fresh path its f (Put p seq cell) v w same of fresh = tt
+writer-fresh path its f (Published p seq bytes) v w same of fresh = tt
+writer-fresh path its f (Joining p dest seq buf len) v w same of fresh = absurd of
+writer-fresh path its f (Missed group p dest seq) v w same of fresh = absurd of
+writer-fresh path its f (Saw p dest seq cells bytes writer) v w same of fresh = absurd of
+writer-fresh path its f (Read p dest seq cell) v w same of fresh = absurd of
+writer-fresh path its f (Closed p seq freed) v w same of fresh = tt
+writer-fresh path its f (Parted p dest seq freed) v w same of fresh = absurd of
+
+pub writes-fresh : (path its : ℕ) (f : Floors) (calls : List Event) (v w : View) → v.sessions path ≡ w.sessions path → AllByRecursion (OfWriter path its) calls → AreFresh f v calls → AreFresh f w calls
+writes-fresh path its f [] v w same of fresh = tt
+writes-fresh path its f (call ∷ calls) v w same of fresh =
+    (writer-fresh path its f call v w same of.0 fresh.0, writes-fresh path its f calls (grow call v) (grow call w) (sessions-beside path call v w same) of.1 fresh.1)
+
+-- what a destination's calls saw is as fresh over any view
+reader-fresh : (path dest : ℕ) (f : Floors) (call : Event) (v w : View) → OfDest path dest call → IsFresh v f call → IsFresh w f call
+reader-fresh path dest f (Took group number buf size need) v w of fresh = absurd of
+reader-fresh path dest f (Refused group number free need) v w of fresh = absurd of
+reader-fresh path dest f (Entered p seq buf number size len readers) v w of fresh = absurd of
+reader-fresh path dest f (Asked p seq cells readers) v w of fresh = absurd of
+reader-fresh path dest f (Put p seq cell) v w of fresh = absurd of
+reader-fresh path dest f (Published p seq bytes) v w of fresh = absurd of
+reader-fresh path dest f (Joining p d seq buf len) v w of fresh = tt
+reader-fresh path dest f (Missed group p d seq) v w of fresh = fresh
+reader-fresh path dest f (Saw p d seq cells bytes writer) v w of fresh = fresh
+reader-fresh path dest f (Read p d seq cell) v w of fresh = tt
+reader-fresh path dest f (Closed p seq freed) v w of fresh = absurd of
+reader-fresh path dest f (Parted p d seq freed) v w of fresh = tt
+
+pub reads-fresh : (path dest : ℕ) (f : Floors) (calls : List Event) (v w : View) → AllByRecursion (OfDest path dest) calls → AreFresh f v calls → AreFresh f w calls
+reads-fresh path dest f [] v w of fresh = tt
+reads-fresh path dest f (call ∷ calls) v w of fresh = (reader-fresh path dest f call v w of.0 fresh.0, reads-fresh path dest f calls (grow call v) (grow call w) of.1 fresh.1)

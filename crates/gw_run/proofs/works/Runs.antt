@@ -3,6 +3,8 @@ use Rattle.std.proofs.Common.{◌≡◌, ◌⊎◌, inl, inr, ℕ, ◌+◌, ◌�
 use Rattle.std.specs.Prelude.{slice_get}
 use Rattle.std.specs.List.{AllByRecursion}
 use Rattle.gw_base.proofs.Lists.{all-weaker}
+use Rattle.hub_core.proofs.OneGroup.{its, same}
+use Rattle.hub_core.specs.Journal.{AreInOrder}
 use Rattle.hub_core.specs.Turns.{came_by, records_by, state_after}
 use Rattle.hub_core.specs.View.{View}
 use Rattle.hub_core.specs.declared.record.DestRecord.{DestRecord}
@@ -31,7 +33,9 @@ use Rattle.gw_law.proofs.runs.Moments.{rx-within}
 use Rattle.gw_law.specs.Account.{Account, dest_in, dests_of, sessions_of, source_in}
 use Rattle.gw_law.specs.Emission.{AreByPriority, BusLaw, IsControlOn, IsDataOn, IsOfReceiving, IsOfSending}
 use Rattle.gw_law.specs.Plan.{IsLawfulPlan, Receiving, Sending}
-use Rattle.gw_law.specs.Run.{IsNeverBusy, IsRun}
+use Rattle.gw_law.proofs.pools.Changes.{grouped-moves}
+use Rattle.gw_law.specs.Pool.{moves_of}
+use Rattle.gw_law.specs.Run.{IsNeverBusy, IsRun, TellsPool}
 use Rattle.candump_log.specs.declared.log.Stamped.{Stamped}
 use Rattle.tick_clock.specs.declared.clock.Clock.{Clock}
 use Rattle.gw_run.specs.Machines.{AreMachines}
@@ -206,7 +210,7 @@ same-path p = ap (λ (n : PathNo). n.0) p.are.same_path
 plan-is : (p : Played) → IsLawfulPlan (plan_of p.m p.last)
 plan-is p = record {
   window = omega arith;
-  receivers = (record { shape = p.are.controls.shape_is; n_ar = p.are.n_ar; n_cr = p.are.n_cr; budget = omega arith }, tt);
+  receivers = (record { shape = p.are.controls.shape_is; group = omega (arith, p.are.group); n_ar = p.are.n_ar; n_cr = p.are.n_cr; budget = omega arith }, tt);
   senders = (record { shape = p.are.frames.shape_is; n_as = p.are.n_as; n_bs = p.are.n_bs; budget = omega arith }, tt);
   apart = λ place other r another at there same. (only-one (receiving_of p.m) r place at).0 ∙ sym (only-one (receiving_of p.m) another other there).0;
   each_dest = λ place dest r at below.
@@ -239,13 +243,19 @@ is-run p =
       received_within = (rx-lies p.plays.ticks, tt);
       sent_within = (tx-lies p.plays.ticks, tt);
       joint = o.run.joint;
-      word = o.run.word;
-      moves = sym (ap (λ (r : RunTold). r.moves) p.plays.tells);
-      in_order = o.run.in_order;
+      in_groups = (λ seq s at. omega (arith, (its o.sizes (view_of (works_of o)) o.run.joint o.rx.path.0 seq s at).0, p.are.group), tt);
+      moves = λ group. ap (moves_of ((BUFFER_CELLS ∷ []) ∷ []) group) (sym (ap (λ (r : RunTold). r.moves) p.plays.tells)) ∙ grouped-moves ((BUFFER_CELLS ∷ []) ∷ []) group (view_of (works_of o)).changes;
+      pools = λ group there. one-pool p group (omega (arith, there));
       joined = joined-in o received_in sent_in (works_of o) (turns-are o) (run-turns o) o.run.received o.run.sent;
       served = (served-by p, tt);
     }
   where
+    one-pool : (p : Played) (group : ℕ) → group ≡ 0 → TellsPool (account p) (view_of (works_of (run_of p))) group
+    one-pool p group is =
+        let o : SerialRun = run_of p in
+        let P : ℕ → Type 0 = λ g. TellsPool (account p) (view_of (works_of o)) g in
+        subst P (sym is) (record { word = o.run.word; in_order = subst AreInOrder (sym (same o.sizes (view_of (works_of o)) o.run.joint)) o.run.in_order })
+
     served-by : (p : Played) → length ((view_of (works_of (run_of p))).sessions p.m.tx.path.0) ≤ (state_after tx_new (sent_in (tx_run (run_of p)))).next
     served-by p =
         omega (arith, p.plays.run.ends.joined, ap (λ (n : ℕ). length ((view_of (works_of (run_of p))).sessions n)) (same-path p), ap (λ t. (state_after tx_new t).next) (run-turns (run_of p)))

@@ -3,17 +3,17 @@ use Rattle.std.proofs.Common.{◌≡◌, ℕ, ◌+◌, ◌<◌, inl, inr, zero, 
 use Rattle.tp_sender.specs.Runs.{HasSent}
 use Rattle.tp_receiver.specs.State.{Reception, RxTurn, rx_new}
 use Rattle.tp_receiver.specs.Runs.{HasReceived}
-use Rattle.hub_core.specs.Turns.{calls_by, state_after}
+use Rattle.hub_core.specs.Turns.{AreFreshTurns, calls_by, state_after}
 use Rattle.std.specs.Prelude.{slice_get}
 use Rattle.std.specs.List.{AllByRecursion}
 use Rattle.std.proofs.lemmas.Bool.{cases_eq, ne_eqb}
 use Rattle.std.proofs.lemmas.List.{map-append}
 use Rattle.std.proofs.lemmas.Option.{slice_get-get_or}
-use Rattle.hub_core.specs.Floors.{Floors, AreFresh}
+use Rattle.hub_core.specs.Floors.{Floors, AreFresh, floors_of}
 use Rattle.hub_core.specs.View.{View, Event, Session, at_one, change_at, empty_view, session_new, grow, grows, Took, Refused, Entered, Asked, Put, Published, Joining, Missed, Saw, Read, Closed, Parted}
 use Rattle.tp_receiver.specs.declared.set.RxSet.{RxSet}
 use Rattle.tp_sender.specs.declared.set.TxSet.{TxSet}
-use Rattle.receiver_law.specs.Parts.{AreLooks, LooksCount}
+use Rattle.receiver_law.specs.Parts.{LooksCount}
 use Rattle.gw_run.specs.Works.{AreTicks, Work, moments_of, turns_of, view_of}
 use Rattle.receiver_law.specs.Looks.{AllLook, LooksWell}
 use Rattle.receiver_law.proofs.sessions.Sessions.{AllFilled, all-filled, stored_in}
@@ -67,7 +67,7 @@ longer-grow path (Closed p seq freed) v = longer-changed path p seq (λ s. recor
 longer-grow path (Parted p dest seq freed) v = longer-same (sizes_at path v)
 
 -- a look that isn't older than some floors counts so
-pub fresh-counts : (f : Floors) (v : View) (calls : List Event) → AreFresh f v calls → LooksCount v calls
+fresh-counts : (f : Floors) (v : View) (calls : List Event) → AreFresh f v calls → LooksCount v calls
 fresh-counts f v calls fresh [] after path seq cells readers s is there =
     let P : List Event → Type 0 = λ c. AreFresh f v c in
     omega (arith, ((subst P is fresh).0 s there).room 0 (omega arith) (λ dest within stays. omega arith))
@@ -129,15 +129,15 @@ below-at rx turns so b is =
     omega (arith, so.number, subst P is so.below)
 
 -- the looks of a tick's turns
-looks-turns : (rx : RxSet) (turns earlier : List RxTurn) (start : View) → AreLooks start turns → HasReceived rx (turns ++ earlier) → OwnSessions rx earlier start → AreFour rx.path.0 (grows (calls_by (turns ++ earlier)) empty_view) → AllLook rx earlier → AllLook rx (turns ++ earlier)
-looks-turns rx [] earlier start looks happened own four known = known
-looks-turns rx (turn ∷ turns) earlier start looks happened own four known =
+looks-turns : (groups : List (List ℕ)) (rx : RxSet) (turns earlier : List RxTurn) (start : View) → AreFreshTurns groups start turns → HasReceived rx (turns ++ earlier) → OwnSessions rx earlier start → AreFour rx.path.0 (grows (calls_by (turns ++ earlier)) empty_view) → AllLook rx earlier → AllLook rx (turns ++ earlier)
+looks-turns groups rx [] earlier start looks happened own four known = known
+looks-turns groups rx (turn ∷ turns) earlier start looks happened own four known =
     let here : View = grows (calls_by turns) start in
     let P : List Event → Type 0 = λ calls. here.sessions rx.path.0 ≡ (grows calls empty_view).sessions rx.path.0 in
     let own_here : OwnSessions rx (turns ++ earlier) here = subst P (sym (calls-append turns earlier)) (sessions-grown rx.path.0 (calls_by earlier) (calls_by turns) start here refl own) in
     let four_here : AreFour rx.path.0 (grows (calls_by (turns ++ earlier)) empty_view) = four-front rx (turn ∷ []) (turns ++ earlier) four in (
-      looks-busy rx (state_after rx_new (turns ++ earlier)).busy (state_after rx_new (turns ++ earlier)).seq (turns ++ earlier) here turn.did.calls happened.2 own_here four_here (below-at rx (turns ++ earlier) (all-filled rx (turns ++ earlier) happened.2)) looks.0,
-      looks-turns rx turns earlier start looks.1 happened.2 own four_here known,
+      looks-busy rx (state_after rx_new (turns ++ earlier)).busy (state_after rx_new (turns ++ earlier)).seq (turns ++ earlier) here turn.did.calls happened.2 own_here four_here (below-at rx (turns ++ earlier) (all-filled rx (turns ++ earlier) happened.2)) (fresh-counts (floors_of groups here) here turn.did.calls looks.0),
+      looks-turns groups rx turns earlier start looks.1 happened.2 own four_here known,
     )
 
 -- the looks of all ticks
@@ -146,7 +146,7 @@ looks-ticks rx tx sizes [] ticks received sent four = tt
 looks-ticks rx tx sizes (work ∷ earlier) ticks received sent four =
     let before : HasReceived rx (turns_of earlier) = happened-front _ work.turns (turns_of earlier) received in
     let sent_before : HasSent tx (moments_of earlier) = happened-front _ work.moments (moments_of earlier) sent in
-    looks-turns rx work.turns (turns_of earlier) (view_of earlier) ticks.0.looks received (sessions-own rx tx earlier before sent_before) four
+    looks-turns (sizes ∷ []) rx work.turns (turns_of earlier) (view_of earlier) ticks.0.looks received (sessions-own rx tx earlier before sent_before) four
     (looks-ticks rx tx sizes earlier ticks.1 before sent_before (four-front rx work.turns (turns_of earlier) four))
 
 pub all-look : (o : SerialRun) → o.sizes ≡ 4 ∷ [] → AllLook o.rx (turns_of o.ticks)

@@ -28,7 +28,7 @@ sessions-turned rx turns earlier v so =
     subst P (sym (calls-append turns earlier)) (sessions-grown rx.path.0 (calls_by earlier) (calls_by turns) v (grows (calls_by turns) v) refl so)
 
 readings-turned : (rx : RxSet) (tx : TxSet) (turns earlier : List RxTurn) (moments : List TxTurn) (v : View) → HasReceived rx (turns ++ earlier) → OwnReadings tx moments v → OwnReadings tx moments (grows (calls_by turns) v)
-readings-turned rx tx turns earlier moments v received so = ap (λ (r : ℕ → ℕ → List _). r tx.path.0 tx.dest.0) (readings-stay rx.path.0 (calls_by turns) v (received-writes rx turns earlier received)) ∙ so
+readings-turned rx tx turns earlier moments v received so = ap (λ (r : ℕ → ℕ → List _). r tx.path.0 tx.dest.0) (readings-stay rx.path.0 rx.group.0 (calls_by turns) v (received-writes rx turns earlier received)) ∙ so
 
 -- the sender's part of a tick
 sessions-sent : (rx : RxSet) (tx : TxSet) (turns : List RxTurn) (moments earlier : List TxTurn) (v : View) → HasSent tx (moments ++ earlier) → OwnSessions rx turns v → OwnSessions rx turns (grows (calls_by moments) v)

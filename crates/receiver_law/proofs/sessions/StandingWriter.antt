@@ -69,7 +69,7 @@ unfolding grow
 entered set n seq buf number size need len dest m reads v so =
     let s : Session = session_new buf number size len set.readers in
     stands-written set.path.0 dest set.readers n (n + 1) m None (Some n) reads v (grow (Entered set.path.0 seq buf number size len set.readers) (grow (Took set.group.0 number buf size need) v)) (v.sessions set.path.0 ++ s ∷ []) refl refl
-    (written-opened set.readers n buf need s (v.sessions set.path.0) v.changes refl so.written) so
+    (written-opened set.readers n need s (v.sessions set.path.0) v.changes refl so.written) so
 
 denied : (set : RxSet) (n number free need : ℕ) (going : Option ℕ) → Steps set n going (Refused set.group.0 number free need ∷ []) n going
 unfolding grow

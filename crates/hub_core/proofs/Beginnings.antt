@@ -5,10 +5,9 @@ use Rattle.std.proofs.lemmas.List.Sums.{sum_by-cons, sum_by_push}
 use Rattle.std.specs.Prelude.{slice_get, get_or, sum, sum_by}
 use Rattle.hub_core.proofs.Led.{led-opening}
 use Rattle.hub_core.proofs.Pools.{AreWords}
-use Rattle.hub_core.proofs.Shown.{IsShown}
 use Rattle.hub_core.proofs.Starts.{few-words}
 use Rattle.hub_core.specs.Groups.{grouped}
-use Rattle.hub_core.specs.Plain.{full_pool, start_of, reserved, taken}
+use Rattle.hub_core.specs.Plain.{IsShown, full_pool, start_of, reserved, taken}
 use Rattle.hub_core.specs.View.{View, empty_view}
 use Rattle.hub_core.specs.declared.place.Place.{Place}
 use Rattle.hub_core.specs.declared.place.Place.TheVariants.{Free, Occupied}

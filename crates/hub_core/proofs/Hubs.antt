@@ -1,5 +1,5 @@
 -- What a plain hub keeps, named by the hub, and where its parties' places are.
-use Rattle.std.proofs.Common.{◌≡◌, ℕ, ◌+◌, ◌-◌, ◌^◌, ◌%◌, ◌<◌, ◌≤◌, zero, suc, List, [], ◌∷◌, length, take, drop, All, Option, Some, None, refl, ap, sym, ◌∙◌, subst, arith, length-set}
+use Rattle.std.proofs.Common.{◌≡◌, ℕ, ◌+◌, ◌-◌, ◌^◌, ◌%◌, ◌<◌, ◌≤◌, List, length, take, drop, Option, Some, None, refl, ap, sym, ◌∙◌, subst, arith, length-set}
 use Rattle.std.specs.Prelude.{slice_set, slice_get, slice_index, get_or, sum, IsBitSet}
 use Rattle.std.proofs.lemmas.List.{length-take}
 use Rattle.std.proofs.lemmas.Option.{get_or_from_slice_get, slice_get_within}
@@ -13,7 +13,7 @@ use Rattle.hub_core.proofs.Leaving.{pool_freed}
 use Rattle.hub_core.proofs.Ledger.{order, streams, session-size, session-clear, unfreed}
 use Rattle.hub_core.proofs.Looks.{reader-size, next-cell, word-there, joint-now, place-read, row-read, place-there}
 use Rattle.hub_core.proofs.Pools.{fewer-changes}
-use Rattle.hub_core.proofs.Shown.{IsShown, writer-place, writer-stays, reader-place, reader-session, reader-stays}
+use Rattle.hub_core.proofs.Shown.{writer-place, writer-stays, reader-place, reader-session, reader-stays}
 use Rattle.hub_core.proofs.Starts.{size-some, in-words, few-words}
 use Rattle.hub_core.specs.Core.{MayTake}
 use Rattle.hub_core.specs.Calls.{SameMeans, TakeUsed, CellUsed, ByReader, IsBufferOf, path_of, seq_of, buf_of}
@@ -26,7 +26,7 @@ use Rattle.hub_core.specs.Past.{view_after}
 use Rattle.hub_core.specs.Plain.{AreLaid, IsPlaceOf, pool_after, port_of, session_in, start_of}
 use Rattle.hub_core.specs.Stays.{Stays}
 use Rattle.hub_core.specs.Tokens.{Writes, Reads, TakesPart}
-use Rattle.hub_core.specs.View.{View, Change, Session, Event, Missed, session_at, grow}
+use Rattle.hub_core.specs.View.{View, Session, Event, Missed, session_at, grow}
 use Rattle.hub_core.specs.declared.place.Place.{Place}
 use Rattle.hub_core.specs.declared.place.Place.TheVariants.{Occupied}
 use Rattle.hub_core.specs.declared.place.Row.{Row}
@@ -60,9 +60,6 @@ laid-word counts sizes starts words places at word laid = record {
   places_are = laid.places_are;
 }
 
-pub shown-of : (hub : PlainHub) → IsShown (groups_of hub) hub.places.items hub.words.items hub.pools.items hub.takes (view_after hub.past.seat.me.0.deeds)
-shown-of hub = record { places_show = hub.places_show; words_show = hub.words_show; counts = hub.numbers; led = hub.led }
-
 module _ (hub : PlainHub) where
   abbrev v : View
   v = view_after hub.past.seat.me.0.deeds
@@ -72,7 +69,7 @@ module _ (hub : PlainHub) where
 
   -- the view is joint at every moment
   pub hub-joint : Joint groups v
-  hub-joint = joint-now (groups_of hub) hub.places.items hub.words.items hub.pools.items hub.takes v (shown-of hub)
+  hub-joint = joint-now (groups_of hub) hub.places.items hub.words.items hub.pools.items hub.takes v hub.shown
 
   -- all buffers in one list, and in groups
   pub hub-sizes : all_sizes groups ≡ hub.sizes.items
@@ -86,19 +83,19 @@ module _ (hub : PlainHub) where
 
   -- a group's word
   pub pool-read : (group i : ℕ) (pool : Pool) → group < length groups → i ≡ group → pool ≡ get_or hub.pools.items i pool → pool ≡ pool_after groups group v.changes
-  pool-read group i pool there same read = read ∙ get_or_from_slice_get hub.pools.items i (pool_after groups group v.changes) pool (ap (slice_get hub.pools.items) same ∙ hub.numbers.words group there)
+  pool-read group i pool there same read = read ∙ get_or_from_slice_get hub.pools.items i (pool_after groups group v.changes) pool (ap (slice_get hub.pools.items) same ∙ hub.shown.counts.words group there)
 
   pub pool-at : (group i : ℕ) → group < length groups → i ≡ group → i < vec_len hub.pools
-  pool-at group i there same = omega (arith, same, slice_get_within hub.pools.items group _ (hub.numbers.words group there), hub.pools.ok.0)
+  pool-at group i there same = omega (arith, same, slice_get_within hub.pools.items group _ (hub.shown.counts.words group there), hub.pools.ok.0)
 
   pub pool-few : (group : ℕ) → (pool_after groups group v.changes).changes ≤ 2000000
-  pool-few group = omega (arith, fewer-changes groups group v.changes, hub.numbers.moves)
+  pool-few group = omega (arith, fewer-changes groups group v.changes, hub.shown.counts.moves)
 
   pub hub-word : (group : ℕ) (pool : Pool) → pool ≡ pool_after groups group v.changes → IsWordOf groups group v pool.changes pool.free
   hub-word group pool is = record { number_is = ap (λ (p : Pool). p.changes) is; free_is = ap (λ (p : Pool). p.free) is }
 
   pub hub-order : (group : ℕ) → AreInOrder (changes_in groups group v)
-  hub-order = order groups v hub.led
+  hub-order = order groups v hub.shown.led
 
   -- a group's buffers
   pub group-sizes : (group : ℕ) → group < length groups → sizes_of groups group ≡ take (length (sizes_of groups group)) (drop (first_of hub.counts.items group) hub.sizes.items)
@@ -209,11 +206,11 @@ module _ (hub : PlainHub) where
 
   pub session-there : (path seq : ℕ) (s : Session) → session_at v path seq ≡ Some s → IsThere hub.counts.items hub.sizes.items s.buf
   session-there path seq s at =
-      there-cut hub.counts.items hub.sizes.items s.buf hub.laid.all (slice_get_within hub.sizes.items s.buf s.size (ap (λ (l : List ℕ). slice_get l s.buf) (sym hub-sizes) ∙ session-size groups v hub.led path seq s at))
+      there-cut hub.counts.items hub.sizes.items s.buf hub.laid.all (slice_get_within hub.sizes.items s.buf s.size (ap (λ (l : List ℕ). slice_get l s.buf) (sym hub-sizes) ∙ session-size groups v hub.shown.led path seq s at))
 
   -- no call lowers the floors
   pub hub-rises : (event : Event) (w : View) → w ≡ grow event v → Rise (floors_of groups v) (floors_of groups w)
-  hub-rises event w grown = rise-grow groups event v w (streams (groups_of hub) v hub.led) grown
+  hub-rises event w grown = rise-grow groups event v w (streams (groups_of hub) v hub.shown.led) grown
 
   -- what a call leaves as it is, and what a take does
   pub stays-same : {By : View → View → Type 0} (event : Event) (w : View) → w ≡ grow event v → By v w → Stays By SameMeans (port_of groups hub.takes v) (port_of groups hub.takes w)
@@ -246,8 +243,8 @@ module _ (hub : PlainHub) where
 
   -- the place of a party's session
   pub party-place : (end : End) → TakesPart v end → session_in (slice_get hub.places.items (buf_of end)) ≡ Some (path_of end, seq_of end)
-  party-place (Write t) known = writer-place (groups_of hub) hub.places.items hub.words.items hub.pools.items hub.takes v (shown-of hub) t known
-  party-place (Read t) known = reader-place (groups_of hub) hub.places.items hub.words.items hub.pools.items hub.takes v (shown-of hub) t known
+  party-place (Write t) known = writer-place (groups_of hub) hub.places.items hub.words.items hub.pools.items hub.takes v hub.shown t known
+  party-place (Read t) known = reader-place (groups_of hub) hub.places.items hub.words.items hub.pools.items hub.takes v hub.shown t known
 
   pub party-at : (end : End) (i : ℕ) → TakesPart v end → i ≡ buf_of end → i < vec_len hub.places
   party-at end i known same = omega (arith, same, place-there hub.places.items (buf_of end) (path_of end) (seq_of end) (party-place end known), hub.places.ok.0)
@@ -276,7 +273,7 @@ module _ (hub : PlainHub) where
   pub writer-size : (t : Opened) → Writes v t → slice_get hub.sizes.items t.buf.0 ≡ Some t.cells
   writer-size t known =
       ap (λ (l : List ℕ). slice_get l t.buf.0) (sym hub-sizes) ∙ ap (slice_get (all_sizes groups)) (sym known.says.buf)
-      ∙ session-size groups v hub.led t.path.0 t.seq known.session known.known ∙ ap Some known.says.size
+      ∙ session-size groups v hub.shown.led t.path.0 t.seq known.session known.known ∙ ap Some known.says.size
 
   -- where the writer's next cell is put
   pub writer-start : (t : Opened) (i start : ℕ) → Writes v t → i ≡ t.buf.0 → start ≡ get_or hub.starts.items i start → start ≡ start_of hub.sizes.items t.buf.0
@@ -293,19 +290,19 @@ module _ (hub : PlainHub) where
   size-above buf size is = let some = (size-some hub.sizes.items buf size hub.laid.each is).0 in omega (arith, some)
 
   pub word-read : (t : Joined) (i start size word : ℕ) (known : Reads v t) (more : t.at < t.seen) → i ≡ t.buf.0 → start ≡ get_or hub.starts.items i start → size ≡ get_or hub.sizes.items i size → word ≡ get_or hub.words.items (start + t.at % size) word →
-      word ≡ (next-cell (groups_of hub) hub.places.items hub.words.items hub.pools.items hub.takes v (shown-of hub) t known more).0
+      word ≡ (next-cell (groups_of hub) hub.places.items hub.words.items hub.pools.items hub.takes v hub.shown t known more).0
   word-read t i start size word known more same begin cells read =
-      let its = reader-size (groups_of hub) hub.places.items hub.words.items hub.pools.items hub.takes v (shown-of hub) t known more in
+      let its = reader-size (groups_of hub) hub.places.items hub.words.items hub.pools.items hub.takes v hub.shown t known more in
       let has = ap (λ (l : List ℕ). slice_get l t.buf.0) (sym hub-sizes) ∙ its.1 in
       let start-is = start-read t.buf.0 its.0 i start has same begin ∙ ap (λ (l : List ℕ). start_of l t.buf.0) (sym hub-sizes) in
       let size-is = size-read t.buf.0 its.0 i size has same cells ∙ its.2 in
       read ∙ get_or_from_slice_get hub.words.items (start + t.at % size) _ word
-      (ap (λ (x : ℕ × ℕ). slice_get hub.words.items (x.0 + t.at % x.1)) (λ j. (start-is j, size-is j)) ∙ word-there (groups_of hub) hub.places.items hub.words.items hub.pools.items hub.takes v (shown-of hub) t known more)
+      (ap (λ (x : ℕ × ℕ). slice_get hub.words.items (x.0 + t.at % x.1)) (λ j. (start-is j, size-is j)) ∙ word-there (groups_of hub) hub.places.items hub.words.items hub.pools.items hub.takes v hub.shown t known more)
 
   -- how many cells a destination's buffer has
   pub joined-size : (t : Joined) (known : Reads v t) → t.at < t.seen → (size : ℕ) × (slice_get hub.sizes.items t.buf.0 ≡ Some size)
   joined-size t known more =
-      let its = reader-size (groups_of hub) hub.places.items hub.words.items hub.pools.items hub.takes v (shown-of hub) t known more in
+      let its = reader-size (groups_of hub) hub.places.items hub.words.items hub.pools.items hub.takes v hub.shown t known more in
       (its.0, ap (λ (l : List ℕ). slice_get l t.buf.0) (sym hub-sizes) ∙ its.1)
 
   pub party-below : (end : End) (i : ℕ) → TakesPart v end → i ≡ buf_of end → i < sum hub.counts.items
@@ -332,13 +329,13 @@ module _ (hub : PlainHub) where
   -- the buffer of a party's session isn't free
   pub party-clear : (end : End) → TakesPart v end → IsBitSet (free_in groups (group_of groups (buf_of end)) v) (place_of groups (buf_of end)) → ⊥
   party-clear (Write t) known set =
-      session-clear (groups_of hub) v hub.led t.path.0 t.seq known.session known.known
-      (unfreed (groups_of hub) v hub.led t.path.0 t.seq known.session known.known (writer-stays (groups_of hub) hub.places.items hub.words.items hub.pools.items hub.takes v (shown-of hub) t known))
+      session-clear (groups_of hub) v hub.shown.led t.path.0 t.seq known.session known.known
+      (unfreed (groups_of hub) v hub.shown.led t.path.0 t.seq known.session known.known (writer-stays (groups_of hub) hub.places.items hub.words.items hub.pools.items hub.takes v hub.shown t known))
       (subst (λ (b : ℕ). IsBitSet (free_in groups (group_of groups b) v) (place_of groups b)) (sym known.says.buf) set)
   party-clear (Read t) known set =
-      let its = reader-session (groups_of hub) hub.places.items hub.words.items hub.pools.items hub.takes v (shown-of hub) t known in
-      session-clear (groups_of hub) v hub.led t.path.0 t.seq its.0 its.1
-      (unfreed (groups_of hub) v hub.led t.path.0 t.seq its.0 its.1 (reader-stays (groups_of hub) hub.places.items hub.words.items hub.pools.items hub.takes v (shown-of hub) t known its.0 its.3))
+      let its = reader-session (groups_of hub) hub.places.items hub.words.items hub.pools.items hub.takes v hub.shown t known in
+      session-clear (groups_of hub) v hub.shown.led t.path.0 t.seq its.0 its.1
+      (unfreed (groups_of hub) v hub.shown.led t.path.0 t.seq its.0 its.1 (reader-stays (groups_of hub) hub.places.items hub.words.items hub.pools.items hub.takes v hub.shown t known its.0 its.3))
       (subst (λ (b : ℕ). IsBitSet (free_in groups (group_of groups b) v) (place_of groups b)) (sym known.says.buf ∙ its.2.buf) set)
 
   -- where the hub has one group and the first destination of a path misses a session, all of the path's sessions have lower numbers
@@ -349,7 +346,7 @@ module _ (hub : PlainHub) where
       nothing None is = refl
       nothing (Some s) is = absurd (
           let first : group_of groups s.buf ≡ 0 = omega (arith, (session-there path seq s is).group, one, hub-groups) in
-          omega (arith, hub.numbers.some path seq s is, missed-exact groups v 0 path 0 seq fresh s is first))
+          omega (arith, hub.shown.counts.some path seq s is, missed-exact groups v 0 path 0 seq fresh s is first))
 
 -- the same, as a gateway asks it
 pub is-joint : (hub : PlainHub) → Joint (groups_of hub) (view_after hub.past.seat.me.0.deeds)

@@ -13,7 +13,7 @@ use Rattle.hub_core.proofs.Owning.{GoOn, SameTake, same-take, on-session, on-rea
 use Rattle.hub_core.proofs.Places.{reading-now}
 use Rattle.hub_core.proofs.Pools.{AreWords, words-pushed}
 use Rattle.hub_core.proofs.Rows.{set-here, set-else, sum-set, freed-on, freed-still, IsOnlyAt, only-session, only-reading, swapped, one-place, row-on-session, row-on-reading, AreKept, kept-session, kept-sessions, words-on, lengths-by}
-use Rattle.hub_core.proofs.Shown.{IsShown, session-call, reading-call, writer-stays, reader-session, reader-stays, row-sight, row-position}
+use Rattle.hub_core.proofs.Shown.{session-call, reading-call, writer-stays, reader-session, reader-stays, row-sight, row-position}
 use Rattle.hub_core.proofs.Sure.{NotNot}
 use Rattle.gw_base.specs.declared.numbers.BufNo.{BufNo}
 use Rattle.hub_core.specs.Calls.{path_of, seq_of, buf_of, freed_by, left_of}
@@ -22,9 +22,9 @@ use Rattle.hub_core.specs.Joint.{IsFreed}
 use Rattle.hub_core.specs.Groups.{group_of, place_of, journal_of, changes_in, free_in}
 use Rattle.hub_core.specs.Journal.{ChangesBuf, numbered}
 use Rattle.hub_core.specs.Joint.{HasLeft, IsOver}
-use Rattle.hub_core.specs.Plain.{session_in, reserved, taken, sight_of, sight_in, standing, position_of, counts_one, readers_to, IsRowOf, IsEndOf, left_by}
+use Rattle.hub_core.specs.Plain.{IsShown, session_in, reserved, taken, sight_of, sight_in, standing, position_of, counts_one, readers_to, IsRowOf, IsEndOf, left_by}
 use Rattle.hub_core.specs.Tokens.{Writes, Reads, TakesPart}
-use Rattle.hub_core.specs.View.{View, Change, Taken, Freed, Taking, Session, Reading, Event, session_at, reading_at, grow, Closed, Parted}
+use Rattle.hub_core.specs.View.{View, Change, Freed, Taking, Session, Reading, Event, session_at, reading_at, grow, Closed, Parted}
 use Rattle.hub_core.specs.declared.place.Place.{Place}
 use Rattle.hub_core.specs.declared.place.Place.TheVariants.{Free, Occupied}
 use Rattle.hub_core.specs.declared.place.Row.{Row}

@@ -11,13 +11,13 @@ use Rattle.hub_core.proofs.Leaving.{stands-there}
 use Rattle.hub_core.proofs.Ledger.{streams, roomy, unfreed, session-size, freed-or}
 use Rattle.hub_core.proofs.Led.{led}
 use Rattle.hub_core.proofs.Rows.{occupied, sighted}
-use Rattle.hub_core.proofs.Shown.{IsShown, reader-session, reader-stays, row-sight, row-position}
+use Rattle.hub_core.proofs.Shown.{reader-session, reader-stays, row-sight, row-position}
 use Rattle.hub_core.specs.Alone.{IsRoomOf, IsNextOf, IsSeenOf}
 use Rattle.hub_core.specs.Groups.{group_of, all_sizes}
 use Rattle.hub_core.specs.Joint.{IsQuiet}
 use Rattle.hub_core.specs.Floors.{IsFresh, floors_of, staying, has_left, number_in}
 use Rattle.hub_core.specs.Joint.{Joint, HasLeft, IsOver, position}
-use Rattle.hub_core.specs.Plain.{session_in, sight_of, sight_in, standing, position_of, counts_one, readers_to, IsRoomTo, AreWithin, start_of}
+use Rattle.hub_core.specs.Plain.{IsShown, session_in, sight_of, sight_in, standing, position_of, counts_one, readers_to, IsRoomTo, AreWithin, start_of}
 use Rattle.hub_core.specs.Tokens.{Writes, Reads}
 use Rattle.hub_core.specs.View.{View, Session, Reading, session_at, reading_at, Saw}
 use Rattle.hub_core.specs.declared.place.Place.{Place}

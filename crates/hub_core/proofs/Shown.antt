@@ -11,7 +11,7 @@ use Rattle.hub_core.proofs.Rows.{set-here, set-else, freed-on, IsOnlyAt, only-se
 use Rattle.hub_core.specs.Calls.{ByWriter}
 use Rattle.hub_core.specs.Core.{IsLed, MayDo}
 use Rattle.hub_core.specs.Joint.{IsStream, IsOver}
-use Rattle.hub_core.specs.Plain.{session_in, sight_of, sight_in, standing, position_of, ShowPlaces, ShowWords, AreCounts, advance}
+use Rattle.hub_core.specs.Plain.{session_in, sight_of, sight_in, standing, position_of, IsShown, ShowWords, advance}
 use Rattle.hub_core.specs.Tokens.{Writes, Reads}
 use Rattle.hub_core.specs.View.{View, Session, Reading, at_one, change_at, session_at, reading_at, reading_new, grow}
 use Rattle.hub_core.specs.View.{Refused, Asked, Put, Published, Joining, Saw, Read}
@@ -23,13 +23,6 @@ use Rattle.hub_core.specs.declared.port.Room.{Room}
 use Rattle.hub_core.specs.declared.port.Seen.{Seen}
 use Rattle.hub_core.specs.declared.token.Joined.{Joined}
 use Rattle.hub_core.specs.declared.token.Opened.{Opened}
-
--- all that the hub keeps of its view
-pub record IsShown (groups : List (List ℕ)) (places : List Place) (words : List ℕ) (pools : List Pool) (takes : ℕ) (v : View) : Type 0 where
-  pub places_show : ShowPlaces groups places v
-  pub words_show : ShowWords groups words v
-  pub counts : AreCounts groups places pools takes v
-  pub led : IsLed groups v
 
 -- after a call on a session
 pub session-call : (groups : List (List ℕ)) (places new : List Place) (words more : List ℕ) (pools : List Pool) (takes : ℕ) (v w : View) (path seq buf : ℕ) (f : Session → Session) (row next : Row) (s : Session) →

@@ -13,10 +13,10 @@ use Rattle.hub_core.proofs.Growing.{session-changed}
 use Rattle.hub_core.proofs.Ledger.{session-size}
 use Rattle.hub_core.proofs.Owning.{SameTake}
 use Rattle.hub_core.proofs.Rows.{set-here, set-else, freed-on, only-session}
-use Rattle.hub_core.proofs.Shown.{IsShown, writer-place}
+use Rattle.hub_core.proofs.Shown.{writer-place}
 use Rattle.hub_core.specs.Groups.{all_sizes}
 use Rattle.hub_core.specs.Joint.{IsFreed}
-use Rattle.hub_core.specs.Plain.{start_of, session_in, ShowWords}
+use Rattle.hub_core.specs.Plain.{IsShown, start_of, session_in, ShowWords}
 use Rattle.hub_core.specs.Tokens.{Writes}
 use Rattle.hub_core.specs.View.{View, Session, session_at, grow, Put}
 use Rattle.hub_core.specs.declared.place.Place.{Place}

@@ -1,5 +1,5 @@
 -- The plain hub after a take, and as a session is entered in a buffer that was taken.
-use Rattle.std.proofs.Common.{◌≡◌, ◌≢◌, ℕ, ◌+◌, ◌-◌, ◌^◌, ◌<◌, ◌≤◌, inl, inr, suc, true, false, List, [], ◌∷◌, ◌++◌, length, Option, Some, None, All, refl, ap, sym, ◌∙◌, subst, arith, length-append}
+use Rattle.std.proofs.Common.{◌≡◌, ◌≢◌, ℕ, ◌+◌, ◌-◌, ◌^◌, ◌<◌, ◌≤◌, inl, inr, true, false, List, [], ◌∷◌, ◌++◌, length, Option, Some, None, All, refl, ap, sym, ◌∙◌, subst, arith, length-append}
 use Rattle.std.proofs.lemmas.Bool.Decides.{eqb_tells}
 use Rattle.std.proofs.lemmas.List.Elements.{All-nil}
 use Rattle.std.proofs.lemmas.Option.{same_Some, slice_get_within, slice_get_past}
@@ -11,11 +11,10 @@ use Rattle.hub_core.proofs.Ledger.{streams, order, session-clear, led-took, led-
 use Rattle.hub_core.proofs.Places.{session-pushed}
 use Rattle.hub_core.proofs.Pools.{words-pushed}
 use Rattle.hub_core.proofs.Rows.{set-here, set-else, sum-set, occupied, sighted, freed-still}
-use Rattle.hub_core.proofs.Shown.{IsShown}
 use Rattle.hub_core.specs.Core.{MayDo, MayTake}
 use Rattle.hub_core.specs.Groups.{group_of, place_of, free_in}
 use Rattle.hub_core.specs.Joint.{IsFreed}
-use Rattle.hub_core.specs.Plain.{session_in, reserved, taken, sight_of, sight_in, standing, position_of, AreFirst}
+use Rattle.hub_core.specs.Plain.{IsShown, session_in, reserved, taken, sight_of, sight_in, standing, position_of, AreFirst}
 use Rattle.hub_core.specs.View.{View, Change, Taken, Taking, Session, Reading, at_one, session_at, reading_at, session_new, grow, Took, Entered}
 use Rattle.hub_core.specs.declared.place.Place.{Place}
 use Rattle.hub_core.specs.declared.place.Place.TheVariants.{Free, Reserved, Occupied}

@@ -15,6 +15,6 @@ groups_of hub = grouped hub.counts.items hub.sizes.items
 abbrev pub view_of : PlainHub → View
 view_of hub = view_after hub.past.seat.me.0.deeds
 
--- what a port's contract sees of it
-abbrev pub state_of : PlainHub → PortState (Unit {0})
-state_of hub = port_of (groups_of hub) hub.takes (view_of hub)
+-- the hub as a port's contract sees it
+abbrev pub as_port : PlainHub → PortState (Unit {0})
+as_port hub = port_of (groups_of hub) hub.takes (view_of hub)

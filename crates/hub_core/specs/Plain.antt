@@ -1,7 +1,8 @@
 -- The plain hub: how its words, places and numbers show what was done with it.
-use Rattle.std.specs.Prelude.{◌≡◌, ℕ, ◌+◌, ◌-◌, ◌*◌, ◌^◌, ◌<◌, ◌≤◌, ◌%◌, ◌&&◌, nat_lt, if◌then◌else◌, zero, suc, Bool, true, false, List, [], ◌∷◌, length, take, sum, sum_by, Option, Some, None, All, slice_get, slice_set, slice_index, option_map}
+use Rattle.std.specs.Prelude.{◌≡◌, ℕ, ◌+◌, ◌-◌, ◌*◌, ◌^◌, ◌<◌, ◌≤◌, ◌%◌, ◌&&◌, nat_lt, if◌then◌else◌, zero, suc, Bool, true, false, List, length, take, sum, sum_by, Option, Some, None, All, slice_get, slice_set, slice_index, option_map}
 use Rattle.gw_base.specs.Cell.{IsCell}
 use Rattle.hub_core.specs.Calls.{Means}
+use Rattle.hub_core.specs.Core.{IsLed}
 use Rattle.hub_core.specs.Joint.{IsFreed}
 use Rattle.hub_core.specs.Floors.{is_for, floors_of}
 use Rattle.hub_core.specs.Groups.{sizes_of, journal_of, all_sizes}
@@ -112,6 +113,13 @@ pub record AreCounts (groups : List (List ℕ)) (places : List Place) (pools : L
   pub sessions : (path : ℕ) → length (v.sessions path) + sum_by reserved places + takes ≤ 1000000
   pub some : (path seq : ℕ) (s : Session) → session_at v path seq ≡ Some s → 0 < s.dests
   pub dests : (path seq : ℕ) (s : Session) → session_at v path seq ≡ Some s → s.dests ≤ 8
+
+-- places, words and numbers show a view to which a list of steps leads
+pub record IsShown (groups : List (List ℕ)) (places : List Place) (words : List ℕ) (pools : List Pool) (takes : ℕ) (v : View) : Type 0 where
+  pub places_show : ShowPlaces groups places v
+  pub words_show : ShowWords groups words v
+  pub counts : AreCounts groups places pools takes v
+  pub led : IsLed groups v
 
 -- the destinations below a number that take part, by their positions
 abbrev pub counts_one : Option (Option ℕ) → ℕ

@@ -1,5 +1,6 @@
 //! Where each group's buffers are among all, and how its pool word changes.
-ghost use Rattle.std.specs.Prelude.{◌≡◌, ◌+◌, ◌-◌, ◌/◌, ◌%◌, ◌<◌, ◌≤◌, ◌^◌, length, sum, map, slice_index, All, IfOk, IsBitSet};
+ghost use Rattle.std.specs.Prelude.{◌≡◌, ◌+◌, ◌-◌, ◌/◌, ◌%◌, ◌<◌, ◌≤◌, ◌^◌, length, sum, map, slice_index};
+ghost use Rattle.std.specs.Prelude.{All, IfOk, IsBitSet};
 ghost use Rattle.hub_core.specs.Groups.{first_of};
 ghost use Rattle.hub_core.specs.Plain.{full_pool};
 

@@ -1,12 +1,11 @@
 //! A hub on one thread.
 ghost use Rattle.std.specs.Prelude.{◌≡◌, ◌+◌, ◌/◌, ◌%◌, ◌^◌, ◌<◌, ◌≤◌, length, sum, All, IfOk};
 ghost use Rattle.gw_base.specs.Cell.{count_of};
-ghost use Rattle.hub_core.specs.Core.{IsLed};
 ghost use Rattle.hub_core.specs.View.{empty_view};
 ghost use Rattle.hub_core.specs.Calls.{buf_of, left_of};
 ghost use Rattle.hub_core.specs.Past.{event_of, view_after};
 ghost use Rattle.hub_core.specs.Groups.{grouped};
-ghost use Rattle.hub_core.specs.Plain.{AreLaid, ShowPlaces, ShowWords, AreCounts, hub_means};
+ghost use Rattle.hub_core.specs.Plain.{AreLaid, IsShown, hub_means};
 
 use crate::fit::smallest_fitting;
 use crate::groups::{after_free, after_take, find_group, first_buffer, full_pools, word_of};
@@ -79,25 +78,23 @@ pub struct PlainHub {
     takes: u32,
     past: History,
     ghost laid: { AreLaid counts.items sizes.items starts.items words.items places.items },
-    ghost places_show: { ShowPlaces (grouped counts.items sizes.items) places.items (view_after past.seat.me.0.deeds) },
-    ghost words_show: { ShowWords (grouped counts.items sizes.items) words.items (view_after past.seat.me.0.deeds) },
-    ghost numbers: { AreCounts (grouped counts.items sizes.items) places.items pools.items takes (view_after past.seat.me.0.deeds) },
-    ghost led: { IsLed (grouped counts.items sizes.items) (view_after past.seat.me.0.deeds) },
+    ghost shown: { IsShown (grouped counts.items sizes.items) places.items words.items pools.items takes
+        (view_after past.seat.me.0.deeds) },
 }
 
 impl PlainHub {
-    ghost use Rattle.hub_core.specs.HubPort.{state_of};
+    ghost use Rattle.hub_core.specs.HubPort.{as_port, groups_of, view_of};
 
-    /// A hub of 1 to 4 groups of 1 to 32 buffers, each buffer of 1 to 8192 cells and free, for 1,000,000 takes; it takes
-    /// no memory later. `cells` is the cells of each buffer, group after group, and `counts` how many buffers each group
-    /// has. `Memory` where a growth was refused.
+    /// A hub of 1 to 4 groups of 1 to 32 buffers, each buffer of 1 to 8192 cells and free, for 1,000,000 takes; it
+    /// takes no memory later. `cells` is the cells of each buffer, group after group, and `counts` how many buffers
+    /// each group has. `Memory` where a growth was refused.
     pub fn new(alloc: Global, cells: &[u32], counts: &[u8]) -> Result<PlainHub, Memory>
         requires groups { (1 ≤ length counts.now) × (length counts.now ≤ 4) }
         requires buffers { All (λ count. (1 ≤ count) × (count ≤ 32)) counts.now }
         requires all { sum counts.now ≡ length cells.now }
         requires cells { All (λ size. (1 ≤ size) × (size ≤ 8192)) cells.now }
-        ensures view { IfOk result (λ hub. (state_of hub).view ≡ empty_view) }
-        ensures means { IfOk result (λ hub. (state_of hub).means ≡ hub_means (grouped counts.now cells.now) 1000000) }
+        ensures view { IfOk result (λ hub. view_of hub ≡ empty_view) }
+        ensures means { IfOk result (λ hub. (as_port hub).means ≡ hub_means (grouped counts.now cells.now) 1000000) }
     {
         let sizes = Vec::from_slice(alloc, cells)?;
         let (starts, total) = ring_starts(alloc, cells)?;
@@ -118,16 +115,16 @@ impl PlainHub {
 
 impl PlainHub {
     ghost use Rattle.hub_core.specs.Groups.{changes_in, IsWordOf};
-    ghost use Rattle.hub_core.specs.HubPort.{state_of};
+    ghost use Rattle.hub_core.specs.HubPort.{as_port, groups_of, view_of};
     ghost use Rattle.hub_core.specs.Joint.{Joint};
     ghost use Rattle.hub_core.specs.Journal.{AreInOrder};
 
     /// The pool word of the group: the number of its changes in its upper 32 bits, its free set in its lower 32.
     pub fn word(&self, group: GroupNo) -> u64
-        requires { group.0 < length (state_of self.now).means.groups }
-        ensures word { IsWordOf (state_of self.now).means.groups group.0 (state_of self.now).view (result / 2 ^ 32) (result % 2 ^ 32) }
-        ensures joint { Joint (state_of self.now).means.groups (state_of self.now).view }
-        ensures in_order { AreInOrder (changes_in (state_of self.now).means.groups group.0 (state_of self.now).view) }
+        requires { group.0 < length (groups_of self.now) }
+        ensures word { IsWordOf (groups_of self.now) group.0 (view_of self.now) (result / 2 ^ 32) (result % 2 ^ 32) }
+        ensures joint { Joint (groups_of self.now) (view_of self.now) }
+        ensures in_order { AreInOrder (changes_in (groups_of self.now) group.0 (view_of self.now)) }
     {
         word_of(self.pools[usize::from(group.0)])
     }
@@ -155,28 +152,29 @@ impl Port for PlainHub {
     ghost use Rattle.std.specs.Prelude.{◌≡◌, ◌<◌, ◌≤◌, true, length};
     ghost use Rattle.hub_core.specs.Alone.{IsTakeOf, IsRoomOf, IsNextOf, IsSeenOf, IsLeavingOf};
     ghost use Rattle.hub_core.specs.Calls.{SameMeans, TakeUsed, SameParties, ByWriter, ByReader, ByEnd};
-    ghost use Rattle.hub_core.specs.Calls.{took_of, asked_of, next_of, saw_of, left_of, Answers, joins, Joins, FreesOwn};
+    ghost use Rattle.hub_core.specs.Calls.{took_of, asked_of, next_of, saw_of, left_of};
+    ghost use Rattle.hub_core.specs.Calls.{Answers, joins, Joins, FreesOwn};
     ghost use Rattle.hub_core.specs.Floors.{IsFresh};
-    ghost use Rattle.hub_core.specs.HubPort.{state_of};
+    ghost use Rattle.hub_core.specs.HubPort.{as_port, groups_of, view_of};
     ghost use Rattle.hub_core.specs.Stays.{Stays};
     ghost use Rattle.hub_core.specs.Tokens.{Writes, Reads, TakesPart, asked, saw, SameOpened, SameJoined};
     ghost use Rattle.hub_core.specs.View.{grow};
 
     ghost Home = { Unit {0} };
 
-    ghost state = { state_of };
+    ghost state = { as_port };
 
     /// As for any port; the answer has the pool word of this call.
     fn take(&mut self, group: GroupNo, need: u64) -> Take
-        requires group { group.0 < length (state_of self.old).means.groups }
-        requires takes { 0 < (state_of self.old).means.takes }
-        ensures view { (state_of self.new).view ≡ grow (took_of group.0 need result) (state_of self.old).view }
-        ensures answers { Answers (state_of self.new).view (state_of self.old).means.groups group.0 need result }
-        ensures fresh { IsFresh (state_of self.old).view (state_of self.old).floors (took_of group.0 need result) }
-        ensures stays { Stays SameParties TakeUsed (state_of self.old) (state_of self.new) }
+        requires group { group.0 < length (groups_of self.old) }
+        requires takes { 0 < (as_port self.old).means.takes }
+        ensures view { view_of self.new ≡ grow (took_of group.0 need result) (view_of self.old) }
+        ensures answers { Answers (view_of self.new) (groups_of self.old) group.0 need result }
+        ensures fresh { IsFresh (view_of self.old) (as_port self.old).floors (took_of group.0 need result) }
+        ensures stays { Stays SameParties TakeUsed (as_port self.old) (as_port self.new) }
 
         // Beside the port's: a buffer that fits is taken by the next change, and an overflow's word is the present one.
-        ensures exact { IsTakeOf (state_of self.old).view (state_of self.old).means.groups group.0 need result }
+        ensures exact { IsTakeOf (view_of self.old) (groups_of self.old) group.0 need result }
     {
         let (first, last) = self.buffers_of(group);
         let at = usize::from(group.0);
@@ -252,16 +250,16 @@ impl Port for PlainHub {
 
     /// As for any port; the room is that of the present position.
     fn room(&mut self, at: &mut Opened) -> Room
-        requires { Writes (state_of self.old).view at.old }
-        ensures view { (state_of self.new).view ≡ grow (asked_of at.old result) (state_of self.old).view }
+        requires { Writes (view_of self.old) at.old }
+        ensures view { view_of self.new ≡ grow (asked_of at.old result) (view_of self.old) }
         ensures token { SameOpened at.new (asked result at.old) }
         ensures cells { (at.old.room ≤ result.cells) × (result.cells ≤ at.old.cells) }
-        ensures writes { Writes (state_of self.new).view at.new }
-        ensures fresh { IsFresh (state_of self.old).view (state_of self.old).floors (asked_of at.old result) }
-        ensures stays { Stays (ByWriter at.old.path.0 0) SameMeans (state_of self.old) (state_of self.new) }
+        ensures writes { Writes (view_of self.new) at.new }
+        ensures fresh { IsFresh (view_of self.old) (as_port self.old).floors (asked_of at.old result) }
+        ensures stays { Stays (ByWriter at.old.path.0 0) SameMeans (as_port self.old) (as_port self.new) }
 
         // Beside the port's: the look is exact.
-        ensures exact { IsRoomOf (state_of self.old).view at.old.path.0 at.old.seq result }
+        ensures exact { IsRoomOf (view_of self.old) at.old.path.0 at.old.seq result }
     {
         let Place::Occupied(row) = self.places[usize::from(at.buf.0)] else {
             unreachable!();
@@ -311,16 +309,16 @@ impl Port for PlainHub {
 
     /// As for any port; `None` exactly where the path has no session of that number for the destination.
     fn next(&mut self, group: GroupNo, path: PathNo, dest: DestNo, seq: u32) -> Option<Joined>
-        requires group { group.0 < length (state_of self.old).means.groups }
-        requires acts { (state_of self.old).means.reads path.0 dest.0 ≡ true }
-        requires seq { length ((state_of self.old).view.readings path.0 dest.0) ≡ seq }
-        ensures view { (state_of self.new).view ≡ grow (next_of group.0 path.0 dest.0 seq result) (state_of self.old).view }
-        ensures joins { Joins (state_of self.new).view path dest seq result }
-        ensures fresh { IsFresh (state_of self.old).view (state_of self.old).floors (next_of group.0 path.0 dest.0 seq result) }
-        ensures stays { Stays (ByReader path.0 dest.0 (joins result)) SameMeans (state_of self.old) (state_of self.new) }
+        requires group { group.0 < length (groups_of self.old) }
+        requires acts { (as_port self.old).means.reads path.0 dest.0 ≡ true }
+        requires seq { length ((view_of self.old).readings path.0 dest.0) ≡ seq }
+        ensures view { view_of self.new ≡ grow (next_of group.0 path.0 dest.0 seq result) (view_of self.old) }
+        ensures joins { Joins (view_of self.new) path dest seq result }
+        ensures fresh { IsFresh (view_of self.old) (as_port self.old).floors (next_of group.0 path.0 dest.0 seq result) }
+        ensures stays { Stays (ByReader path.0 dest.0 (joins result)) SameMeans (as_port self.old) (as_port self.new) }
 
         // Beside the port's: the look is exact.
-        ensures exact { IsNextOf (state_of self.old).view (state_of self.old).means.groups group.0 path.0 dest.0 seq result }
+        ensures exact { IsNextOf (view_of self.old) (groups_of self.old) group.0 path.0 dest.0 seq result }
     {
         let (first, last) = self.buffers_of(group);
         let (place, row) = find_session(&self.places[first..last], path.0, seq)?;
@@ -347,16 +345,16 @@ impl Port for PlainHub {
 
     /// As for any port; all that is published is seen.
     fn seen(&mut self, at: &mut Joined) -> Seen
-        requires { Reads (state_of self.old).view at.old }
-        ensures view { (state_of self.new).view ≡ grow (saw_of at.old result) (state_of self.old).view }
+        requires { Reads (view_of self.old) at.old }
+        ensures view { view_of self.new ≡ grow (saw_of at.old result) (view_of self.old) }
         ensures token { SameJoined at.new (saw result at.old) }
         ensures cells { at.old.seen ≤ result.cells }
-        ensures reads { Reads (state_of self.new).view at.new }
-        ensures fresh { IsFresh (state_of self.old).view (state_of self.old).floors (saw_of at.old result) }
-        ensures stays { Stays (ByReader at.old.path.0 at.old.dest.0 0) SameMeans (state_of self.old) (state_of self.new) }
+        ensures reads { Reads (view_of self.new) at.new }
+        ensures fresh { IsFresh (view_of self.old) (as_port self.old).floors (saw_of at.old result) }
+        ensures stays { Stays (ByReader at.old.path.0 at.old.dest.0 0) SameMeans (as_port self.old) (as_port self.new) }
 
         // Beside the port's: the look is exact.
-        ensures exact { IsSeenOf (state_of self.old).view at.old.path.0 at.old.seq result }
+        ensures exact { IsSeenOf (view_of self.old) at.old.path.0 at.old.seq result }
     {
         let Place::Occupied(row) = self.places[usize::from(at.buf.0)] else {
             unreachable!();
@@ -397,13 +395,13 @@ impl Port for PlainHub {
 
     /// As for any port; `Last` exactly where no other party takes part.
     fn leave(&mut self, end: End) -> Left
-        requires { TakesPart (state_of self.old).view end }
-        ensures view { (state_of self.new).view ≡ grow (left_of end result) (state_of self.old).view }
+        requires { TakesPart (view_of self.old) end }
+        ensures view { view_of self.new ≡ grow (left_of end result) (view_of self.old) }
         ensures frees { FreesOwn end result }
-        ensures stays { Stays (ByEnd end) SameMeans (state_of self.old) (state_of self.new) }
+        ensures stays { Stays (ByEnd end) SameMeans (as_port self.old) (as_port self.new) }
 
         // Beside the port's: the last one is told so, and no other.
-        ensures exact { IsLeavingOf (state_of self.new).view end result }
+        ensures exact { IsLeavingOf (view_of self.new) end result }
     {
         let buf = session_buf(&end);
         let at = usize::from(buf.0);

@@ -1,13 +1,12 @@
-use Rattle.std.proofs.Common.{ℕ, List, [], length, map, refl, ap, sym, subst, ◌∙◌}
+use Rattle.std.proofs.Common.{ℕ, List, [], length, refl, ap, sym, subst, ◌∙◌}
 use Rattle.std.proofs.lemmas.List.{length-replicate}
-use Rattle.std.specs.Prelude.{replicate}
 use Rattle.hub_core.proofs.Beginnings.{begins, full-words}
 use Rattle.hub_core.proofs.Cut.{few-buffers}
 use Rattle.hub_core.proofs.Pools.{AreWords}
 use Rattle.hub_core.proofs.plain.PlainHub.new.Goals as goal
 use Rattle.hub_core.specs.Groups.{grouped}
 use Rattle.hub_core.specs.Past.{view_after}
-use Rattle.hub_core.specs.Plain.{AreLaid, full_pool}
+use Rattle.hub_core.specs.Plain.{AreLaid}
 use Rattle.hub_core.specs.declared.place.Place.{Place}
 use Rattle.hub_core.specs.declared.place.Place.TheVariants.{Free}
 use Rattle.hub_core.specs.declared.pool.Pool.{Pool}
@@ -37,8 +36,5 @@ invariant_of-result c =
     (view_after c.in_ok-new.field-0.seat.me.0.deeds) (ap view_after c.in_ok-new.ensures) places pools refl in
     record {
       laid = subst L (λ i. (sym counts i, sym sizes i)) laid;
-      places_show = all.places_show;
-      words_show = all.words_show;
-      numbers = all.counts;
-      led = all.led;
+      shown = all;
     }

@@ -1,4 +1,4 @@
-use Rattle.std.proofs.Common.{◌≤◌, ◌∙◌, ap, arith}
+use Rattle.std.proofs.Common.{◌∙◌, ap, arith}
 use Rattle.hub_core.proofs.Hubs.{hub-joint, hub-order, hub-word, pool-at, pool-few, pool-read}
 use Rattle.hub_core.proofs.plain.PlainHub.word.Goals as goal
 use Rattle.hub_core.specs.declared.pool.Pool.{Pool}

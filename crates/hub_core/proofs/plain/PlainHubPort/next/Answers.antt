@@ -1,14 +1,14 @@
-use Rattle.std.proofs.Common.{◌≡◌, ℕ, ◌+◌, ◌-◌, ◌<◌, ◌≤◌, Some, None, List, length, take, drop, ap, sym, subst, refl, arith, ◌∙◌}
+use Rattle.std.proofs.Common.{◌≡◌, ℕ, ◌+◌, ◌<◌, Some, None, ap, sym, subst, refl, arith, ◌∙◌}
 use Rattle.std.proofs.lemmas.Bool.{ltb-true, and_parts}
 use Rattle.std.proofs.lemmas.Option.{get_or_from_slice_get, slice_get_within}
 use Rattle.std.specs.Prelude.{nat_lt, slice_get}
 use Rattle.hub_core.proofs.Fresh.{missed-fresh}
 use Rattle.hub_core.proofs.Growing.{by-joining, reads-joining}
-use Rattle.hub_core.proofs.Hubs.{shown-of, hub-few, place-found, none-found, stays-missed, stays-same}
+use Rattle.hub_core.proofs.Hubs.{hub-few, place-found, none-found, stays-missed, stays-same}
 use Rattle.hub_core.proofs.Ledger.{streams}
 use Rattle.hub_core.proofs.Looks.{next-none, found, next-apart, next-for}
 use Rattle.hub_core.proofs.Scans.{position-read}
-use Rattle.hub_core.proofs.Shown.{IsShown, after-joining}
+use Rattle.hub_core.proofs.Shown.{after-joining}
 use Rattle.hub_core.proofs.plain.PlainHubPort.next.Goals as goal
 use Rattle.hub_core.specs.Alone.{IsNextOf}
 use Rattle.hub_core.specs.Calls.{SameMeans, ByReader, joins, next_of}
@@ -17,7 +17,7 @@ use Rattle.hub_core.specs.Groups.{group_of}
 use Rattle.hub_core.specs.HubPort.{groups_of}
 use Rattle.hub_core.specs.Past.{view_after}
 use Rattle.hub_core.specs.Stays.{Stays}
-use Rattle.hub_core.specs.Plain.{port_of}
+use Rattle.hub_core.specs.Plain.{IsShown, port_of}
 use Rattle.hub_core.specs.View.{grow, Joining}
 
 pub returns-in_err-place-clause-view : goal.returns-in_err-place-clause-view
@@ -29,7 +29,7 @@ returns-in_err-place-clause-exact c =
     let hub = c.args.self.now in
     let v = view_after hub.past.seat.me.0.deeds in
     subst (IsNextOf v (groups_of hub) c.args.group.0 c.args.path.0 c.args.dest.0 c.args.seq) (sym c.from_residual.ensures)
-    (next-none (groups_of hub) hub.places.items hub.words.items hub.pools.items hub.takes v (shown-of hub) c.args.group.0 c.args.path.0 c.args.dest.0 c.args.seq c.requires.seq
+    (next-none (groups_of hub) hub.places.items hub.words.items hub.pools.items hub.takes v hub.shown c.args.group.0 c.args.path.0 c.args.dest.0 c.args.seq c.requires.seq
     (none-found hub c.args.group.0 c.buffers_of-first.result.0 c.buffers_of-first.result.1 c.args.path.0 c.args.seq c.deref.result.now c.requires.group c.buffers_of-first.ensures.first c.buffers_of-first.ensures.last c.deref.ensures.value c.in_err-place.ensures))
 
 pub returns-in_err-place-clause-fresh : goal.returns-in_err-place-clause-fresh
@@ -59,7 +59,7 @@ returns-in_err-row-clause-exact c =
     let row = c.in_ok-place.row in
     let place = place-found hub c.args.group.0 c.buffers_of-first.result.0 c.buffers_of-first.result.1 c.args.path.0 c.args.seq c.in_ok-place.place c.in_ok-place.row c.deref.result.now c.requires.group c.buffers_of-first.ensures.first c.buffers_of-first.ensures.last c.buffers_of-first.ensures.few c.deref.ensures.value c.in_ok-place.ensures in
     subst (IsNextOf v (groups_of hub) c.args.group.0 c.args.path.0 c.args.dest.0 c.args.seq) (sym c.from_residual-in_err-row.ensures)
-    (next-apart (groups_of hub) hub.places.items hub.words.items hub.pools.items hub.takes v (shown-of hub) c.args.path.0 c.args.dest.0 c.args.seq buf row c.requires.seq few place.at place.path_is place.seq_is c.args.group.0
+    (next-apart (groups_of hub) hub.places.items hub.words.items hub.pools.items hub.takes v hub.shown c.args.path.0 c.args.dest.0 c.args.seq buf row c.requires.seq few place.at place.path_is place.seq_is c.args.group.0
     (λ some. let both : Some 0 ≡ None = sym (get_or_from_slice_get row.positions c.from.result (Some 0) None (ap (λ (i : ℕ). slice_get row.positions i) c.from.ensures ∙ some)) ∙ c.in_err-row.was in absurd cc))
 
 pub returns-in_err-row-clause-fresh : goal.returns-in_err-row-clause-fresh
@@ -96,13 +96,13 @@ invariant_of-self c =
     let buf = c.buffers_of-first.result.0 + c.in_ok-place.place in
     let row = c.in_ok-place.row in
     let place = place-found hub c.args.group.0 c.buffers_of-first.result.0 c.buffers_of-first.result.1 c.args.path.0 c.args.seq c.in_ok-place.place c.in_ok-place.row c.deref.result.now c.requires.group c.buffers_of-first.ensures.first c.buffers_of-first.ensures.last c.buffers_of-first.ensures.few c.deref.ensures.value c.in_ok-place.ensures in
-    let its = found (groups_of hub) hub.places.items hub.words.items hub.pools.items hub.takes v (shown-of hub) c.args.path.0 c.args.dest.0 c.args.seq buf row c.requires.seq few place.at place.path_is place.seq_is in
-    let below = next-for (groups_of hub) hub.places.items hub.words.items hub.pools.items hub.takes v (shown-of hub) c.args.path.0 c.args.dest.0 c.args.seq buf row c.requires.seq few place.at place.path_is place.seq_is c.in_ok-row.field-0
+    let its = found (groups_of hub) hub.places.items hub.words.items hub.pools.items hub.takes v hub.shown c.args.path.0 c.args.dest.0 c.args.seq buf row c.requires.seq few place.at place.path_is place.seq_is in
+    let below = next-for (groups_of hub) hub.places.items hub.words.items hub.pools.items hub.takes v hub.shown c.args.path.0 c.args.dest.0 c.args.seq buf row c.requires.seq few place.at place.path_is place.seq_is c.in_ok-row.field-0
     (ap (λ (i : ℕ). slice_get row.positions i) (sym c.from.ensures) ∙ position-read row.positions c.from.result c.in_ok-row.field-0 c.in_ok-row.was) in
-    let after = after-joining (groups_of hub) hub.places.items hub.words.items hub.pools.items hub.takes v (shown-of hub) c.args.path.0 c.args.dest.0 c.args.seq buf row.len row its.0 place.at place.path_is place.seq_is its.1 below (sym c.requires.seq)
+    let after = after-joining (groups_of hub) hub.places.items hub.words.items hub.pools.items hub.takes v hub.shown c.args.path.0 c.args.dest.0 c.args.seq buf row.len row its.0 place.at place.path_is place.seq_is its.1 below (sym c.requires.seq)
     (record { session = its.0; next = sym c.requires.seq; known = its.1; for = below; buf_is = sym (ap (λ x. x.0) its.2); len_is = sym (ap (λ x. x.1) its.2) }) in
     let all = subst (IsShown (groups_of hub) hub.places.items hub.words.items hub.pools.items hub.takes) (sym (ap view_after c.note.ensures)) after in
-    record { laid = hub.laid; places_show = all.places_show; words_show = all.words_show; numbers = all.counts; led = all.led }
+    record { laid = hub.laid; shown = all }
 
 pub returns-clause-joins : goal.returns-clause-joins
 returns-clause-joins c =
@@ -112,10 +112,10 @@ returns-clause-joins c =
     let buf = c.buffers_of-first.result.0 + c.in_ok-place.place in
     let row = c.in_ok-place.row in
     let place = place-found hub c.args.group.0 c.buffers_of-first.result.0 c.buffers_of-first.result.1 c.args.path.0 c.args.seq c.in_ok-place.place c.in_ok-place.row c.deref.result.now c.requires.group c.buffers_of-first.ensures.first c.buffers_of-first.ensures.last c.buffers_of-first.ensures.few c.deref.ensures.value c.in_ok-place.ensures in
-    let its = found (groups_of hub) hub.places.items hub.words.items hub.pools.items hub.takes v (shown-of hub) c.args.path.0 c.args.dest.0 c.args.seq buf row c.requires.seq few place.at place.path_is place.seq_is in (
+    let its = found (groups_of hub) hub.places.items hub.words.items hub.pools.items hub.takes v hub.shown c.args.path.0 c.args.dest.0 c.args.seq buf row c.requires.seq few place.at place.path_is place.seq_is in (
       refl,
-      omega (arith, ((streams (groups_of hub) v hub.led).written c.args.path.0 c.args.seq its.0 its.1).some, ap (λ x. x.1) its.2),
-      omega (arith, slice_get_within (v.sessions c.args.path.0) c.args.seq its.0 its.1, hub.numbers.sessions c.args.path.0),
+      omega (arith, ((streams (groups_of hub) v hub.shown.led).written c.args.path.0 c.args.seq its.0 its.1).some, ap (λ x. x.1) its.2),
+      omega (arith, slice_get_within (v.sessions c.args.path.0) c.args.seq its.0 its.1, hub.shown.counts.sessions c.args.path.0),
       reads-joining c.args.path c.args.dest _ _ _ _ _ _ c.requires.seq (ap view_after c.note.ensures) refl,
     )
 
@@ -131,7 +131,7 @@ returns-clause-exact c =
     let buf = c.buffers_of-first.result.0 + c.in_ok-place.place in
     let row = c.in_ok-place.row in
     let place = place-found hub c.args.group.0 c.buffers_of-first.result.0 c.buffers_of-first.result.1 c.args.path.0 c.args.seq c.in_ok-place.place c.in_ok-place.row c.deref.result.now c.requires.group c.buffers_of-first.ensures.first c.buffers_of-first.ensures.last c.buffers_of-first.ensures.few c.deref.ensures.value c.in_ok-place.ensures in
-    let its = found (groups_of hub) hub.places.items hub.words.items hub.pools.items hub.takes v (shown-of hub) c.args.path.0 c.args.dest.0 c.args.seq buf row c.requires.seq few place.at place.path_is place.seq_is in
-    let below = next-for (groups_of hub) hub.places.items hub.words.items hub.pools.items hub.takes v (shown-of hub) c.args.path.0 c.args.dest.0 c.args.seq buf row c.requires.seq few place.at place.path_is place.seq_is c.in_ok-row.field-0
+    let its = found (groups_of hub) hub.places.items hub.words.items hub.pools.items hub.takes v hub.shown c.args.path.0 c.args.dest.0 c.args.seq buf row c.requires.seq few place.at place.path_is place.seq_is in
+    let below = next-for (groups_of hub) hub.places.items hub.words.items hub.pools.items hub.takes v hub.shown c.args.path.0 c.args.dest.0 c.args.seq buf row c.requires.seq few place.at place.path_is place.seq_is c.in_ok-row.field-0
     (ap (λ (i : ℕ). slice_get row.positions i) (sym c.from.ensures) ∙ position-read row.positions c.from.result c.in_ok-row.field-0 c.in_ok-row.was) in
     (its.0, its.1, ap (group_of (groups_of hub)) (ap (λ x. x.0) its.2) ∙ place.its, below, sym (ap (λ x. x.0) its.2), sym (ap (λ x. x.1) its.2))

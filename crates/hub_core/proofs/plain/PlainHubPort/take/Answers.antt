@@ -1,17 +1,18 @@
-use Rattle.std.proofs.Common.{◌≡◌, ℕ, ◌+◌, ◌-◌, ◌<◌, ◌≤◌, ◌∙◌, List, Some, length, take, drop, ap, sym, subst, refl, arith}
+use Rattle.std.proofs.Common.{◌≡◌, ℕ, ◌+◌, ◌-◌, ◌<◌, ◌∙◌, List, Some, length, take, drop, ap, sym, subst, refl, arith}
 use Rattle.std.proofs.lemmas.Option.{slice_get_read, get_or_from_slice_get}
 use Rattle.std.specs.Prelude.{slice_get, slice_set}
 use Rattle.gw_base.specs.Fit.{IsSmallest, NoneFits}
 use Rattle.hub_core.proofs.Growing.{by-took, by-refused}
-use Rattle.hub_core.proofs.Hubs.{shown-of, laid-place, sizes-read, group-few, hub-few, pool-at, pool-few, pool-read, hub-word, buffer-from, buffer-of, take-may, pool-taken, stays-took}
+use Rattle.hub_core.proofs.Hubs.{laid-place, sizes-read, group-few, hub-few, pool-at, pool-few, pool-read, hub-word, buffer-from, buffer-of, take-may, pool-taken, stays-took}
 use Rattle.hub_core.proofs.Ledger.{led-refused}
-use Rattle.hub_core.proofs.Shown.{IsShown, after-refused}
+use Rattle.hub_core.proofs.Shown.{after-refused}
 use Rattle.hub_core.proofs.Taking.{after-took, held-took}
 use Rattle.hub_core.proofs.plain.PlainHubPort.take.Goals as goal
 use Rattle.hub_core.specs.Groups.{sizes_of}
 use Rattle.hub_core.specs.HubPort.{groups_of, view_of}
 use Rattle.hub_core.specs.Past.{view_after}
-use Rattle.hub_core.specs.View.{grow, Took, Refused}
+use Rattle.hub_core.specs.Plain.{IsShown}
+use Rattle.hub_core.specs.View.{Took, Refused}
 use Rattle.hub_core.specs.declared.place.Place.TheVariants.{Reserved}
 use Rattle.hub_core.specs.declared.plain.PlainHub.{PlainHub}
 use Rattle.hub_core.specs.declared.pool.Pool.{Pool}
@@ -31,10 +32,10 @@ invariant_of-self c =
     let is = pool-read hub c.args.group.0 c.from-at.result pool c.requires.group c.from-at.ensures c.index-pool.ensures in
     let word = hub-word hub c.args.group.0 pool is in
     let none : NoneFits (sizes_of (groups_of hub) c.args.group.0) pool.free c.args.need = subst (λ (s : List ℕ). NoneFits s pool.free c.args.need) read c.in_default.ensures in
-    let after = after-refused (groups_of hub) hub.places.items hub.words.items hub.pools.items hub.takes v (shown-of hub) c.args.group.0 pool.changes pool.free c.args.need (hub.takes - 1) (omega (arith, c.requires.takes))
-    (led-refused (groups_of hub) v hub.led c.args.group.0 pool.changes pool.free c.args.need (record { there = c.requires.group; now = word.number_is; set = word.free_is; none_fits = none })) in
+    let after = after-refused (groups_of hub) hub.places.items hub.words.items hub.pools.items hub.takes v hub.shown c.args.group.0 pool.changes pool.free c.args.need (hub.takes - 1) (omega (arith, c.requires.takes))
+    (led-refused (groups_of hub) v hub.shown.led c.args.group.0 pool.changes pool.free c.args.need (record { there = c.requires.group; now = word.number_is; set = word.free_is; none_fits = none })) in
     let all = subst (IsShown (groups_of hub) hub.places.items hub.words.items hub.pools.items (hub.takes - 1)) (sym (ap view_after c.note.ensures)) after in
-    record { laid = hub.laid; places_show = all.places_show; words_show = all.words_show; numbers = all.counts; led = all.led }
+    record { laid = hub.laid; shown = all }
 
 pub returns-in_default-clause-answers : goal.returns-in_default-clause-answers
 returns-in_default-clause-answers c =
@@ -98,10 +99,10 @@ invariant_of-self-2 c =
     let left = pool-taken hub group first place pool next c.requires.group c.buffers_of-first.ensures.first smallest.fits.there is c.after_take-pool.ensures.free in
     let new = slice_set hub.places.items (first + place) Reserved in
     let more = slice_set hub.pools.items c.from-at.result next in
-    let after = after-took (groups_of hub) hub.places.items hub.words.items hub.pools.items hub.takes v (shown-of hub) group next.changes (first + place) c.index.result.now c.args.need (hub.takes - 1) new more (omega (arith, c.requires.takes)) may
+    let after = after-took (groups_of hub) hub.places.items hub.words.items hub.pools.items hub.takes v hub.shown group next.changes (first + place) c.index.result.now c.args.need (hub.takes - 1) new more (omega (arith, c.requires.takes)) may
     (omega (arith, low, hub.laid.places_are)) refl (λ i. slice_set hub.pools.items (c.from-at.ensures i) (left i)) in
     let all = subst (IsShown (groups_of hub) new hub.words.items more (hub.takes - 1)) (sym (ap view_after c.note-2.ensures)) after in
-    record { laid = laid-place _ _ _ _ _ _ _ hub.laid; places_show = all.places_show; words_show = all.words_show; numbers = all.counts; led = all.led }
+    record { laid = laid-place _ _ _ _ _ _ _ hub.laid; shown = all }
 
 pub returns-clause-answers : goal.returns-clause-answers
 returns-clause-answers c =

@@ -8,7 +8,7 @@ use Rattle.tp_receiver.specs.Runs.{frames_in}
 use Rattle.hub_core.specs.Floors.{AreFresh, IsFresh, floors_of}
 use Rattle.hub_core.specs.Journal.{AreInOrder}
 use Rattle.hub_core.proofs.OneGroup.{same}
-use Rattle.hub_core.specs.Groups.{IsWordOf}
+use Rattle.hub_core.specs.Groups.{changes_in, IsWordOf}
 use Rattle.hub_core.specs.Joint.{Joint}
 use Rattle.gw_base.specs.declared.numbers.PathNo.{PathNo}
 use Rattle.hub_core.proofs.Hubs.{is-joint, none-missed}
@@ -57,24 +57,24 @@ ends-more g h last turns moments view ends told =
       stands = subst V (sym (grows-append (calls_by ends.more) turn.did.calls view)) stands;
     }
 
-missed-fresh : (hub : PlainHub) (group path dest number : ℕ) (calls more : List Event) → dest ≡ 0 → group ≡ 0 → AreFresh (floors_of (groups_in hub) (view_in hub)) (view_in hub) calls → calls ≡ Missed group path dest number ∷ more →
+missed-fresh : (hub : PlainHub) (group path dest number : ℕ) (calls more : List Event) → length (groups_in hub) ≡ 1 → dest ≡ 0 → group ≡ 0 → AreFresh (floors_of (groups_in hub) (view_in hub)) (view_in hub) calls → calls ≡ Missed group path dest number ∷ more →
     length ((view_in hub).sessions path) ≤ number
-missed-fresh hub group path dest number calls more first one fresh is =
+missed-fresh hub group path dest number calls more alone first one fresh is =
     let P : List Event → Type 0 = λ c. AreFresh (floors_of (groups_in hub) (view_in hub)) (view_in hub) c in
     let Q : ℕ × ℕ → Type 0 = λ x. IsFresh (view_in hub) (floors_of (groups_in hub) (view_in hub)) (Missed x.0 path x.1 number) in
-    none-missed hub path number (subst Q (λ i. (one i, first i)) (subst P is fresh).0)
+    none-missed hub path number alone (subst Q (λ i. (one i, first i)) (subst P is fresh).0)
 
 no-more : (before after more : List DestRecord) → after ≡ before ++ more → length after ≤ length before → more ≡ []
 no-more before after [] is few = refl
 no-more before after (told ∷ more) is few = absurd (omega (arith, ap length is ∙ length-append before (told ∷ more), few))
 
-pub is-over : (g h : Gateway) (last : ℕ) → (set_of g.sender).dest.0 ≡ 0 → (set_of g.sender).group.0 ≡ 0 → TellsSender g h RunEnd last (lying g.frame) g.frames → length h.dests ≤ length g.dests → IsOver h
-is-over g h last first one told few =
+pub is-over : (g h : Gateway) (last : ℕ) → length (groups_in g.hub) ≡ 1 → (set_of g.sender).dest.0 ≡ 0 → (set_of g.sender).group.0 ≡ 0 → TellsSender g h RunEnd last (lying g.frame) g.frames → length h.dests ≤ length g.dests → IsOver h
+is-over g h last alone first one told few =
     let turn = told.turn in
     let st = told.stepped in
     let next = ap (λ (s : TxState). s.next) st.state in
     let out = none-told (set_of g.sender) (state_of g.sender) turn.event turn.did (λ path. length ((view_in g.hub).sessions path)) st.event_is st.row (no-more g.dests h.dests turn.did.records told.dests few)
-    (λ number more is. missed-fresh g.hub (set_of g.sender).group.0 (set_of g.sender).path.0 (set_of g.sender).dest.0 number turn.did.calls more first one st.fresh is) in
+    (λ number more is. missed-fresh g.hub (set_of g.sender).group.0 (set_of g.sender).path.0 (set_of g.sender).dest.0 number turn.did.calls more alone first one st.fresh is) in
     let joined : length ((view_in h.hub).sessions h.sender.set.path.0) ≡ length ((view_in g.hub).sessions g.sender.set.path.0) =
     ap (λ (s : ℕ → List Session). length (s h.sender.set.path.0)) st.sessions ∙ ap (λ (x : TxSet). length ((view_in g.hub).sessions x.path.0)) st.set in
     record { live = ap (λ (s : TxState). s.live) st.state ∙ out.0; joined = omega (arith, joined, next, out.1) }
@@ -140,6 +140,8 @@ finishes g k h clock last seen answers next told in_time quiet at first ends ove
     let S : List (List ℕ) → Type 0 = λ groups. Joint groups (view_in h.hub) × IsWordOf groups 0 (view_in h.hub) told.report.pool.changes told.report.pool.free in
     let pool : J (view_of (end ∷ works)) = subst J all.pool.view_is (subst S all.pool.groups (tells.joint, tells.word)) in
     let O : View → Type 0 = λ v. AreInOrder v.changes in
+    let I : List (List ℕ) → Type 0 = λ groups. Joint groups (view_in h.hub) × AreInOrder (changes_in groups 0 (view_in h.hub)) in
+    let sorted : I ((BUFFER_CELLS ∷ []) ∷ []) = subst I all.pool.groups (tells.joint, tells.in_order) in
     let path : h.sender.set.path.0 ≡ g.machines.rx.path.0 = ap (λ (x : TxSet). x.path.0) tx.set ∙ ap (λ (p : PathNo). p.0) g.machines.are.same_path in
     let count : length ((view_in h.hub).sessions h.sender.set.path.0) ≡ length ((view_of (end ∷ works)).sessions g.machines.rx.path.0) =
     ap (λ (p : ℕ). length ((view_in h.hub).sessions p)) path ∙ ap (λ (v : View). length (v.sessions g.machines.rx.path.0)) all.pool.view_is in
@@ -168,7 +170,7 @@ finishes g k h clock last seen answers next told in_time quiet at first ends ove
         sent = tx.happened;
         joint = pool.0;
         word = pool.1;
-        in_order = subst O all.pool.view_is (subst AreInOrder (same h.hub.sizes.items (view_in h.hub) tells.joint) tells.in_order);
+        in_order = subst O all.pool.view_is (subst AreInOrder (same (BUFFER_CELLS ∷ []) (view_in h.hub) sorted.0) sorted.1);
       };
       tells = same-told _ _ _ _ _ _ _ _ _ told seen answers (append-nil (came_by frames_in (turns_of works)) ∙ at.seen_is) (end-answers last out.more (moments_of works) out.only ∙ at.answers_is)
           (tells.controls ∙ rx.controls_are) (tells.frames ∙ tx.frames_are) (tells.sessions ∙ rx.sessions_are) (tells.dests ∙ tx.dests_are) (tells.moves ∙ all.pool.moves_are) refl refl;

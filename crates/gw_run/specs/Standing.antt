@@ -5,6 +5,7 @@ use Rattle.tp_sender.specs.Runs.{HasSent, controls_in, box_after, clear_from, le
 use Rattle.tp_sender.specs.Port.{Knows as KnowsPort}
 use Rattle.tp_receiver.specs.Port.{Knows}
 use Rattle.tp_receiver.specs.State.{WaitsBy, state_of as receiver_state, RxTurn, rx_new}
+use Rattle.hub_core.specs.HubPort.{groups_of}
 use Rattle.hub_core.specs.Moves.{move_of}
 use Rattle.tp_receiver.specs.Runs.{HasReceived, frames_in}
 use Rattle.hub_core.specs.Turns.{AreFreshTurns, calls_by, now_of, came_by, state_after, records_by}
@@ -49,9 +50,9 @@ abbrev pub FitsIn : Shape → Option Meaning → Type 0
 FitsIn shape None = Unit {0}
 FitsIn shape (Some meaning) = fits_shape shape meaning ≡ true
 
--- the cells of the hub's buffers, which are one group
+-- the cells of the hub's buffers, group by group
 abbrev pub groups_in : PlainHub → List (List ℕ)
-groups_in hub = hub.sizes.items ∷ []
+groups_in hub = groups_of hub
 
 -- what the hub did and saw
 abbrev pub view_in : PlainHub → View

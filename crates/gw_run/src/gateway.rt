@@ -64,7 +64,7 @@ impl Gateway {
     {
         Ok(Gateway {
             machines: *machines,
-            hub: PlainHub::new(alloc, &[BUFFER_CELLS])?,
+            hub: PlainHub::new(alloc, &[BUFFER_CELLS], &[1])?,
             receiver: Receiver::new(machines.rx),
             control: None,
             sender: Sender::new(machines.tx),

@@ -5,29 +5,30 @@ use Rattle.std.proofs.lemmas.Bool.Decides.{eqb_tells}
 use Rattle.std.proofs.lemmas.Option.{same_Some, slice_get_within}
 use Rattle.std.specs.Prelude.{◌||◌, nat_lt, if◌then◌else◌, slice_get, slice_set, option_map, sum_by}
 use Rattle.hub_core.proofs.Growing.{session-changed, reading-changed, by-closed}
-use Rattle.hub_core.proofs.Ledger.{in-group, led-twice, lawful, order, one-journal, led-closed, led-parted}
+use Rattle.hub_core.proofs.Grouped.{pushed-same}
+use Rattle.hub_core.proofs.Ledger.{led-twice, lawful, order, led-closed, led-parted}
 use Rattle.hub_core.proofs.Led.{closed-may, parted-may}
 use Rattle.hub_core.proofs.Numbered.{numbered-new, within}
 use Rattle.hub_core.proofs.Owning.{GoOn, SameTake, same-take, on-session, on-reading}
 use Rattle.hub_core.proofs.Places.{reading-now}
+use Rattle.hub_core.proofs.Pools.{AreWords, words-pushed}
 use Rattle.hub_core.proofs.Rows.{set-here, set-else, sum-set, freed-on, freed-still, IsOnlyAt, only-session, only-reading, swapped, one-place, row-on-session, row-on-reading, AreKept, kept-session, kept-sessions, words-on, lengths-by}
-use Rattle.hub_core.proofs.Shown.{IsShown, session-call, reading-call, writer-stays, reader-session, reader-stays, row-sight, row-position}
+use Rattle.hub_core.proofs.Shown.{session-call, reading-call, writer-stays, reader-session, reader-stays, row-sight, row-position}
 use Rattle.hub_core.proofs.Sure.{NotNot}
-use Rattle.hub_core.proofs.Taking.{free-pushed}
-use Rattle.hub_core.specs.Plain.{free_now}
 use Rattle.gw_base.specs.declared.numbers.BufNo.{BufNo}
 use Rattle.hub_core.specs.Calls.{path_of, seq_of, buf_of, freed_by, left_of}
 use Rattle.hub_core.specs.Core.{IsLed, MayDo, Does, Frees, after}
 use Rattle.hub_core.specs.Joint.{IsFreed}
-use Rattle.hub_core.specs.Groups.{group_of, place_of, journal_of}
+use Rattle.hub_core.specs.Groups.{group_of, place_of, journal_of, changes_in, free_in}
 use Rattle.hub_core.specs.Journal.{ChangesBuf, numbered}
 use Rattle.hub_core.specs.Joint.{HasLeft, IsOver}
-use Rattle.hub_core.specs.Plain.{session_in, reserved, taken, sight_of, sight_in, standing, position_of, counts_one, readers_to, IsRowOf, IsEndOf, left_by}
+use Rattle.hub_core.specs.Plain.{IsShown, session_in, reserved, taken, sight_of, sight_in, standing, position_of, counts_one, readers_to, IsRowOf, IsEndOf, left_by}
 use Rattle.hub_core.specs.Tokens.{Writes, Reads, TakesPart}
-use Rattle.hub_core.specs.View.{View, Change, Taken, Freed, Taking, Session, Reading, Event, session_at, reading_at, grow, Closed, Parted}
+use Rattle.hub_core.specs.View.{View, Change, Freed, Taking, Session, Reading, Event, session_at, reading_at, grow, Closed, Parted}
 use Rattle.hub_core.specs.declared.place.Place.{Place}
 use Rattle.hub_core.specs.declared.place.Place.TheVariants.{Free, Occupied}
 use Rattle.hub_core.specs.declared.place.Row.{Row}
+use Rattle.hub_core.specs.declared.pool.Pool.{Pool}
 use Rattle.hub_core.specs.declared.port.Left.{Left}
 use Rattle.hub_core.specs.declared.port.Left.TheVariants.{Others, Last}
 use Rattle.hub_core.specs.declared.token.End.{End}
@@ -115,16 +116,12 @@ module _ (w : View) (buf path seq : ℕ) (row : Row) (s : Session) (shown : IsRo
       }
 
 -- the free of the buffer after the last party's leave may happen
-led-last : (sizes : List ℕ) (v : View) (event : Event) (number buf path seq : ℕ) (s t : Session) (w : View) → IsLed (sizes ∷ []) v → MayDo v event → w ≡ after (Frees number buf) (after (Does event) v) →
+led-last : (groups : List (List ℕ)) (v : View) (event : Event) (number buf path seq : ℕ) (s t : Session) (w : View) → IsLed groups v → MayDo v event → w ≡ after (Frees number buf) (after (Does event) v) →
     (grow event v).changes ≡ v.changes → session_at v path seq ≡ Some s → (IsOver v path seq s → ⊥) → session_at (grow event v) path seq ≡ Some t → SameTake s t → s.buf ≡ buf → IsOver (grow event v) path seq t →
-    number ≡ length v.changes + 1 → IsLed (sizes ∷ []) w
-led-last sizes v event number buf path seq s t w led may next same at stays there take own over new = led-twice (sizes ∷ []) (Does event) (Frees number buf) v w next (λ l. may) (λ l later.
-    let its = in-group sizes s.buf s.size (l.owned.taken path seq s at).size_is in
-    let first : group_of (sizes ∷ []) buf ≡ 0 = ap (group_of (sizes ∷ [])) (sym own) ∙ its.0 in
-    let long : length (journal_of (sizes ∷ []) (group_of (sizes ∷ []) buf) (grow event v).changes) ≡ length v.changes =
-    ap (λ (x : ℕ × List Change). length (journal_of (sizes ∷ []) x.0 x.1)) (λ i. (first i, same i)) ∙ ap (λ (c : List Change). length c) (one-journal sizes v led) in
+    number ≡ length (changes_in groups (group_of groups buf) v) + 1 → IsLed groups w
+led-last groups v event number buf path seq s t w led may next same at stays there take own over new = led-twice groups (Does event) (Frees number buf) v w next (λ l. may) (λ l later.
     record {
-      next = omega (arith, new, long);
+      next = new ∙ ap (λ (c : List Change). length (journal_of groups (group_of groups buf) c) + 1) (sym same);
       path = path;
       seq = seq;
       session = t;
@@ -133,37 +130,40 @@ led-last sizes v event number buf path seq s t w led may next same at stays ther
       over = over;
       last = λ other changed. elim (l.owned.turn path seq s at) [
         | inl last ↦
-            let before : ChangesBuf (journal_of (sizes ∷ []) (group_of (sizes ∷ []) s.buf) v.changes) (place_of (sizes ∷ []) s.buf) other =
-            subst (λ (x : List Change × ℕ). ChangesBuf (journal_of (sizes ∷ []) (group_of (sizes ∷ []) x.1) x.0) (place_of (sizes ∷ []) x.1) other) (λ i. (same i, sym own i)) changed in
+            let before : ChangesBuf (journal_of groups (group_of groups s.buf) v.changes) (place_of groups s.buf) other =
+            subst (λ (x : List Change × ℕ). ChangesBuf (journal_of groups (group_of groups x.1) x.0) (place_of groups x.1) other) (λ i. (same i, sym own i)) changed in
             omega (arith, last other before, take.number)
         | inr gone ↦ absurd (stays gone.0)
       ];
     }) led
 
 -- after it the buffer is freed
-freed-now : (sizes : List ℕ) (v w : View) (number buf path seq : ℕ) (s t : Session) → IsLed (sizes ∷ []) v → IsLed (sizes ∷ []) w → session_at v path seq ≡ Some s → SameTake s t → s.buf ≡ buf →
-    w.changes ≡ v.changes ++ Freed number buf ∷ [] → number ≡ length v.changes + 1 → NotNot (IsFreed (sizes ∷ []) w t)
-freed-now sizes v w number buf path seq s t led later at take own changes new not = lawful sizes v led (λ l. lawful sizes w later (λ m.
-    let takes = l.owned.taken path seq s at in
-    let its = in-group sizes s.buf s.size takes.size_is in
-    let group : group_of (sizes ∷ []) t.buf ≡ 0 = ap (group_of (sizes ∷ [])) take.buf ∙ its.0 in
-    let place : place_of (sizes ∷ []) t.buf ≡ buf = ap (place_of (sizes ∷ [])) take.buf ∙ its.1 ∙ own in
-    let mine : numbered v.changes s.number ≡ Some (Taken s.number (place_of (sizes ∷ []) s.buf) takes.need) =
-    ap (λ (c : List Change). numbered c s.number) (sym (ap (λ (g : ℕ). journal_of (sizes ∷ []) g v.changes) its.0 ∙ one-journal sizes v led)) ∙ takes.take in
-    let low = (within v.changes s.number _ (order sizes v led) mine).1 in
+freed-now : (groups : List (List ℕ)) (v w : View) (number buf path seq : ℕ) (s t : Session) → IsLed groups v → session_at v path seq ≡ Some s → SameTake s t → s.buf ≡ buf →
+    w.changes ≡ v.changes ++ Freed number buf ∷ [] → number ≡ length (changes_in groups (group_of groups buf) v) + 1 → NotNot (IsFreed groups w t)
+freed-now groups v w number buf path seq s t led at take own changes new not = lawful groups v led (λ l.
+    let mine : List Change = changes_in groups (group_of groups buf) v in
+    let sorted = order groups v led (group_of groups buf) in
+    let low = (within (changes_in groups (group_of groups s.buf) v) s.number _ (order groups v led (group_of groups s.buf)) (l.owned.taken path seq s at).take).1 in
+    let same = ap (λ (b : ℕ). length (changes_in groups (group_of groups b) v)) own in
+    let found = ap (λ (c : List Change). numbered (journal_of groups (group_of groups buf) c) number) changes
+    ∙ ap (λ (c : List Change). numbered c number) (pushed-same groups (group_of groups buf) v.changes (Freed number buf) refl)
+    ∙ numbered-new mine (Freed number (place_of groups buf)) sorted new in
     not (
       number,
-      omega (arith, low, new, take.number),
-      ap (λ (g : ℕ). numbered (journal_of (sizes ∷ []) g w.changes) number) group ∙ ap (λ (c : List Change). numbered c number) (one-journal sizes w later ∙ changes)
-          ∙ numbered-new v.changes (Freed number buf) (order sizes v led) new ∙ ap (λ (p : ℕ). Some (Freed number p)) (sym place),
-    )))
+      omega (arith, low, new, take.number, same),
+      subst (λ (b : ℕ). numbered (journal_of groups (group_of groups b) w.changes) number ≡ Some (Freed number (place_of groups b))) (sym (take.buf ∙ own)) found,
+    ))
+
+-- the word of a buffer's group once it is freed
+abbrev pub pool_freed : List (List ℕ) → View → (buf number : ℕ) → Pool
+pool_freed groups v buf number = record { changes = number; free = free_in groups (group_of groups buf) v + 2 ^ place_of groups buf }
 
 -- after the last party's leave
-freed-call : (sizes : List ℕ) (places new : List Place) (words : List ℕ) (changes free takes : ℕ) (v w : View) (path seq buf number : ℕ) (row : Row) (s : Session) → IsShown sizes places words changes free takes v →
+freed-call : (groups : List (List ℕ)) (places new : List Place) (words : List ℕ) (pools more : List Pool) (takes : ℕ) (v w : View) (path seq buf number : ℕ) (row : Row) (s : Session) → IsShown groups places words pools takes v →
     slice_get places buf ≡ Some (Occupied row) → row.path ≡ path → row.seq ≡ seq → IsOnlyAt path seq v w → GoOn v w → w.held ≡ v.held → AreKept v w → ((p : ℕ) → length (w.sessions p) ≡ length (v.sessions p)) →
-    session_at v path seq ≡ Some s → s.buf ≡ buf → w.changes ≡ v.changes ++ Freed number buf ∷ [] → number ≡ changes + 1 → new ≡ slice_set places buf Free → IsLed (sizes ∷ []) w →
-    IsShown sizes new words number (free + 2 ^ buf) takes w
-freed-call sizes places new words changes free takes v w path seq buf number row s shown is path-is seq-is only on held kept lengths at own grown next set later = record {
+    session_at v path seq ≡ Some s → s.buf ≡ buf → w.changes ≡ v.changes ++ Freed number buf ∷ [] → number ≡ length (changes_in groups (group_of groups buf) v) + 1 → new ≡ slice_set places buf Free →
+    more ≡ slice_set pools (group_of groups buf) (pool_freed groups v buf number) → IsLed groups w → IsShown groups new words more takes w
+freed-call groups places new words pools more takes v w path seq buf number row s shown is path-is seq-is only on held kept lengths at own grown next set words-set later = record {
   places_show = record {
     rows = λ b r there. elim (eqb_tells b buf) [
       | inl same ↦ absurd (not-free b r same.1 there)
@@ -171,7 +171,7 @@ freed-call sizes places new words changes free takes v w path seq buf number row
           let was = sym (others b other.1) ∙ there in
           let old = shown.places_show.rows b r was in
           elim (only r.path r.seq) [
-            | inl hit ↦ absurd (other.1 (one-place sizes places v buf b path seq row r shown.places_show is path-is seq-is was hit.0 hit.1))
+            | inl hit ↦ absurd (other.1 (one-place groups places v buf b path seq row r shown.places_show is path-is seq-is was hit.0 hit.1))
             | inr same ↦ record {
               session = ap (option_map sight_of) same.0 ∙ old.session;
               positions = λ dest below. old.positions dest below ∙ ap (λ (x : Option Session × Option Reading). Some (position_of x.0 dest x.1)) (λ i. (sym same.0 i, sym (same.1 dest) i));
@@ -183,7 +183,7 @@ freed-call sizes places new words changes free takes v w path seq buf number row
       | inr other ↦
           let was = sym (others b other.1) ∙ there in
           elim (only r.path r.seq) [
-            | inl hit ↦ other.1 (one-place sizes places v buf b path seq row r shown.places_show is path-is seq-is was hit.0 hit.1)
+            | inl hit ↦ other.1 (one-place groups places v buf b path seq row r shown.places_show is path-is seq-is was hit.0 hit.1)
             | inr same ↦ shown.places_show.party b r x was (sym same.0 ∙ known) (record { writer = over.writer; dests = λ d below. let gone = over.dests d below in (gone.0, sym (same.1 d) ∙ gone.1, gone.2) })
           ]
     ];
@@ -195,7 +195,7 @@ freed-call sizes places new words changes free takes v w path seq buf number row
               let keys : Some (row.path, row.seq) ≡ Some (p, k) = sym (ap session_in is) ∙ ap (λ (b : ℕ). session_in (slice_get places b)) (sym same.1) ∙ old in
               let parts = Rattle.std.proofs.lemmas.Option.some_pair_parts row.path p row.seq k keys in
               let it : was.0 ≡ s = same_Some was.0 s (sym was.1 ∙ ap (λ (x : ℕ × ℕ). session_at v x.0 x.1) (λ i. ((sym parts.0 ∙ path-is) i, (sym parts.1 ∙ seq-is) i)) ∙ at) in
-              freed-now sizes v w number buf path seq s t shown.led later at (subst (λ (x : Session). SameTake x t) it was.2) own grown number-is unfreed-yet)
+              freed-now groups v w number buf path seq s t shown.led at (subst (λ (x : Session). SameTake x t) it was.2) own grown next unfreed-yet)
           | inr other ↦ ap session_in (others was.0.buf other.1) ∙ old
         ];
     held = λ b t there.
@@ -205,11 +205,10 @@ freed-call sizes places new words changes free takes v w path seq buf number row
           | inr other ↦ ap (option_map reserved) (others b other.1) ∙ old
         ];
   };
-  words_show = words-on sizes words v w kept still shown.words_show;
+  words_show = words-on groups words v w kept still shown.words_show;
   counts = record {
-    changes_are = omega (arith, next, shown.counts.changes_are, ap (λ (l : List Change). length l) grown, length-append v.changes (Freed number buf ∷ []));
-    free_is = ap (λ (x : ℕ). x + 2 ^ buf) shown.counts.free_is ∙ sym (free-pushed sizes v.changes (Freed number buf) (order sizes v shown.led) number-is) ∙ ap (λ (l : List Change). free_now sizes (record v { changes = l })) (sym grown);
-    moves = let sum = sum-set taken places buf (Occupied row) Free is in omega (arith, shown.counts.moves, next, sum, ap (sum_by taken) set);
+    words = subst (AreWords groups more) (sym grown) (words-pushed groups (group_of groups buf) pools more v.changes (Freed number buf) shown.counts.words (order groups v shown.led (group_of groups buf)) refl next words-set);
+    moves = let sum = sum-set taken places buf (Occupied row) Free is in omega (arith, shown.counts.moves, sum, ap (sum_by taken) set, ap (λ (l : List Change). length l) grown, length-append v.changes (Freed number buf ∷ []));
     sessions = λ p. let sum = sum-set reserved places buf (Occupied row) Free is in let h = shown.counts.sessions p in omega (arith, h, lengths p, sum, ap (sum_by reserved) set);
     some = λ p k t there. let was = on.back p k t there in omega (arith, shown.counts.some p k was.0 was.1, was.2.dests);
     dests = λ p k t there. let was = on.back p k t there in omega (arith, shown.counts.dests p k was.0 was.1, was.2.dests);
@@ -226,13 +225,10 @@ freed-call sizes places new words changes free takes v w path seq buf number row
     not-free : (b : ℕ) (r : Row) → b ≡ buf → slice_get new b ≡ Some (Occupied r) → ⊥
     not-free b r same there = let both : Some Free ≡ Some (Occupied r) = sym now ∙ ap (slice_get new) (sym same) ∙ there in absurd cc
 
-    number-is : number ≡ length v.changes + 1
-    number-is = omega (arith, next, shown.counts.changes_are)
+    still : (x y : Session) → SameTake x y → IsFreed groups v x → IsFreed groups w y
+    still x y take freed = freed-still groups (record w { changes = v.changes }) w (Freed number buf) y grown (freed-on groups v (record w { changes = v.changes }) x y refl take freed)
 
-    still : (x y : Session) → SameTake x y → IsFreed (sizes ∷ []) v x → IsFreed (sizes ∷ []) w y
-    still x y take freed = freed-still (sizes ∷ []) (record w { changes = v.changes }) w (Freed number buf) y grown (freed-on (sizes ∷ []) v (record w { changes = v.changes }) x y refl take freed)
-
-module _ (sizes : List ℕ) (places : List Place) (words : List ℕ) (changes free takes : ℕ) (v : View) (shown : IsShown sizes places words changes free takes v) where
+module _ (groups : List (List ℕ)) (places : List Place) (words : List ℕ) (pools : List Pool) (takes : ℕ) (v : View) (shown : IsShown groups places words pools takes v) where
   -- the writer leaves
   module _ (t : Opened) (row next : Row) (new : List Place) (known : Writes v t) (is : slice_get places t.buf.0 ≡ Some (Occupied row)) (path-is : row.path ≡ t.path.0) (seq-is : row.seq ≡ t.seq) (left : next ≡ record row { writes = false }) where
     abbrev leave : Session → Session
@@ -243,7 +239,7 @@ module _ (sizes : List ℕ) (places : List Place) (words : List ℕ) (changes fr
 
     closed-sight : sight_of (leave known.session) ≡ sight_in t.buf.0 next
     closed-sight =
-        let old = row-sight sizes places words changes free takes v shown t.buf.0 t.path.0 t.seq row known.session is path-is seq-is known.known in
+        let old = row-sight groups places words pools takes v shown t.buf.0 t.path.0 t.seq row known.session is path-is seq-is known.known in
         (λ i. (ap (λ (x : ℕ × ℕ × ℕ × ℕ × Bool). x.0) old i, ap (λ (x : ℕ × ℕ × ℕ × ℕ × Bool). x.1) old i, ap (λ (x : ℕ × ℕ × ℕ × ℕ × Bool). x.2) old i, ap (λ (x : ℕ × ℕ × ℕ × ℕ × Bool). x.3) old i, false))
         ∙ ap (sight_in t.buf.0) (sym left)
 
@@ -255,30 +251,29 @@ module _ (sizes : List ℕ) (places : List Place) (words : List ℕ) (changes fr
     unfolding grow
     closed-row freed = row-on-session t.path.0 t.seq leave v (grow (Closed t.path.0 t.seq freed) v) t.buf.0 row next known.session refl refl (shown.places_show.rows t.buf.0 row is) path-is seq-is (ap (λ (r : Row). r.path) left) (ap (λ (r : Row). r.seq) left) (ap (λ (r : Row). r.positions) left) known.known closed-sight refl
 
-    pub after-closed : new ≡ slice_set places t.buf.0 (Occupied next) → (next.writes || nat_lt 0 (readers_to next.positions 8)) ≡ true → MayDo v (Closed t.path.0 t.seq []) → IsShown sizes new words changes free takes (grow (Closed t.path.0 t.seq []) v)
+    pub after-closed : new ≡ slice_set places t.buf.0 (Occupied next) → (next.writes || nat_lt 0 (readers_to next.positions 8)) ≡ true → MayDo v (Closed t.path.0 t.seq []) → IsShown groups new words pools takes (grow (Closed t.path.0 t.seq []) v)
     unfolding grow
     after-closed set party may =
         let w : View = grow (Closed t.path.0 t.seq []) v in
-        session-call sizes places new words words changes free takes v w t.path.0 t.seq t.buf.0 leave row next known.session shown
+        session-call groups places new words words pools takes v w t.path.0 t.seq t.buf.0 leave row next known.session shown
         (swapped places new t.buf.0 row next is set (ap (λ (r : Row). r.path) left) (ap (λ (r : Row). r.seq) left)) path-is seq-is refl refl refl (append-nil v.changes) (by-closed t.path.0 t.seq [] v w refl) closed-take
         (ap (λ (r : Row). r.positions) left) known.known closed-sight
         (λ x at over. not-over w t.buf.0 t.path.0 t.seq next x (closed-row []) (ap (λ (r : Row). r.path) left ∙ path-is) (ap (λ (r : Row). r.seq) left ∙ seq-is) at party over)
-        (words-on sizes words v w (kept-session t.path.0 t.seq leave v w refl closed-take (λ s. refl)) (λ s x same freed. freed-on (sizes ∷ []) v w s x (append-nil v.changes) same freed) shown.words_show)
-        (led-closed sizes v shown.led t.path.0 t.seq may)
+        (words-on groups words v w (kept-session t.path.0 t.seq leave v w refl closed-take (λ s. refl)) (λ s x same freed. freed-on groups v w s x (append-nil v.changes) same freed) shown.words_show)
+        (led-closed groups v shown.led t.path.0 t.seq may)
 
-    pub after-closed-last : (number : ℕ) → new ≡ slice_set places t.buf.0 Free → (next.writes || nat_lt 0 (readers_to next.positions 8)) ≡ false → number ≡ changes + 1 → MayDo v (Closed t.path.0 t.seq []) →
-        IsShown sizes new words number (free + 2 ^ t.buf.0) takes (grow (Closed t.path.0 t.seq (Freed number t.buf.0 ∷ [])) v)
+    pub after-closed-last : (number : ℕ) (more : List Pool) → new ≡ slice_set places t.buf.0 Free → more ≡ slice_set pools (group_of groups t.buf.0) (pool_freed groups v t.buf.0 number) → (next.writes || nat_lt 0 (readers_to next.positions 8)) ≡ false → number ≡ length (changes_in groups (group_of groups t.buf.0) v) + 1 → MayDo v (Closed t.path.0 t.seq []) →
+        IsShown groups new words more takes (grow (Closed t.path.0 t.seq (Freed number t.buf.0 ∷ [])) v)
     unfolding grow
-    after-closed-last number set none is-next may =
+    after-closed-last number more set words-set none is-next may =
         let w : View = grow (Closed t.path.0 t.seq (Freed number t.buf.0 ∷ [])) v in
         let few = shown.counts.dests t.path.0 t.seq known.session known.known in
-        freed-call sizes places new words changes free takes v w t.path.0 t.seq t.buf.0 number row known.session shown is path-is seq-is (only-session t.path.0 t.seq leave v w refl refl) (on-session t.path.0 t.seq leave v w refl refl closed-take) refl
-        (kept-session t.path.0 t.seq leave v w refl closed-take (λ s. refl)) (lengths-by t.path.0 v w (by-closed t.path.0 t.seq (Freed number t.buf.0 ∷ []) v w refl)) known.known known.says.buf refl is-next set
-        (led-last sizes v (Closed t.path.0 t.seq []) number t.buf.0 t.path.0 t.seq known.session (leave known.session) w shown.led may
+        freed-call groups places new words pools more takes v w t.path.0 t.seq t.buf.0 number row known.session shown is path-is seq-is (only-session t.path.0 t.seq leave v w refl refl) (on-session t.path.0 t.seq leave v w refl refl closed-take) refl
+        (kept-session t.path.0 t.seq leave v w refl closed-take (λ s. refl)) (lengths-by t.path.0 v w (by-closed t.path.0 t.seq (Freed number t.buf.0 ∷ []) v w refl)) known.known known.says.buf refl is-next set words-set
+        (led-last groups v (Closed t.path.0 t.seq []) number t.buf.0 t.path.0 t.seq known.session (leave known.session) w shown.led may
         (ap (λ (l : List Change). let x : View = grow (Closed t.path.0 t.seq []) v in record x { changes = l ++ Freed number t.buf.0 ∷ [] }) (sym (append-nil v.changes)))
-        (append-nil v.changes) known.known (writer-stays sizes places words changes free takes v shown t known) (closed-now []) (closed-take known.session) known.says.buf
-        (is-over (grow (Closed t.path.0 t.seq []) v) t.buf.0 t.path.0 t.seq next (leave known.session) (closed-row []) (ap (λ (r : Row). r.path) left ∙ path-is) (ap (λ (r : Row). r.seq) left ∙ seq-is) (closed-now []) few none)
-        (omega (arith, is-next, shown.counts.changes_are)))
+        (append-nil v.changes) known.known (writer-stays groups places words pools takes v shown t known) (closed-now []) (closed-take known.session) known.says.buf
+        (is-over (grow (Closed t.path.0 t.seq []) v) t.buf.0 t.path.0 t.seq next (leave known.session) (closed-row []) (ap (λ (r : Row). r.path) left ∙ path-is) (ap (λ (r : Row). r.seq) left ∙ seq-is) (closed-now []) few none) is-next)
 
     pub closed-over : (freed : List Change) → (next.writes || nat_lt 0 (readers_to next.positions 8)) ≡ false → (s : Session) → session_at (grow (Closed t.path.0 t.seq freed) v) t.path.0 t.seq ≡ Some s → IsOver (grow (Closed t.path.0 t.seq freed) v) t.path.0 t.seq s
     closed-over freed none s at =
@@ -292,7 +287,7 @@ module _ (sizes : List ℕ) (places : List Place) (words : List ℕ) (changes fr
     part = λ r. record r { stands = false }
 
     its : (s : Session) × (session_at v t.path.0 t.seq ≡ Some s) × Rattle.hub_core.specs.Joint.IsStream s known.reading × (t.dest.0 < s.dests)
-    its = reader-session sizes places words changes free takes v shown t known
+    its = reader-session groups places words pools takes v shown t known
 
     few : t.dest.0 < 8
     few = let most = shown.counts.dests t.path.0 t.seq its.0 its.1 in omega (arith, most, its.3)
@@ -311,7 +306,7 @@ module _ (sizes : List ℕ) (places : List Place) (words : List ℕ) (changes fr
     parted-mine : slice_get next.positions t.dest.0 ≡ Some (position_of (Some its.0) t.dest.0 (Some (part known.reading)))
     parted-mine =
         ap (λ (r : Row). slice_get r.positions t.dest.0) left
-        ∙ set-here row.positions t.dest.0 None (slice_get_within row.positions t.dest.0 _ (row-position sizes places words changes free takes v shown t.buf.0 t.path.0 t.seq t.dest.0 row its.0 is path-is seq-is its.1 few))
+        ∙ set-here row.positions t.dest.0 None (slice_get_within row.positions t.dest.0 _ (row-position groups places words pools takes v shown t.buf.0 t.path.0 t.seq t.dest.0 row its.0 is path-is seq-is its.1 few))
         ∙ ap (λ (b : Bool). Some (if b then None else None)) (sym (lt-ltb t.dest.0 its.0.dests its.3))
 
     parted-row : (freed : List Change) → IsRowOf (grow (Parted t.path.0 t.dest.0 t.seq freed) v) t.buf.0 next
@@ -319,31 +314,30 @@ module _ (sizes : List ℕ) (places : List Place) (words : List ℕ) (changes fr
     parted-row freed = row-on-reading t.path.0 t.dest.0 t.seq v (grow (Parted t.path.0 t.dest.0 t.seq freed) v) t.buf.0 row next its.0 (part known.reading) refl (parted-beside freed) (parted-own freed) (shown.places_show.rows t.buf.0 row is) path-is seq-is
         (ap (λ (r : Row). r.path) left) (ap (λ (r : Row). r.seq) left) (ap (sight_in t.buf.0) left) parted-others its.1 parted-mine
 
-    pub after-parted : new ≡ slice_set places t.buf.0 (Occupied next) → (next.writes || nat_lt 0 (readers_to next.positions 8)) ≡ true → MayDo v (Parted t.path.0 t.dest.0 t.seq []) → IsShown sizes new words changes free takes (grow (Parted t.path.0 t.dest.0 t.seq []) v)
+    pub after-parted : new ≡ slice_set places t.buf.0 (Occupied next) → (next.writes || nat_lt 0 (readers_to next.positions 8)) ≡ true → MayDo v (Parted t.path.0 t.dest.0 t.seq []) → IsShown groups new words pools takes (grow (Parted t.path.0 t.dest.0 t.seq []) v)
     unfolding grow
     after-parted set party may =
         let w : View = grow (Parted t.path.0 t.dest.0 t.seq []) v in
-        reading-call sizes places new words changes free takes v w t.path.0 t.dest.0 t.seq t.buf.0 row next its.0 (part known.reading) shown
+        reading-call groups places new words pools takes v w t.path.0 t.dest.0 t.seq t.buf.0 row next its.0 (part known.reading) shown
         (swapped places new t.buf.0 row next is set (ap (λ (r : Row). r.path) left) (ap (λ (r : Row). r.seq) left)) path-is seq-is refl
         (on-reading t.path.0 t.dest.0 t.seq part known.reading v w refl refl known.known known.says.stands) (only-reading t.path.0 t.dest.0 t.seq part v w refl refl) refl (append-nil v.changes) (parted-beside []) (parted-own [])
         (ap (sight_in t.buf.0) left) parted-others its.1 parted-mine
         (λ x at over. not-over w t.buf.0 t.path.0 t.seq next x (parted-row []) (ap (λ (r : Row). r.path) left ∙ path-is) (ap (λ (r : Row). r.seq) left ∙ seq-is) at party over)
-        (led-parted sizes v shown.led t.path.0 t.dest.0 t.seq may)
+        (led-parted groups v shown.led t.path.0 t.dest.0 t.seq may)
 
-    pub after-parted-last : (number : ℕ) → new ≡ slice_set places t.buf.0 Free → (next.writes || nat_lt 0 (readers_to next.positions 8)) ≡ false → number ≡ changes + 1 → MayDo v (Parted t.path.0 t.dest.0 t.seq []) →
-        IsShown sizes new words number (free + 2 ^ t.buf.0) takes (grow (Parted t.path.0 t.dest.0 t.seq (Freed number t.buf.0 ∷ [])) v)
+    pub after-parted-last : (number : ℕ) (more : List Pool) → new ≡ slice_set places t.buf.0 Free → more ≡ slice_set pools (group_of groups t.buf.0) (pool_freed groups v t.buf.0 number) → (next.writes || nat_lt 0 (readers_to next.positions 8)) ≡ false → number ≡ length (changes_in groups (group_of groups t.buf.0) v) + 1 → MayDo v (Parted t.path.0 t.dest.0 t.seq []) →
+        IsShown groups new words more takes (grow (Parted t.path.0 t.dest.0 t.seq (Freed number t.buf.0 ∷ [])) v)
     unfolding grow
-    after-parted-last number set none is-next may =
+    after-parted-last number more set words-set none is-next may =
         let w : View = grow (Parted t.path.0 t.dest.0 t.seq (Freed number t.buf.0 ∷ [])) v in
         let most = shown.counts.dests t.path.0 t.seq its.0 its.1 in
         let own : its.0.buf ≡ t.buf.0 = sym its.2.buf ∙ known.says.buf in
-        freed-call sizes places new words changes free takes v w t.path.0 t.seq t.buf.0 number row its.0 shown is path-is seq-is (only-reading t.path.0 t.dest.0 t.seq part v w refl refl) (on-reading t.path.0 t.dest.0 t.seq part known.reading v w refl refl known.known known.says.stands) refl
-        (kept-sessions v w refl) (λ p. refl) its.1 own refl is-next set
-        (led-last sizes v (Parted t.path.0 t.dest.0 t.seq []) number t.buf.0 t.path.0 t.seq its.0 its.0 w shown.led may
+        freed-call groups places new words pools more takes v w t.path.0 t.seq t.buf.0 number row its.0 shown is path-is seq-is (only-reading t.path.0 t.dest.0 t.seq part v w refl refl) (on-reading t.path.0 t.dest.0 t.seq part known.reading v w refl refl known.known known.says.stands) refl
+        (kept-sessions v w refl) (λ p. refl) its.1 own refl is-next set words-set
+        (led-last groups v (Parted t.path.0 t.dest.0 t.seq []) number t.buf.0 t.path.0 t.seq its.0 its.0 w shown.led may
         (ap (λ (l : List Change). let x : View = grow (Parted t.path.0 t.dest.0 t.seq []) v in record x { changes = l ++ Freed number t.buf.0 ∷ [] }) (sym (append-nil v.changes)))
-        (append-nil v.changes) its.1 (reader-stays sizes places words changes free takes v shown t known its.0 its.3) its.1 (same-take its.0) own
-        (is-over (grow (Parted t.path.0 t.dest.0 t.seq []) v) t.buf.0 t.path.0 t.seq next its.0 (parted-row []) (ap (λ (r : Row). r.path) left ∙ path-is) (ap (λ (r : Row). r.seq) left ∙ seq-is) its.1 most none)
-        (omega (arith, is-next, shown.counts.changes_are)))
+        (append-nil v.changes) its.1 (reader-stays groups places words pools takes v shown t known its.0 its.3) its.1 (same-take its.0) own
+        (is-over (grow (Parted t.path.0 t.dest.0 t.seq []) v) t.buf.0 t.path.0 t.seq next its.0 (parted-row []) (ap (λ (r : Row). r.path) left ∙ path-is) (ap (λ (r : Row). r.seq) left ∙ seq-is) its.1 most none) is-next)
 
     parted-session : (freed : List Change) → session_at (grow (Parted t.path.0 t.dest.0 t.seq freed) v) t.path.0 t.seq ≡ Some its.0
     unfolding grow
@@ -358,27 +352,27 @@ module _ (sizes : List ℕ) (places : List Place) (words : List ℕ) (changes fr
   -- whoever leaves
   pub party-below : (end : End) → TakesPart v end → IsEndOf end
   party-below (Write t) known = tt
-  party-below (Read t) known = let its = reader-session sizes places words changes free takes v shown t known in omega (arith, its.3, shown.counts.dests t.path.0 t.seq its.0 its.1)
+  party-below (Read t) known = let its = reader-session groups places words pools takes v shown t known in omega (arith, its.3, shown.counts.dests t.path.0 t.seq its.0 its.1)
 
   module _ (end : End) (row next : Row) (new : List Place) (known : TakesPart v end) (is : slice_get places (buf_of end) ≡ Some (Occupied row)) (path-is : row.path ≡ path_of end) (seq-is : row.seq ≡ seq_of end) (left : next ≡ left_by end row) where
-    pub after-left : new ≡ slice_set places (buf_of end) (Occupied next) → (next.writes || nat_lt 0 (readers_to next.positions 8)) ≡ true → IsShown sizes new words changes free takes (grow (left_of end Others) v)
+    pub after-left : new ≡ slice_set places (buf_of end) (Occupied next) → (next.writes || nat_lt 0 (readers_to next.positions 8)) ≡ true → IsShown groups new words pools takes (grow (left_of end Others) v)
     after-left = by-end end known is path-is seq-is left
       where
         by-end : (e : End) → TakesPart v e → slice_get places (buf_of e) ≡ Some (Occupied row) → row.path ≡ path_of e → row.seq ≡ seq_of e → next ≡ left_by e row → new ≡ slice_set places (buf_of e) (Occupied next) →
-            (next.writes || nat_lt 0 (readers_to next.positions 8)) ≡ true → IsShown sizes new words changes free takes (grow (left_of e Others) v)
+            (next.writes || nat_lt 0 (readers_to next.positions 8)) ≡ true → IsShown groups new words pools takes (grow (left_of e Others) v)
         by-end (Write t) known is path-is seq-is left set party = after-closed t row next new known is path-is seq-is left set party (closed-may v t known)
         by-end (Read t) known is path-is seq-is left set party = after-parted t row next new known is path-is seq-is left set party (parted-may v t known)
 
-    pub after-left-last : (number : ℕ) (buf : BufNo) → buf.0 ≡ buf_of end → new ≡ slice_set places (buf_of end) Free → (next.writes || nat_lt 0 (readers_to next.positions 8)) ≡ false → number ≡ changes + 1 →
-        IsShown sizes new words number (free + 2 ^ buf_of end) takes (grow (left_of end (Last number buf)) v)
+    pub after-left-last : (number : ℕ) (buf : BufNo) (more : List Pool) → buf.0 ≡ buf_of end → new ≡ slice_set places (buf_of end) Free → more ≡ slice_set pools (group_of groups (buf_of end)) (pool_freed groups v (buf_of end) number) → (next.writes || nat_lt 0 (readers_to next.positions 8)) ≡ false → number ≡ length (changes_in groups (group_of groups (buf_of end)) v) + 1 →
+        IsShown groups new words more takes (grow (left_of end (Last number buf)) v)
     after-left-last = by-end end known is path-is seq-is left
       where
-        by-end : (e : End) → TakesPart v e → slice_get places (buf_of e) ≡ Some (Occupied row) → row.path ≡ path_of e → row.seq ≡ seq_of e → next ≡ left_by e row → (number : ℕ) (buf : BufNo) → buf.0 ≡ buf_of e → new ≡ slice_set places (buf_of e) Free →
-            (next.writes || nat_lt 0 (readers_to next.positions 8)) ≡ false → number ≡ changes + 1 → IsShown sizes new words number (free + 2 ^ buf_of e) takes (grow (left_of e (Last number buf)) v)
-        by-end (Write t) known is path-is seq-is left number buf own set none is-next =
-            subst (λ (b : ℕ). IsShown sizes new words number (free + 2 ^ t.buf.0) takes (grow (Closed t.path.0 t.seq (Freed number b ∷ [])) v)) (sym own) (after-closed-last t row next new known is path-is seq-is left number set none is-next (closed-may v t known))
-        by-end (Read t) known is path-is seq-is left number buf own set none is-next =
-            subst (λ (b : ℕ). IsShown sizes new words number (free + 2 ^ t.buf.0) takes (grow (Parted t.path.0 t.dest.0 t.seq (Freed number b ∷ [])) v)) (sym own) (after-parted-last t row next new known is path-is seq-is left number set none is-next (parted-may v t known))
+        by-end : (e : End) → TakesPart v e → slice_get places (buf_of e) ≡ Some (Occupied row) → row.path ≡ path_of e → row.seq ≡ seq_of e → next ≡ left_by e row → (number : ℕ) (buf : BufNo) (more : List Pool) → buf.0 ≡ buf_of e → new ≡ slice_set places (buf_of e) Free → more ≡ slice_set pools (group_of groups (buf_of e)) (pool_freed groups v (buf_of e) number) →
+            (next.writes || nat_lt 0 (readers_to next.positions 8)) ≡ false → number ≡ length (changes_in groups (group_of groups (buf_of e)) v) + 1 → IsShown groups new words more takes (grow (left_of e (Last number buf)) v)
+        by-end (Write t) known is path-is seq-is left number buf more own set words-set none is-next =
+            subst (λ (b : ℕ). IsShown groups new words more takes (grow (Closed t.path.0 t.seq (Freed number b ∷ [])) v)) (sym own) (after-closed-last t row next new known is path-is seq-is left number more set words-set none is-next (closed-may v t known))
+        by-end (Read t) known is path-is seq-is left number buf more own set words-set none is-next =
+            subst (λ (b : ℕ). IsShown groups new words more takes (grow (Parted t.path.0 t.dest.0 t.seq (Freed number b ∷ [])) v)) (sym own) (after-parted-last t row next new known is path-is seq-is left number more set words-set none is-next (parted-may v t known))
 
     pub left-over : (last : Left) → (next.writes || nat_lt 0 (readers_to next.positions 8)) ≡ false → (s : Session) → session_at (grow (left_of end last) v) (path_of end) (seq_of end) ≡ Some s → IsOver (grow (left_of end last) v) (path_of end) (seq_of end) s
     left-over = by-end end known is path-is seq-is left

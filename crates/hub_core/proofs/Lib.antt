@@ -1,5 +1,6 @@
 mod Beginnings
 mod Bits
+mod Cut
 mod EveryStep
 mod Grouped
 mod Leaving
@@ -8,6 +9,7 @@ mod Looks
 mod Merging
 mod Owning
 mod Places
+mod Pools
 pub mod Quiet
 mod Rows
 mod Scans

@@ -6,21 +6,24 @@ use Rattle.std.proofs.lemmas.Option.{same_Some, slice_get_within, slice_get_past
 use Rattle.std.specs.Prelude.{nat_lt, if◌then◌else◌, slice_get, get_or}
 use Rattle.gw_base.proofs.Lists.{there-at}
 use Rattle.gw_base.specs.Cell.{IsCell, count_of, counted}
+use Rattle.hub_core.proofs.Cut.{all-there}
 use Rattle.hub_core.proofs.Leaving.{stands-there}
 use Rattle.hub_core.proofs.Ledger.{streams, roomy, unfreed, session-size, freed-or}
 use Rattle.hub_core.proofs.Led.{led}
 use Rattle.hub_core.proofs.Rows.{occupied, sighted}
-use Rattle.hub_core.proofs.Shown.{IsShown, reader-session, reader-stays, row-sight, row-position}
+use Rattle.hub_core.proofs.Shown.{reader-session, reader-stays, row-sight, row-position}
 use Rattle.hub_core.specs.Alone.{IsRoomOf, IsNextOf, IsSeenOf}
+use Rattle.hub_core.specs.Groups.{group_of, all_sizes}
 use Rattle.hub_core.specs.Joint.{IsQuiet}
 use Rattle.hub_core.specs.Floors.{IsFresh, floors_of, staying, has_left, number_in}
 use Rattle.hub_core.specs.Joint.{Joint, HasLeft, IsOver, position}
-use Rattle.hub_core.specs.Plain.{session_in, sight_of, sight_in, standing, position_of, counts_one, readers_to, IsRoomTo, AreWithin, IsPlaceOf, start_of}
+use Rattle.hub_core.specs.Plain.{IsShown, session_in, sight_of, sight_in, standing, position_of, counts_one, readers_to, IsRoomTo, AreWithin, start_of}
 use Rattle.hub_core.specs.Tokens.{Writes, Reads}
 use Rattle.hub_core.specs.View.{View, Session, Reading, session_at, reading_at, Saw}
 use Rattle.hub_core.specs.declared.place.Place.{Place}
 use Rattle.hub_core.specs.declared.place.Place.TheVariants.{Occupied}
 use Rattle.hub_core.specs.declared.place.Row.{Row}
+use Rattle.hub_core.specs.declared.pool.Pool.{Pool}
 use Rattle.hub_core.specs.declared.port.Room.{Room}
 use Rattle.hub_core.specs.declared.token.Joined.{Joined}
 use Rattle.hub_core.specs.declared.token.Opened.{Opened}
@@ -55,19 +58,17 @@ cells-few (cell ∷ cells) all =
     omega (arith, rest, one, Rattle.std.proofs.lemmas.List.Sums.sum_by-cons count_of cell cells)
 
 cell-at : (cells : List ℕ) (k cell : ℕ) → All IsCell cells → slice_get cells k ≡ Some cell → IsCell cell
-cell-at [] k cell all is = absurd cc
-cell-at (first ∷ cells) zero cell all is = subst IsCell (same_Some first cell is) (Rattle.std.proofs.lemmas.List.Elements.All-head IsCell first cells all)
-cell-at (first ∷ cells) (suc k) cell all is = cell-at cells k cell (Rattle.std.proofs.lemmas.List.Elements.All-tail IsCell first cells all) is
+cell-at cells k cell all is = all-there IsCell cells k cell all is
 
 taken-more : (cells : List ℕ) (k cell : ℕ) → slice_get cells k ≡ Some cell → take (k + 1) cells ≡ take k cells ++ cell ∷ []
 taken-more cells k cell is =
     Rattle.std.proofs.lemmas.List.take_more cells k cell (slice_get_within cells k cell is) ∙ ap (λ (c : ℕ). take k cells ++ c ∷ []) (get_or_from_slice_get cells k cell cell is)
 
-module _ (sizes : List ℕ) (places : List Place) (words : List ℕ) (changes free takes : ℕ) (v : View) (shown : IsShown sizes places words changes free takes v) where
+module _ (groups : List (List ℕ)) (places : List Place) (words : List ℕ) (pools : List Pool) (takes : ℕ) (v : View) (shown : IsShown groups places words pools takes v) where
   -- the positions of the writer's destinations
   module _ (t : Opened) (row : Row) (known : Writes v t) (is : slice_get places t.buf.0 ≡ Some (Occupied row)) (path-is : row.path ≡ t.path.0) (seq-is : row.seq ≡ t.seq) where
     there : (dest : ℕ) → dest < 8 → slice_get row.positions dest ≡ Some (position_of (Some known.session) dest (reading_at v t.path.0 dest t.seq))
-    there dest below = row-position sizes places words changes free takes v shown t.buf.0 t.path.0 t.seq dest row known.session is path-is seq-is known.known below
+    there dest below = row-position groups places words pools takes v shown t.buf.0 t.path.0 t.seq dest row known.session is path-is seq-is known.known below
 
     few : known.session.dests ≤ 8
     few = shown.counts.dests t.path.0 t.seq known.session known.known
@@ -94,15 +95,15 @@ module _ (sizes : List ℕ) (places : List Place) (words : List ℕ) (changes fr
     pub positions-within : AreWithin t.cells t.put row.positions
     positions-within dest at below found =
         let its = stays dest at below found in
-        let room = roomy sizes v shown.led t.path.0 t.seq known.session known.known dest its.0 its.1 in
+        let room = roomy groups v shown.led t.path.0 t.seq known.session known.known dest its.0 its.1 in
         (before (reading_at v t.path.0 dest t.seq) refl its.2, omega (arith, room, its.2, known.says.put, known.says.size))
       where
         before : (found : Option Reading) → reading_at v t.path.0 dest t.seq ≡ found → at ≡ position (reading_at v t.path.0 dest t.seq) → at ≤ t.put
         before None e at-is = omega (arith, at-is, ap position e)
         before (Some r) e at-is =
-            let joined = (streams sizes v shown.led).joined t.path.0 dest t.seq r e in
+            let joined = (streams groups v shown.led).joined t.path.0 dest t.seq r e in
             let it : joined.0 ≡ known.session = same_Some joined.0 known.session (sym joined.1 ∙ known.known) in
-            let shown-most = ((streams sizes v shown.led).written t.path.0 t.seq joined.0 joined.1).shown in
+            let shown-most = ((streams groups v shown.led).written t.path.0 t.seq joined.0 joined.1).shown in
             omega (arith, at-is, ap position e, joined.2.read, joined.2.seen, shown-most, ap (λ (s : Session). length s.cells) it, known.says.put)
 
     counted-low : (n : ℕ) → n ≤ known.session.dests → readers_to row.positions n ≡ staying (λ d. has_left (λ r. r.stands) (reading_at v t.path.0 d t.seq)) n
@@ -150,7 +151,7 @@ module _ (sizes : List ℕ) (places : List Place) (words : List ℕ) (changes fr
         | inl some ↦
             let one = left.least some in
             let its = stays one.0 one.1 one.2 one.3 in
-            let h = roomy sizes v shown.led t.path.0 t.seq known.session known.known one.0 its.0 its.1 in
+            let h = roomy groups v shown.led t.path.0 t.seq known.session known.known one.0 its.0 its.1 in
             omega (arith, h, one.4, its.2, known.says.put, known.says.size, known.says.room)
         | inr none ↦ (let all = left.all (omega (arith, none)) in omega (arith, all, known.says.room_most))
       ],
@@ -161,57 +162,57 @@ module _ (sizes : List ℕ) (places : List Place) (words : List ℕ) (changes fr
   module _ (t : Joined) (row : Row) (known : Reads v t) (is : slice_get places t.buf.0 ≡ Some (Occupied row)) (path-is : row.path ≡ t.path.0) (seq-is : row.seq ≡ t.seq) where
     pub seen-exact : IsSeenOf v t.path.0 t.seq (record { cells = row.shown; bytes = row.told; writer = row.writes })
     seen-exact s at =
-        let sight = row-sight sizes places words changes free takes v shown t.buf.0 t.path.0 t.seq row s is path-is seq-is at in
+        let sight = row-sight groups places words pools takes v shown t.buf.0 t.path.0 t.seq row s is path-is seq-is at in
         (sym (ap (λ (x : ℕ × ℕ × ℕ × ℕ × Bool). x.2) sight), sym (ap (λ (x : ℕ × ℕ × ℕ × ℕ × Bool). x.3) sight), sym (ap (λ (x : ℕ × ℕ × ℕ × ℕ × Bool). x.4) sight))
 
     pub seen-rises : t.seen ≤ row.shown
     seen-rises =
-        let its = reader-session sizes places words changes free takes v shown t known in
+        let its = reader-session groups places words pools takes v shown t known in
         omega (arith, known.says.seen, its.2.seen, (seen-exact its.0 its.1).0)
 
-    pub seen-fresh : IsFresh v (floors_of (sizes ∷ []) v) (Saw t.path.0 t.dest.0 t.seq row.shown row.told row.writes)
+    pub seen-fresh : IsFresh v (floors_of groups v) (Saw t.path.0 t.dest.0 t.seq row.shown row.told row.writes)
     seen-fresh =
-        let its = reader-session sizes places words changes free takes v shown t known in
+        let its = reader-session groups places words pools takes v shown t known in
         let exact = seen-exact its.0 its.1 in
         (omega (arith, ap (number_in (λ (s : Session). s.shown)) its.1, exact.0), λ stood. ap (has_left (λ (s : Session). s.stands)) its.1 ∙ ap (λ (b : Bool). if b then false else true) (sym exact.2 ∙ stood))
 
   -- the cell that a destination reads next
   module _ (t : Joined) (known : Reads v t) (more : t.at < t.seen) where
-    pub next-cell : (cell : ℕ) × (slice_get (reader-session sizes places words changes free takes v shown t known).0.cells t.at ≡ Some cell)
+    pub next-cell : (cell : ℕ) × (slice_get (reader-session groups places words pools takes v shown t known).0.cells t.at ≡ Some cell)
     next-cell =
-        let its = reader-session sizes places words changes free takes v shown t known in
-        let written = (streams sizes v shown.led).written t.path.0 t.seq its.0 its.1 in
+        let its = reader-session groups places words pools takes v shown t known in
+        let written = (streams groups v shown.led).written t.path.0 t.seq its.0 its.1 in
         there-at its.0.cells t.at (omega (arith, more, known.says.seen, its.2.seen, written.shown))
 
-    pub reader-size : (size : ℕ) × (slice_get sizes t.buf.0 ≡ Some size) × (size ≡ (reader-session sizes places words changes free takes v shown t known).0.size)
+    pub reader-size : (size : ℕ) × (slice_get (all_sizes groups) t.buf.0 ≡ Some size) × (size ≡ (reader-session groups places words pools takes v shown t known).0.size)
     reader-size =
-        let its = reader-session sizes places words changes free takes v shown t known in
-        (its.0.size, ap (slice_get sizes) (sym known.says.buf ∙ its.2.buf) ∙ session-size sizes v shown.led t.path.0 t.seq its.0 its.1, refl)
+        let its = reader-session groups places words pools takes v shown t known in
+        (its.0.size, ap (slice_get (all_sizes groups)) (sym known.says.buf ∙ its.2.buf) ∙ session-size groups v shown.led t.path.0 t.seq its.0 its.1, refl)
 
-    pub word-there : slice_get words (start_of sizes t.buf.0 + t.at % (reader-session sizes places words changes free takes v shown t known).0.size) ≡ Some next-cell.0
+    pub word-there : slice_get words (start_of (all_sizes groups) t.buf.0 + t.at % (reader-session groups places words pools takes v shown t known).0.size) ≡ Some next-cell.0
     word-there =
-        let its = reader-session sizes places words changes free takes v shown t known in
+        let its = reader-session groups places words pools takes v shown t known in
         let ring = its.2.ring known.says.stands in
-        ap (λ (b : ℕ). slice_get words (start_of sizes b + t.at % its.0.size)) (sym known.says.buf ∙ its.2.buf)
-        ∙ shown.words_show.ring t.path.0 t.seq t.at next-cell.0 its.0 its.1 (unfreed sizes v shown.led t.path.0 t.seq its.0 its.1 (reader-stays sizes places words changes free takes v shown t known its.0 its.3)) next-cell.1
+        ap (λ (b : ℕ). slice_get words (start_of (all_sizes groups) b + t.at % its.0.size)) (sym known.says.buf ∙ its.2.buf)
+        ∙ shown.words_show.ring t.path.0 t.seq t.at next-cell.0 its.0 its.1 (unfreed groups v shown.led t.path.0 t.seq its.0 its.1 (reader-stays groups places words pools takes v shown t known its.0 its.3)) next-cell.1
         (omega (arith, ring, known.says.at))
 
     -- the word that is read is the session's next cell, which its unit has
     pub read-next : (word : ℕ) → word ≡ next-cell.0 → (s : Session) → session_at v t.path.0 t.seq ≡ Some s → slice_get s.cells t.at ≡ Some word
     read-next word is s at =
-        let its = reader-session sizes places words changes free takes v shown t known in
+        let its = reader-session groups places words pools takes v shown t known in
         let it : its.0 ≡ s = same_Some its.0 s (sym its.1 ∙ at) in
         ap (λ (x : Session). slice_get x.cells t.at) (sym it) ∙ next-cell.1 ∙ ap Some (sym is)
 
     pub read-cell : (word : ℕ) → word ≡ next-cell.0 → IsCell word
     read-cell word is =
-        let its = reader-session sizes places words changes free takes v shown t known in
+        let its = reader-session groups places words pools takes v shown t known in
         subst IsCell (sym is) (cell-at its.0.cells t.at next-cell.0 (shown.words_show.cells t.path.0 t.seq its.0 its.1) next-cell.1)
 
     pub read-within : (word : ℕ) → word ≡ next-cell.0 → t.taken + count_of word ≤ t.len
     read-within word is =
-        let its = reader-session sizes places words changes free takes v shown t known in
-        let written = (streams sizes v shown.led).written t.path.0 t.seq its.0 its.1 in
+        let its = reader-session groups places words pools takes v shown t known in
+        let written = (streams groups v shown.led).written t.path.0 t.seq its.0 its.1 in
         let prefix : known.reading.cells ≡ take t.at its.0.cells = its.2.prefix ∙ ap (λ (n : ℕ). take n its.0.cells) known.says.at in
         let longer = ap counted (taken-more its.0.cells t.at next-cell.0 next-cell.1) ∙ sum_by_push count_of (take t.at its.0.cells) next-cell.0 in
         omega (arith, longer, ap counted prefix, known.says.taken, known.says.len, its.2.len, written.within, sum_by-take-le count_of its.0.cells (t.at + 1), ap count_of is)
@@ -223,9 +224,12 @@ module _ (sizes : List ℕ) (places : List Place) (words : List ℕ) (changes fr
       let none : None ≡ Some gone.0 = sym (slice_get_past (v.readings path dest) seq (omega (arith, next))) ∙ gone.1 in
       absurd cc
 
-  pub next-none : (path dest seq : ℕ) → length (v.readings path dest) ≡ seq → IsPlaceOf places path seq None → IsNextOf v (sizes ∷ []) 0 path dest seq None
-  next-none path dest seq next none s at its = elim (cases_lt dest s.dests) [
-    | inl below ↦ absurd (none s.buf (shown.places_show.sessions path seq s at (unfreed sizes v shown.led path seq s at (unread path dest seq s next below))))
+  pub next-none : (group path dest seq : ℕ) → length (v.readings path dest) ≡ seq → ((buf : ℕ) → group_of groups buf ≡ group → buf < length places → session_in (slice_get places buf) ≡ Some (path, seq) → ⊥) →
+      IsNextOf v groups group path dest seq None
+  next-none group path dest seq next none s at its = elim (cases_lt dest s.dests) [
+    | inl below ↦ absurd (
+        let key = shown.places_show.sessions path seq s at (unfreed groups v shown.led path seq s at (unread path dest seq s next below)) in
+        none s.buf its (place-there places s.buf path seq key) key)
     | inr past ↦ past
   ]
 
@@ -238,11 +242,11 @@ module _ (sizes : List ℕ) (places : List Place) (words : List ℕ) (changes fr
 
     at-first : slice_get row.positions dest ≡ Some (if nat_lt dest found.0.dests then Some 0 else None)
     at-first =
-        row-position sizes places words changes free takes v shown buf path seq dest row found.0 is path-is seq-is found.1 few
+        row-position groups places words pools takes v shown buf path seq dest row found.0 is path-is seq-is found.1 few
         ∙ ap (λ (o : Option Reading). Some (position_of (Some found.0) dest o)) (slice_get_past (v.readings path dest) seq (omega (arith, next)))
 
-    pub next-apart : (slice_get row.positions dest ≡ Some (Some 0) → ⊥) → IsNextOf v (sizes ∷ []) 0 path dest seq None
-    next-apart none s at its = elim (cases_lt dest s.dests) [
+    pub next-apart : (group : ℕ) → (slice_get row.positions dest ≡ Some (Some 0) → ⊥) → IsNextOf v groups group path dest seq None
+    next-apart group none s at its = elim (cases_lt dest s.dests) [
       | inl below ↦ absurd (
           let it : found.0 ≡ s = same_Some found.0 s (sym found.1 ∙ at) in
           let low : dest < found.0.dests = omega (arith, below, ap (λ (x : Session). x.dests) it) in
@@ -258,11 +262,11 @@ module _ (sizes : List ℕ) (places : List Place) (words : List ℕ) (changes fr
         by-test false e both = absurd cc
 
   -- at every moment the view is joint
-  quiet : IsQuiet (sizes ∷ []) v
-  quiet path seq s at over = freed-or sizes v shown.led path seq s at (λ not.
+  quiet : IsQuiet groups v
+  quiet path seq s at over = freed-or groups v shown.led path seq s at (λ not.
       let key = shown.places_show.sessions path seq s at not in
       let place = occupied (slice_get places s.buf) path seq key in
       shown.places_show.party s.buf place.0 s place.1 (ap (λ (x : ℕ × ℕ). session_at v x.0 x.1) (λ i. (place.2 i, place.3 i)) ∙ at) (subst (λ (x : ℕ × ℕ). IsOver v x.0 x.1 s) (λ i. (sym place.2 i, sym place.3 i)) over))
 
-  pub joint-now : Joint (sizes ∷ []) v
-  joint-now = led (sizes ∷ []) v shown.led quiet
+  pub joint-now : Joint groups v
+  joint-now = led groups v shown.led quiet

@@ -10,17 +10,17 @@ use Rattle.hub_core.proofs.Growing.{session-changed}
 use Rattle.hub_core.proofs.Numbered.{numbered-old}
 use Rattle.hub_core.proofs.Owning.{GoOn, SameTake, same-take}
 use Rattle.hub_core.proofs.Places.{mapped, session-now, reading-now, reading-pushed}
-use Rattle.hub_core.specs.Plain.{free_now}
 use Rattle.hub_core.specs.Calls.{ByWriter}
 use Rattle.hub_core.specs.Joint.{IsFreed}
-use Rattle.hub_core.specs.Groups.{group_of, place_of, journal_of}
+use Rattle.hub_core.specs.Groups.{group_of, place_of, all_sizes, journal_of}
 use Rattle.hub_core.specs.Journal.{numbered, changed_buf}
 use Rattle.hub_core.specs.Joint.{IsOver}
-use Rattle.hub_core.specs.Plain.{session_in, reserved, taken, sight_of, sight_in, standing, position_of, IsRowOf, ShowPlaces, ShowWords, AreCounts, start_of}
+use Rattle.hub_core.specs.Plain.{session_in, reserved, taken, sight_of, sight_in, standing, position_of, IsRowOf, ShowPlaces, ShowWords, AreCounts, pool_after, start_of}
 use Rattle.hub_core.specs.View.{View, Change, Freed, Taking, Session, Reading, at_one, at_two, change_at, session_at, reading_at}
 use Rattle.hub_core.specs.declared.place.Place.{Place}
 use Rattle.hub_core.specs.declared.place.Place.TheVariants.{Free, Reserved, Occupied}
 use Rattle.hub_core.specs.declared.place.Row.{Row}
+use Rattle.hub_core.specs.declared.pool.Pool.{Pool}
 
 -- an item that is set, and the others
 pub set-here : {A : Type 0} (xs : List A) (i : ℕ) (x : A) → i < length xs → slice_get (slice_set xs i x) i ≡ Some x
@@ -121,17 +121,17 @@ swapped places new buf row next is set path seq = subst (λ (x : List Place). Is
 })
 
 -- a session has one place
-pub one-place : (sizes : List ℕ) (places : List Place) (v : View) (buf b path seq : ℕ) (row r : Row) → ShowPlaces sizes places v → slice_get places buf ≡ Some (Occupied row) → row.path ≡ path → row.seq ≡ seq →
+pub one-place : (groups : List (List ℕ)) (places : List Place) (v : View) (buf b path seq : ℕ) (row r : Row) → ShowPlaces groups places v → slice_get places buf ≡ Some (Occupied row) → row.path ≡ path → row.seq ≡ seq →
     slice_get places b ≡ Some (Occupied r) → r.path ≡ path → r.seq ≡ seq → b ≡ buf
-one-place sizes places v buf b path seq row r show here path-is seq-is there path-too seq-too =
+one-place groups places v buf b path seq row r show here path-is seq-is there path-too seq-too =
     let both : option_map sight_of (session_at v r.path r.seq) ≡ option_map sight_of (session_at v row.path row.seq) = ap (λ (x : ℕ × ℕ). option_map sight_of (session_at v x.0 x.1)) (λ i. ((path-too ∙ sym path-is) i, (seq-too ∙ sym seq-is) i)) in
     let sight : sight_in b r ≡ sight_in buf row = same_Some (sight_in b r) (sight_in buf row) (sym (show.rows b r there).session ∙ both ∙ (show.rows buf row here).session) in
     ap (λ (x : ℕ × ℕ × ℕ × ℕ × Bool). x.0) sight
 
 -- the places show a call of a party of the row's session
-pub show-row : (sizes : List ℕ) (places new : List Place) (v w : View) (buf path seq : ℕ) (row next : Row) → ShowPlaces sizes places v → IsSwapped places new buf row next → row.path ≡ path → row.seq ≡ seq →
-    IsOnlyAt path seq v w → GoOn v w → w.held ≡ v.held → w.changes ≡ v.changes → IsRowOf w buf next → ((s : Session) → session_at w path seq ≡ Some s → IsOver w path seq s → ⊥) → ShowPlaces sizes new w
-show-row sizes places new v w buf path seq row next show swap path-is seq-is only on held changes shown party = record {
+pub show-row : (groups : List (List ℕ)) (places new : List Place) (v w : View) (buf path seq : ℕ) (row next : Row) → ShowPlaces groups places v → IsSwapped places new buf row next → row.path ≡ path → row.seq ≡ seq →
+    IsOnlyAt path seq v w → GoOn v w → w.held ≡ v.held → w.changes ≡ v.changes → IsRowOf w buf next → ((s : Session) → session_at w path seq ≡ Some s → IsOver w path seq s → ⊥) → ShowPlaces groups new w
+show-row groups places new v w buf path seq row next show swap path-is seq-is only on held changes shown party = record {
   rows = λ b r at. elim (eqb_tells b buf) [
     | inl same ↦
         let both : Some (Occupied next) ≡ Some (Occupied r) = sym swap.now ∙ ap (slice_get new) (sym same.1) ∙ at in
@@ -142,7 +142,7 @@ show-row sizes places new v w buf path seq row next show swap path-is seq-is onl
         let was : slice_get places b ≡ Some (Occupied r) = sym (swap.others b other.1) ∙ at in
         let old = show.rows b r was in
         elim (only r.path r.seq) [
-          | inl hit ↦ absurd (other.1 (one-place sizes places v buf b path seq row r show swap.was path-is seq-is was hit.0 hit.1))
+          | inl hit ↦ absurd (other.1 (one-place groups places v buf b path seq row r show swap.was path-is seq-is was hit.0 hit.1))
           | inr same ↦ record {
             session = ap (option_map sight_of) same.0 ∙ old.session;
             positions = λ dest below. old.positions dest below ∙ ap (λ (x : Option Session × Option Reading). Some (position_of x.0 dest x.1)) (λ i. (sym same.0 i, sym (same.1 dest) i));
@@ -159,13 +159,13 @@ show-row sizes places new v w buf path seq row next show swap path-is seq-is onl
     | inr other ↦
         let was : slice_get places b ≡ Some (Occupied r) = sym (swap.others b other.1) ∙ at in
         elim (only r.path r.seq) [
-          | inl hit ↦ absurd (other.1 (one-place sizes places v buf b path seq row r show swap.was path-is seq-is was hit.0 hit.1))
+          | inl hit ↦ absurd (other.1 (one-place groups places v buf b path seq row r show swap.was path-is seq-is was hit.0 hit.1))
           | inr same ↦ show.party b r s was (sym same.0 ∙ there) (record { writer = over.writer; dests = λ d below. let gone = over.dests d below in (gone.0, sym (same.1 d) ∙ gone.1, gone.2) })
         ]
   ];
   sessions = λ p k t at kept.
       let was = on.back p k t at in
-      let old = show.sessions p k was.0 was.1 (λ freed. kept (freed-on (sizes ∷ []) v w was.0 t changes was.2 freed)) in
+      let old = show.sessions p k was.0 was.1 (λ freed. kept (freed-on groups v w was.0 t changes was.2 freed)) in
       ap (λ (b : ℕ). session_in (slice_get new b)) was.2.buf ∙ elim (eqb_tells was.0.buf buf) [
         | inl same ↦
             let here : session_in (slice_get places was.0.buf) ≡ Some (row.path, row.seq) = ap (λ (b : ℕ). session_in (slice_get places b)) same.1 ∙ ap session_in swap.was in
@@ -247,22 +247,21 @@ pub kept-sessions : (v w : View) → w.sessions ≡ v.sessions → AreKept v w
 kept-sessions v w sessions p k t at = (t, ap (λ (g : ℕ → List Session). slice_get (g p) k) (sym sessions) ∙ at, same-take t, refl)
 
 -- the words show them as before
-pub words-on : (sizes words : List ℕ) (v w : View) → AreKept v w → ((s t : Session) → SameTake s t → IsFreed (sizes ∷ []) v s → IsFreed (sizes ∷ []) w t) → ShowWords sizes words v → ShowWords sizes words w
-words-on sizes words v w kept still show = record {
+pub words-on : (groups : List (List ℕ)) (words : List ℕ) (v w : View) → AreKept v w → ((s t : Session) → SameTake s t → IsFreed groups v s → IsFreed groups w t) → ShowWords groups words v → ShowWords groups words w
+words-on groups words v w kept still show = record {
   cells = λ p k t at. let was = kept p k t at in subst (All IsCell) (sym was.3) (show.cells p k was.0 was.1);
   ring = λ p k i cell t at unfreed get most.
       let was = kept p k t at in
-      ap (λ (x : ℕ × ℕ). slice_get words (start_of sizes x.0 + i % x.1)) (λ j. (was.2.buf j, was.2.size j))
+      ap (λ (x : ℕ × ℕ). slice_get words (start_of (all_sizes groups) x.0 + i % x.1)) (λ j. (was.2.buf j, was.2.size j))
       ∙ show.ring p k i cell was.0 was.1 (λ freed. unfreed (still was.0 t was.2 freed)) (sym (ap (λ (l : List ℕ). slice_get l i) was.3) ∙ get) (omega (arith, most, ap length was.3, was.2.size));
 }
 
 -- the numbers stay
-pub counts-on : (sizes : List ℕ) (places new : List Place) (changes free takes : ℕ) (v w : View) → w.changes ≡ v.changes → ((path : ℕ) → length (w.sessions path) ≡ length (v.sessions path)) → GoOn v w →
-    sum_by taken new ≡ sum_by taken places → sum_by reserved new ≡ sum_by reserved places → AreCounts sizes places changes free takes v → AreCounts sizes new changes free takes w
-counts-on sizes places new changes free takes v w same lengths on taken-same reserved-same counts = record {
-  changes_are = counts.changes_are ∙ sym (ap (λ (l : List Change). length l) same);
-  free_is = counts.free_is ∙ ap (λ (l : List Change). free_now sizes (record v { changes = l })) (sym same);
-  moves = omega (arith, counts.moves, taken-same);
+pub counts-on : (groups : List (List ℕ)) (places new : List Place) (pools : List Pool) (takes : ℕ) (v w : View) → w.changes ≡ v.changes → ((path : ℕ) → length (w.sessions path) ≡ length (v.sessions path)) → GoOn v w →
+    sum_by taken new ≡ sum_by taken places → sum_by reserved new ≡ sum_by reserved places → AreCounts groups places pools takes v → AreCounts groups new pools takes w
+counts-on groups places new pools takes v w same lengths on taken-same reserved-same counts = record {
+  words = λ group below. counts.words group below ∙ ap (λ (l : List Change). Some (pool_after groups group l)) (sym same);
+  moves = omega (arith, counts.moves, taken-same, ap (λ (l : List Change). length l) same);
   sessions = λ path. let h = counts.sessions path in omega (arith, h, lengths path, reserved-same);
   some = λ p k t at. let was = on.back p k t at in omega (arith, counts.some p k was.0 was.1, was.2.dests);
   dests = λ p k t at. let was = on.back p k t at in omega (arith, counts.dests p k was.0 was.1, was.2.dests);

@@ -2,22 +2,25 @@
 use Rattle.std.proofs.Common.{◌≡◌, ◌≢◌, ℕ, ◌+◌, ◌-◌, ◌*◌, ◌/◌, ◌<◌, ◌≤◌, ◌%◌, ◌⊎◌, inl, inr, zero, suc, List, [], ◌∷◌, ◌++◌, length, take, Some, All, refl, ap, sym, ◌∙◌, subst, arith, length-append, div-add-mod', mod-lt, lt_of_mul-lt-mul_right}
 use Rattle.std.proofs.lemmas.Bool.{cases_order}
 use Rattle.std.proofs.lemmas.Bool.Decides.{eqb_tells}
-use Rattle.std.proofs.lemmas.List.Elements.{All-head, All-tail, All-push}
+use Rattle.std.proofs.lemmas.List.Elements.{All-push}
 use Rattle.std.proofs.lemmas.List.Sums.{sum_by-cons, sum_by-le}
 use Rattle.std.proofs.lemmas.Option.{same_Some, some_pair_parts, slice_get_within}
 use Rattle.std.specs.Prelude.{slice_get, slice_set, sum}
 use Rattle.gw_base.proofs.Lists.{at-next}
 use Rattle.gw_base.specs.Cell.{IsCell}
+use Rattle.hub_core.proofs.Cut.{all-there}
 use Rattle.hub_core.proofs.Growing.{session-changed}
 use Rattle.hub_core.proofs.Ledger.{session-size}
 use Rattle.hub_core.proofs.Owning.{SameTake}
 use Rattle.hub_core.proofs.Rows.{set-here, set-else, freed-on, only-session}
-use Rattle.hub_core.proofs.Shown.{IsShown, writer-place}
+use Rattle.hub_core.proofs.Shown.{writer-place}
+use Rattle.hub_core.specs.Groups.{all_sizes}
 use Rattle.hub_core.specs.Joint.{IsFreed}
-use Rattle.hub_core.specs.Plain.{start_of, session_in, ShowWords}
+use Rattle.hub_core.specs.Plain.{IsShown, start_of, session_in, ShowWords}
 use Rattle.hub_core.specs.Tokens.{Writes}
 use Rattle.hub_core.specs.View.{View, Session, session_at, grow, Put}
 use Rattle.hub_core.specs.declared.place.Place.{Place}
+use Rattle.hub_core.specs.declared.pool.Pool.{Pool}
 use Rattle.hub_core.specs.declared.token.Opened.{Opened}
 
 start-suc : (size : ℕ) (sizes : List ℕ) (buf : ℕ) → start_of (size ∷ sizes) (suc buf) ≡ size + start_of sizes buf
@@ -64,9 +67,7 @@ mod-apart i n size before near same =
 
 -- each size is one that a buffer may have
 pub size-some : (sizes : List ℕ) (buf size : ℕ) → All (λ n. (1 ≤ n) × (n ≤ 8192)) sizes → slice_get sizes buf ≡ Some size → (1 ≤ size) × (size ≤ 8192)
-size-some [] buf size all is = absurd cc
-size-some (first ∷ sizes) zero size all is = subst (λ (n : ℕ). (1 ≤ n) × (n ≤ 8192)) (same_Some first size is) (All-head (λ n. (1 ≤ n) × (n ≤ 8192)) first sizes all)
-size-some (first ∷ sizes) (suc buf) size all is = size-some sizes buf size (All-tail (λ n. (1 ≤ n) × (n ≤ 8192)) first sizes all) is
+size-some sizes buf size all is = all-there (λ n. (1 ≤ n) × (n ≤ 8192)) sizes buf size all is
 
 -- a place of a ring is one of the words, which are few
 pub in-words : (sizes words : List ℕ) (buf size k : ℕ) → length words ≡ sum sizes → All (λ n. (1 ≤ n) × (n ≤ 8192)) sizes → slice_get sizes buf ≡ Some size → start_of sizes buf + k % size < length words
@@ -75,17 +76,17 @@ in-words sizes words buf size k all each is =
     let within : k % size < size = mod-lt k (omega (arith, some)) in
     omega (arith, start-within sizes buf size is, all, within)
 
-pub few-words : (sizes : List ℕ) → length sizes ≤ 32 → All (λ n. (1 ≤ n) × (n ≤ 8192)) sizes → sum sizes ≤ 262144
+pub few-words : (sizes : List ℕ) → length sizes ≤ 128 → All (λ n. (1 ≤ n) × (n ≤ 8192)) sizes → sum sizes ≤ 1048576
 few-words sizes few each = let h = sum_by-le (λ (x : ℕ). x) 8192 sizes (most sizes each) in omega (arith, h, few)
   where
     most : (xs : List ℕ) → All (λ n. (1 ≤ n) × (n ≤ 8192)) xs → All (λ n. n ≤ 8192) xs
     most xs all = Rattle.std.proofs.lemmas.List.Elements.All-weaker (λ n. (1 ≤ n) × (n ≤ 8192)) (λ n. n ≤ 8192) (λ n h. h.1) xs all
 
 -- after one cell is put
-pub words-put : (sizes : List ℕ) (places : List Place) (words more : List ℕ) (changes free takes : ℕ) (v : View) (t : Opened) (cell : ℕ) → IsShown sizes places words changes free takes v → Writes v t → IsCell cell →
-    length words ≡ sum sizes → All (λ n. (1 ≤ n) × (n ≤ 8192)) sizes → more ≡ slice_set words (start_of sizes t.buf.0 + t.put % t.cells) cell → ShowWords sizes more (grow (Put t.path.0 t.seq cell) v)
+pub words-put : (groups : List (List ℕ)) (places : List Place) (words more : List ℕ) (pools : List Pool) (takes : ℕ) (v : View) (t : Opened) (cell : ℕ) → IsShown groups places words pools takes v → Writes v t → IsCell cell →
+    length words ≡ sum (all_sizes groups) → All (λ n. (1 ≤ n) × (n ≤ 8192)) (all_sizes groups) → more ≡ slice_set words (start_of (all_sizes groups) t.buf.0 + t.put % t.cells) cell → ShowWords groups more (grow (Put t.path.0 t.seq cell) v)
 unfolding grow
-words-put sizes places words more changes free takes v t cell shown known word all each set = record {
+words-put groups places words more pools takes v t cell shown known word all each set = record {
   cells = λ p k x at. elim (which p k) [
     | inl hit ↦ subst (λ (y : Session). All IsCell y.cells) (same_Some (f s) x (sym (here p k hit) ∙ at)) (All-push IsCell s.cells cell (shown.words_show.cells t.path.0 t.seq s known.known) word)
     | inr other ↦ shown.words_show.cells p k x (sym (elsewhere p k other) ∙ at)
@@ -97,32 +98,32 @@ words-put sizes places words more changes free takes v t cell shown known word a
         let size-is : x.size ≡ t.cells = sym (ap (λ (y : Session). y.size) it) ∙ known.says.size in
         let got : slice_get (s.cells ++ cell ∷ []) i ≡ Some c = ap (λ (y : Session). slice_get y.cells i) it ∙ get in
         let long : length s.cells + 1 ≤ i + t.cells = omega (arith, most, ap (λ (y : Session). length y.cells) it, size-is, length-append s.cells (cell ∷ [])) in
-        ap (λ (y : ℕ × ℕ). slice_get more (start_of sizes y.0 + i % y.1)) (λ j. (buf-is j, size-is j)) ∙ elim (at-next s.cells cell c i got) [
+        ap (λ (y : ℕ × ℕ). slice_get more (start_of (all_sizes groups) y.0 + i % y.1)) (λ j. (buf-is j, size-is j)) ∙ elim (at-next s.cells cell c i got) [
           | inl old ↦
               let below = slice_get_within s.cells i c old in
-              let was = shown.words_show.ring t.path.0 t.seq i c s known.known (λ freed. unfreed (freed-on (sizes ∷ []) v w s x refl (take it) freed)) old (omega (arith, long, known.says.size)) in
-              ap (λ (l : List ℕ). slice_get l (start_of sizes t.buf.0 + i % t.cells)) set
-              ∙ set-else words (start_of sizes t.buf.0 + t.put % t.cells) (start_of sizes t.buf.0 + i % t.cells) cell
+              let was = shown.words_show.ring t.path.0 t.seq i c s known.known (λ freed. unfreed (freed-on groups v w s x refl (take it) freed)) old (omega (arith, long, known.says.size)) in
+              ap (λ (l : List ℕ). slice_get l (start_of (all_sizes groups) t.buf.0 + i % t.cells)) set
+              ∙ set-else words (start_of (all_sizes groups) t.buf.0 + t.put % t.cells) (start_of (all_sizes groups) t.buf.0 + i % t.cells) cell
               (λ e. mod-apart i t.put t.cells (omega (arith, below, known.says.put)) (omega (arith, long, known.says.put)) (let h = e in omega (arith, h)))
-              ∙ ap (λ (y : ℕ × ℕ). slice_get words (start_of sizes y.0 + i % y.1)) (λ j. (sym known.says.buf j, sym known.says.size j)) ∙ was
+              ∙ ap (λ (y : ℕ × ℕ). slice_get words (start_of (all_sizes groups) y.0 + i % y.1)) (λ j. (sym known.says.buf j, sym known.says.size j)) ∙ was
           | inr new ↦
               let at-end : i ≡ t.put = new.0 ∙ known.says.put in
-              ap (λ (l : List ℕ). slice_get l (start_of sizes t.buf.0 + i % t.cells)) set
-              ∙ ap (λ (n : ℕ). slice_get (slice_set words (start_of sizes t.buf.0 + t.put % t.cells) cell) (start_of sizes t.buf.0 + n % t.cells)) at-end
-              ∙ set-here words (start_of sizes t.buf.0 + t.put % t.cells) cell (in-words sizes words t.buf.0 t.cells t.put all each own-size) ∙ ap Some new.1
+              ap (λ (l : List ℕ). slice_get l (start_of (all_sizes groups) t.buf.0 + i % t.cells)) set
+              ∙ ap (λ (n : ℕ). slice_get (slice_set words (start_of (all_sizes groups) t.buf.0 + t.put % t.cells) cell) (start_of (all_sizes groups) t.buf.0 + n % t.cells)) at-end
+              ∙ set-here words (start_of (all_sizes groups) t.buf.0 + t.put % t.cells) cell (in-words (all_sizes groups) words t.buf.0 t.cells t.put all each own-size) ∙ ap Some new.1
         ]
     | inr other ↦
         let was-at : session_at v p k ≡ Some x = sym (elsewhere p k other) ∙ at in
-        let unfreed-before : IsFreed (sizes ∷ []) v x → ⊥ = λ freed. unfreed (freed-on (sizes ∷ []) v w x x refl (record { buf = refl; number = refl; size = refl; dests = refl; gone = λ gone. gone }) freed) in
-        let size-of = session-size sizes v shown.led p k x was-at in
+        let unfreed-before : IsFreed groups v x → ⊥ = λ freed. unfreed (freed-on groups v w x x refl (record { buf = refl; number = refl; size = refl; dests = refl; gone = λ gone. gone }) freed) in
+        let size-of = session-size groups v shown.led p k x was-at in
         let apart : x.buf ≢ t.buf.0 = λ e.
-        let keys = sym (shown.places_show.sessions p k x was-at unfreed-before) ∙ ap (λ (b : ℕ). session_in (slice_get places b)) e ∙ writer-place sizes places words changes free takes v shown t known in
+        let keys = sym (shown.places_show.sessions p k x was-at unfreed-before) ∙ ap (λ (b : ℕ). session_in (slice_get places b)) e ∙ writer-place groups places words pools takes v shown t known in
         let parts = some_pair_parts p t.path.0 k t.seq keys in
         other parts.0 parts.1 in
-        ap (λ (l : List ℕ). slice_get l (start_of sizes x.buf + i % x.size)) set
-        ∙ set-else words (start_of sizes t.buf.0 + t.put % t.cells) (start_of sizes x.buf + i % x.size) cell
-        (start-apart sizes x.buf t.buf.0 x.size t.cells (i % x.size) (t.put % t.cells) apart size-of own-size
-        (mod-lt i (let h = (size-some sizes x.buf x.size each size-of).0 in omega (arith, h))) (mod-lt t.put (let h = (size-some sizes t.buf.0 t.cells each own-size).0 in omega (arith, h))))
+        ap (λ (l : List ℕ). slice_get l (start_of (all_sizes groups) x.buf + i % x.size)) set
+        ∙ set-else words (start_of (all_sizes groups) t.buf.0 + t.put % t.cells) (start_of (all_sizes groups) x.buf + i % x.size) cell
+        (start-apart (all_sizes groups) x.buf t.buf.0 x.size t.cells (i % x.size) (t.put % t.cells) apart size-of own-size
+        (mod-lt i (let h = (size-some (all_sizes groups) x.buf x.size each size-of).0 in omega (arith, h))) (mod-lt t.put (let h = (size-some (all_sizes groups) t.buf.0 t.cells each own-size).0 in omega (arith, h))))
         ∙ shown.words_show.ring p k i c x was-at unfreed-before get most
   ];
 }
@@ -136,8 +137,8 @@ words-put sizes places words more changes free takes v t cell shown known word a
     w : View
     w = grow (Put t.path.0 t.seq cell) v
 
-    own-size : slice_get sizes t.buf.0 ≡ Some t.cells
-    own-size = ap (slice_get sizes) (sym known.says.buf) ∙ session-size sizes v shown.led t.path.0 t.seq s known.known ∙ ap Some known.says.size
+    own-size : slice_get (all_sizes groups) t.buf.0 ≡ Some t.cells
+    own-size = ap (slice_get (all_sizes groups)) (sym known.says.buf) ∙ session-size groups v shown.led t.path.0 t.seq s known.known ∙ ap Some known.says.size
 
     which : (p k : ℕ) → ((p ≡ t.path.0) × (k ≡ t.seq)) ⊎ (p ≡ t.path.0 → k ≡ t.seq → ⊥)
     which p k = elim (eqb_tells p t.path.0) [

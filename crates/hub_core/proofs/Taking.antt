@@ -1,36 +1,25 @@
 -- The plain hub after a take, and as a session is entered in a buffer that was taken.
-use Rattle.std.proofs.Common.{◌≡◌, ◌≢◌, ℕ, ◌+◌, ◌-◌, ◌^◌, ◌<◌, ◌≤◌, inl, inr, suc, true, false, List, [], ◌∷◌, ◌++◌, length, Option, Some, None, All, refl, ap, sym, ◌∙◌, subst, arith, length-append}
+use Rattle.std.proofs.Common.{◌≡◌, ◌≢◌, ℕ, ◌+◌, ◌-◌, ◌^◌, ◌<◌, ◌≤◌, inl, inr, true, false, List, [], ◌∷◌, ◌++◌, length, Option, Some, None, All, refl, ap, sym, ◌∙◌, subst, arith, length-append}
 use Rattle.std.proofs.lemmas.Bool.Decides.{eqb_tells}
 use Rattle.std.proofs.lemmas.List.Elements.{All-nil}
 use Rattle.std.proofs.lemmas.Option.{same_Some, slice_get_within, slice_get_past}
 use Rattle.std.specs.Prelude.{slice_get, slice_set, option_map, sum_by, IsBitSet}
 use Rattle.gw_base.proofs.Lists.{there-at}
 use Rattle.gw_base.specs.Cell.{IsCell}
-use Rattle.gw_base.specs.Fit.{IsSmallest}
 use Rattle.hub_core.proofs.Growing.{at_one-same, at_one-other}
 use Rattle.hub_core.proofs.Ledger.{streams, order, session-clear, led-took, led-entered}
-use Rattle.hub_core.proofs.Numbered.{numbered-new, replay-old}
 use Rattle.hub_core.proofs.Places.{session-pushed}
+use Rattle.hub_core.proofs.Pools.{words-pushed}
 use Rattle.hub_core.proofs.Rows.{set-here, set-else, sum-set, occupied, sighted, freed-still}
-use Rattle.hub_core.proofs.Shown.{IsShown}
-use Rattle.hub_core.specs.Plain.{free_now}
-use Rattle.hub_core.specs.Core.{MayDo}
+use Rattle.hub_core.specs.Core.{MayDo, MayTake}
+use Rattle.hub_core.specs.Groups.{group_of, place_of, free_in}
 use Rattle.hub_core.specs.Joint.{IsFreed}
-use Rattle.hub_core.specs.Journal.{AreInOrder, number_of, replay, moved, numbered}
-use Rattle.hub_core.specs.Plain.{session_in, reserved, taken, sight_of, sight_in, standing, position_of, AreFirst}
+use Rattle.hub_core.specs.Plain.{IsShown, session_in, reserved, taken, sight_of, sight_in, standing, position_of, AreFirst}
 use Rattle.hub_core.specs.View.{View, Change, Taken, Taking, Session, Reading, at_one, session_at, reading_at, session_new, grow, Took, Entered}
 use Rattle.hub_core.specs.declared.place.Place.{Place}
 use Rattle.hub_core.specs.declared.place.Place.TheVariants.{Free, Reserved, Occupied}
 use Rattle.hub_core.specs.declared.place.Row.{Row}
-
--- the free set after one more change
-pub free-pushed : (sizes : List ℕ) (changes : List Change) (c : Change) → AreInOrder changes → number_of c ≡ length changes + 1 → replay sizes (changes ++ c ∷ []) (length (changes ++ c ∷ [])) ≡ moved (Some c) (replay sizes changes (length changes))
-free-pushed sizes changes c order next =
-    let long : length (changes ++ c ∷ []) ≡ suc (length changes) = omega (arith, length-append changes (c ∷ [])) in
-    let number : suc (length changes) ≡ number_of c = omega (arith, next) in
-    ap (replay sizes (changes ++ c ∷ [])) long
-    ∙ ap (λ (d : Option Change). moved d (replay sizes (changes ++ c ∷ []) (length changes))) (ap (numbered (changes ++ c ∷ [])) number ∙ numbered-new changes c order next)
-    ∙ ap (moved (Some c)) (replay-old sizes changes c (length changes) order (omega arith))
+use Rattle.hub_core.specs.declared.pool.Pool.{Pool}
 
 -- the buffer is held then
 pub held-took : (group number buf size need : ℕ) (v w : View) → w ≡ grow (Took group number buf size need) v → w.held buf ≡ Some (record { number = number; size = size })
@@ -43,12 +32,12 @@ reserved-is (Some Free) is = absurd cc
 reserved-is (Some Reserved) is = refl
 reserved-is (Some (Occupied row)) is = absurd cc
 
-module _ (sizes : List ℕ) (places : List Place) (words : List ℕ) (changes free takes : ℕ) (v : View) (shown : IsShown sizes places words changes free takes v) where
-  -- after a take of the smallest free buffer that fits
-  pub after-took : (number buf size need fewer : ℕ) (new : List Place) → takes ≡ fewer + 1 → number ≡ changes + 1 → IsSmallest sizes free need buf → slice_get sizes buf ≡ Some size → buf < length places → new ≡ slice_set places buf Reserved →
-      IsShown sizes new words number (free - 2 ^ buf) fewer (grow (Took 0 number buf size need) v)
+module _ (groups : List (List ℕ)) (places : List Place) (words : List ℕ) (pools : List Pool) (takes : ℕ) (v : View) (shown : IsShown groups places words pools takes v) where
+  -- after a take of the group's smallest free buffer that fits
+  pub after-took : (group number buf size need fewer : ℕ) (new : List Place) (more : List Pool) → takes ≡ fewer + 1 → MayTake groups v group number buf size need → buf < length places → new ≡ slice_set places buf Reserved →
+      more ≡ slice_set pools group (record { changes = number; free = free_in groups group v - 2 ^ place_of groups buf }) → IsShown groups new words more fewer (grow (Took group number buf size need) v)
   unfolding grow
-  after-took number buf size need fewer new left next smallest size-is there set = record {
+  after-took group number buf size need fewer new more left may there set words-set = record {
     places_show = record {
       rows = λ b r at. elim (eqb_tells b buf) [
         | inl same ↦ absurd (let both : Some Reserved ≡ Some (Occupied r) = sym now ∙ ap (slice_get new) (sym same.1) ∙ at in cc)
@@ -59,9 +48,9 @@ module _ (sizes : List ℕ) (places : List Place) (words : List ℕ) (changes fr
         | inr other ↦ shown.places_show.party b r s (sym (others b other.1) ∙ at) known (record { writer = over.writer; dests = over.dests })
       ];
       sessions = λ p k s at kept.
-          let before : IsFreed (sizes ∷ []) v s → ⊥ = λ freed. kept (freed-still (sizes ∷ []) v w c s refl freed) in
+          let before : IsFreed groups v s → ⊥ = λ freed. kept (freed-still groups v w c s refl freed) in
           elim (eqb_tells s.buf buf) [
-            | inl same ↦ absurd (session-clear sizes v shown.led p k s at before (subst (λ (b : ℕ). IsBitSet (free_now sizes v) b) (sym same.1) first.fits.is_free))
+            | inl same ↦ absurd (session-clear groups v shown.led p k s at before (subst (λ (x : ℕ × ℕ). IsBitSet (free_in groups x.0 v) x.1) (λ i. ((sym may.its ∙ ap (group_of groups) (sym same.1)) i, ap (place_of groups) (sym same.1) i)) may.smallest.fits.is_free))
             | inr other ↦ ap session_in (others s.buf other.1) ∙ shown.places_show.sessions p k s at before
           ];
       held = λ b t at. elim (eqb_tells b buf) [
@@ -71,30 +60,23 @@ module _ (sizes : List ℕ) (places : List Place) (words : List ℕ) (changes fr
     };
     words_show = record {
       cells = shown.words_show.cells;
-      ring = λ p k i cell s at kept. shown.words_show.ring p k i cell s at (λ freed. kept (freed-still (sizes ∷ []) v w c s refl freed));
+      ring = λ p k i cell s at kept. shown.words_show.ring p k i cell s at (λ freed. kept (freed-still groups v w c s refl freed));
     };
     counts = record {
-      changes_are = omega (arith, next, shown.counts.changes_are, length-append v.changes (c ∷ []));
-      free_is = ap (λ (x : ℕ). x - 2 ^ buf) shown.counts.free_is ∙ sym (free-pushed sizes v.changes c (order sizes v shown.led) number-is);
-      moves = let old = there-at places buf there in let sum = sum-set taken places buf old.0 Reserved old.1 in omega (arith, shown.counts.moves, next, left, sum, ap (sum_by taken) set);
+      words = words-pushed groups group pools more v.changes c shown.counts.words (order groups v shown.led group) may.its may.next words-set;
+      moves = let old = there-at places buf there in let sum = sum-set taken places buf old.0 Reserved old.1 in omega (arith, shown.counts.moves, left, sum, ap (sum_by taken) set, length-append v.changes (c ∷ []));
       sessions = λ path. let old = there-at places buf there in let sum = sum-set reserved places buf old.0 Reserved old.1 in let h = shown.counts.sessions path in omega (arith, h, left, sum, ap (sum_by reserved) set);
       some = shown.counts.some;
       dests = shown.counts.dests;
     };
-    led = led-took sizes v shown.led number buf size need number-is first size-is;
+    led = led-took groups v shown.led group number buf size need may;
   }
     where
       w : View
-      w = grow (Took 0 number buf size need) v
+      w = grow (Took group number buf size need) v
 
       c : Change
       c = Taken number buf need
-
-      number-is : number ≡ length v.changes + 1
-      number-is = omega (arith, next, shown.counts.changes_are)
-
-      first : IsSmallest sizes (free_now sizes v) need buf
-      first = subst (λ (f : ℕ). IsSmallest sizes f need buf) shown.counts.free_is smallest
 
       now : slice_get new buf ≡ Some Reserved
       now = ap (λ (l : List Place). slice_get l buf) set ∙ set-here places buf Reserved there
@@ -108,7 +90,7 @@ module _ (sizes : List ℕ) (places : List Place) (words : List ℕ) (changes fr
 
   -- after a session is entered
   pub after-entered : (path seq buf number size len readers : ℕ) (new : List Place) (positions : List (Option ℕ)) → MayDo v (Entered path seq buf number size len readers) → readers ≤ 8 → AreFirst readers 8 positions →
-      new ≡ slice_set places buf (Occupied (record { path = path; seq = seq; len = len; shown = 0; told = 0; writes = true; positions = positions })) → IsShown sizes new words changes free takes (grow (Entered path seq buf number size len readers) v)
+      new ≡ slice_set places buf (Occupied (record { path = path; seq = seq; len = len; shown = 0; told = 0; writes = true; positions = positions })) → IsShown groups new words pools takes (grow (Entered path seq buf number size len readers) v)
   unfolding grow
   after-entered path seq buf number size len readers new positions may few begin set = record {
     places_show = record {
@@ -170,8 +152,7 @@ module _ (sizes : List ℕ) (places : List Place) (words : List ℕ) (changes fr
       ];
     };
     counts = record {
-      changes_are = shown.counts.changes_are;
-      free_is = shown.counts.free_is;
+      words = shown.counts.words;
       moves = let sum = sum-set taken places buf Reserved (Occupied row) was-reserved in omega (arith, shown.counts.moves, sum, ap (sum_by taken) set);
       sessions = λ p. let sum = sum-set reserved places buf Reserved (Occupied row) was-reserved in let h = shown.counts.sessions p in elim (eqb_tells p path) [
         | inl same ↦ (let long : length (at_one path (v.sessions path ++ fresh ∷ []) v.sessions p) ≡ length (v.sessions p) + 1 = (let P : ℕ → Type 0 = λ q. length (at_one path (v.sessions path ++ fresh ∷ []) v.sessions q) ≡ length (v.sessions q) + 1 in subst P (sym same.1) (ap length (at_one-same path (v.sessions path ++ fresh ∷ []) v.sessions) ∙ length-append (v.sessions path) (fresh ∷ []))) in omega (arith, h, long, sum, ap (sum_by reserved) set))
@@ -186,7 +167,7 @@ module _ (sizes : List ℕ) (places : List Place) (words : List ℕ) (changes fr
         | inr same ↦ shown.counts.dests p k t (sym same ∙ at)
       ];
     };
-    led = led-entered sizes v shown.led path seq buf number size len readers may;
+    led = led-entered groups v shown.led path seq buf number size len readers may;
   }
     where
       w : View
@@ -228,7 +209,7 @@ module _ (sizes : List ℕ) (places : List Place) (words : List ℕ) (changes fr
         where
           none-of : (found : Option Reading) → reading_at v path dest seq ≡ found → found ≡ None
           none-of None is = refl
-          none-of (Some r) is = absurd (let joined = (streams sizes v shown.led).joined path dest seq r is in let both : Some joined.0 ≡ None = sym joined.1 ∙ none-yet in cc)
+          none-of (Some r) is = absurd (let joined = (streams groups v shown.led).joined path dest seq r is in let both : Some joined.0 ≡ None = sym joined.1 ∙ none-yet in cc)
 
       elsewhere : (p k : ℕ) → (s : Session) × (session_at v p k ≡ Some s) → session_at w p k ≡ session_at v p k
       elsewhere p k there = elim (session-pushed path fresh v w refl p k) [

@@ -1,7 +1,21 @@
 -- Groups of buffers: buffers are numbered through the groups, and each group has a journal and a free set of its own.
-use Rattle.std.specs.Prelude.{◌≡◌, ℕ, ◌-◌, ◌==◌, nat_lt, if◌then◌else◌, suc, List, [], ◌∷◌, length, get_or}
+use Rattle.std.specs.Prelude.{◌≡◌, ℕ, ◌-◌, ◌==◌, nat_lt, if◌then◌else◌, suc, List, [], ◌∷◌, ◌++◌, length, take, drop, sum, get_or}
 use Rattle.hub_core.specs.Journal.{changed_buf, replay}
 use Rattle.hub_core.specs.View.{View, Change, Taken, Freed}
+
+-- the cells of all buffers, in the order of their numbers, cut into groups of so many buffers
+abbrev pub grouped : (counts cells : List ℕ) → List (List ℕ)
+grouped [] cells = []
+grouped (count ∷ counts) cells = take count cells ∷ grouped counts (drop count cells)
+
+-- the number of a group's first buffer, where the groups have so many buffers
+abbrev pub first_of : (counts : List ℕ) → (group : ℕ) → ℕ
+first_of counts group = sum (take group counts)
+
+-- the cells of all buffers, in the order of their numbers
+abbrev pub all_sizes : List (List ℕ) → List ℕ
+all_sizes [] = []
+all_sizes (sizes ∷ groups) = sizes ++ all_sizes groups
 
 -- the group of a buffer, where the cells of the buffers are given group by group
 abbrev pub group_of : List (List ℕ) → ℕ → ℕ

@@ -3,6 +3,7 @@ pub mod Calls
 pub mod Core
 pub mod Floors
 pub mod Groups
+pub mod HubPort
 pub mod Joint
 pub mod Journal
 pub mod Moves

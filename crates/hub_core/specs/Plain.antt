@@ -1,21 +1,24 @@
 -- The plain hub: how its words, places and numbers show what was done with it.
-use Rattle.std.specs.Prelude.{◌≡◌, ℕ, ◌+◌, ◌*◌, ◌<◌, ◌≤◌, ◌%◌, ◌&&◌, nat_lt, if◌then◌else◌, zero, suc, Bool, true, false, List, [], ◌∷◌, length, take, sum, sum_by, Option, Some, None, All, slice_get, slice_set, slice_index, option_map}
+use Rattle.std.specs.Prelude.{◌≡◌, ℕ, ◌+◌, ◌-◌, ◌*◌, ◌^◌, ◌<◌, ◌≤◌, ◌%◌, ◌&&◌, nat_lt, if◌then◌else◌, zero, suc, Bool, true, false, List, length, take, sum, sum_by, Option, Some, None, All, slice_get, slice_set, slice_index, option_map}
 use Rattle.gw_base.specs.Cell.{IsCell}
 use Rattle.hub_core.specs.Calls.{Means}
+use Rattle.hub_core.specs.Core.{IsLed}
 use Rattle.hub_core.specs.Joint.{IsFreed}
 use Rattle.hub_core.specs.Floors.{is_for, floors_of}
+use Rattle.hub_core.specs.Groups.{sizes_of, journal_of, all_sizes}
 use Rattle.hub_core.specs.Journal.{replay}
 use Rattle.hub_core.specs.Stays.{PortState}
 use Rattle.hub_core.specs.Joint.{IsOver}
-use Rattle.hub_core.specs.View.{View, Session, Reading, Taking, session_at, reading_at}
+use Rattle.hub_core.specs.View.{View, Change, Session, Reading, Taking, session_at, reading_at}
 use Rattle.hub_core.specs.declared.port.Room.{Room}
 use Rattle.hub_core.specs.declared.place.Place.{Place}
 use Rattle.hub_core.specs.declared.place.Place.TheVariants.{Free, Reserved, Occupied}
 use Rattle.hub_core.specs.declared.place.Row.{Row}
+use Rattle.hub_core.specs.declared.pool.Pool.{Pool}
 use Rattle.hub_core.specs.declared.token.End.{End}
 use Rattle.hub_core.specs.declared.token.End.TheVariants.{Write, Read}
 
--- the plain hub may act for 64 paths, and for 8 destinations of each; its buffers are one group
+-- the plain hub may act for 64 paths, and for 8 destinations of each
 abbrev pub hub_means : (groups : List (List ℕ)) (takes : ℕ) → Means
 hub_means groups takes = record { groups = groups; takes = takes; spare = 9000000; writes = λ path. nat_lt path 64; reads = λ path dest. nat_lt path 64 && nat_lt dest 8; most = 8 }
 
@@ -23,9 +26,16 @@ hub_means groups takes = record { groups = groups; takes = takes; spare = 900000
 abbrev pub port_of : (groups : List (List ℕ)) (takes : ℕ) → View → PortState (Unit {0})
 port_of groups takes v = record { view = v; means = hub_means groups takes; floors = floors_of groups v; home = tt }
 
--- the free set after all changes of the one group
-abbrev pub free_now : List ℕ → View → ℕ
-free_now sizes v = replay sizes v.changes (length v.changes)
+-- a group's pool word after the changes of all groups
+abbrev pub pool_after : List (List ℕ) → (group : ℕ) → List Change → Pool
+pool_after groups group changes = record {
+  changes = length (journal_of groups group changes);
+  free = replay (sizes_of groups group) (journal_of groups group changes) (length (journal_of groups group changes));
+}
+
+-- the word of a group of so many buffers that are all free
+abbrev pub full_pool : (buffers : ℕ) → Pool
+full_pool buffers = record { changes = 0; free = 2 ^ buffers - 1 }
 
 -- where a buffer's ring begins among the words
 abbrev pub start_of : List ℕ → ℕ → ℕ
@@ -35,9 +45,11 @@ start_of sizes buf = sum (take buf sizes)
 abbrev pub StartAt : List ℕ → (bufs : ℕ) → List ℕ → Type 0
 StartAt sizes bufs starts = (buf : ℕ) → buf < bufs → slice_get starts buf ≡ Some (start_of sizes buf)
 
--- the sizes of the buffers, and where all the rest lies
-pub record AreLaid (sizes starts words : List ℕ) (places : List Place) : Type 0 where
-  pub few : length sizes ≤ 32
+-- how many buffers each group has, the sizes of all buffers, and where all the rest lies
+pub record AreLaid (counts sizes starts words : List ℕ) (places : List Place) : Type 0 where
+  pub groups : length counts ≤ 4
+  pub buffers : All (λ count. (1 ≤ count) × (count ≤ 32)) counts
+  pub all : sum counts ≡ length sizes
   pub each : All (λ size. (1 ≤ size) × (size ≤ 8192)) sizes
   pub begin : StartAt sizes (length sizes) starts
   pub words_are : length words ≡ sum sizes
@@ -82,26 +94,32 @@ pub record IsRowOf (v : View) (buf : ℕ) (row : Row) : Type 0 where
   pub positions : (dest : ℕ) → dest < 8 → slice_get row.positions dest ≡ Some (position_of (session_at v row.path row.seq) dest (reading_at v row.path dest row.seq))
 
 -- the places show who has each buffer: a session, of which a party takes part, until the buffer is freed, or who holds it
-pub record ShowPlaces (sizes : List ℕ) (places : List Place) (v : View) : Type 0 where
+pub record ShowPlaces (groups : List (List ℕ)) (places : List Place) (v : View) : Type 0 where
   pub rows : (buf : ℕ) (row : Row) → slice_get places buf ≡ Some (Occupied row) → IsRowOf v buf row
   pub party : (buf : ℕ) (row : Row) (s : Session) → slice_get places buf ≡ Some (Occupied row) → session_at v row.path row.seq ≡ Some s → IsOver v row.path row.seq s → ⊥
-  pub sessions : (path seq : ℕ) (s : Session) → session_at v path seq ≡ Some s → (IsFreed (sizes ∷ []) v s → ⊥) → session_in (slice_get places s.buf) ≡ Some (path, seq)
+  pub sessions : (path seq : ℕ) (s : Session) → session_at v path seq ≡ Some s → (IsFreed groups v s → ⊥) → session_in (slice_get places s.buf) ≡ Some (path, seq)
   pub held : (buf : ℕ) (t : Taking) → v.held buf ≡ Some t → option_map reserved (slice_get places buf) ≡ Some 1
 
 -- the words show the last cells of each session until its buffer is freed: as many as the buffer has
-pub record ShowWords (sizes words : List ℕ) (v : View) : Type 0 where
+pub record ShowWords (groups : List (List ℕ)) (words : List ℕ) (v : View) : Type 0 where
   pub cells : (path seq : ℕ) (s : Session) → session_at v path seq ≡ Some s → All IsCell s.cells
-  pub ring : (path seq k cell : ℕ) (s : Session) → session_at v path seq ≡ Some s → (IsFreed (sizes ∷ []) v s → ⊥) → slice_get s.cells k ≡ Some cell → length s.cells ≤ k + s.size →
-      slice_get words (start_of sizes s.buf + k % s.size) ≡ Some cell
+  pub ring : (path seq k cell : ℕ) (s : Session) → session_at v path seq ≡ Some s → (IsFreed groups v s → ⊥) → slice_get s.cells k ≡ Some cell → length s.cells ≤ k + s.size →
+      slice_get words (start_of (all_sizes groups) s.buf + k % s.size) ≡ Some cell
 
 -- the numbers are those of what was done, and leave place for the takes that are left
-pub record AreCounts (sizes : List ℕ) (places : List Place) (changes free takes : ℕ) (v : View) : Type 0 where
-  pub changes_are : changes ≡ length v.changes
-  pub free_is : free ≡ free_now sizes v
-  pub moves : changes + sum_by taken places + 2 * takes ≤ 2000000
+pub record AreCounts (groups : List (List ℕ)) (places : List Place) (pools : List Pool) (takes : ℕ) (v : View) : Type 0 where
+  pub words : (group : ℕ) → group < length groups → slice_get pools group ≡ Some (pool_after groups group v.changes)
+  pub moves : length v.changes + sum_by taken places + 2 * takes ≤ 2000000
   pub sessions : (path : ℕ) → length (v.sessions path) + sum_by reserved places + takes ≤ 1000000
   pub some : (path seq : ℕ) (s : Session) → session_at v path seq ≡ Some s → 0 < s.dests
   pub dests : (path seq : ℕ) (s : Session) → session_at v path seq ≡ Some s → s.dests ≤ 8
+
+-- places, words and numbers show a view to which a list of steps leads
+pub record IsShown (groups : List (List ℕ)) (places : List Place) (words : List ℕ) (pools : List Pool) (takes : ℕ) (v : View) : Type 0 where
+  pub places_show : ShowPlaces groups places v
+  pub words_show : ShowWords groups words v
+  pub counts : AreCounts groups places pools takes v
+  pub led : IsLed groups v
 
 -- the destinations below a number that take part, by their positions
 abbrev pub counts_one : Option (Option ℕ) → ℕ

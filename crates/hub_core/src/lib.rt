@@ -3,10 +3,12 @@
 #![tactic(auto)]
 
 mod fit;
+mod groups;
 mod history;
 mod law;
 mod place;
 mod plain;
+mod pool;
 mod port;
 mod record;
 mod rings;

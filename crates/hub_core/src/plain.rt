@@ -1,16 +1,18 @@
 //! A hub on one thread.
-ghost use Rattle.std.specs.Prelude.{◌≡◌, ◌+◌, ◌/◌, ◌%◌, ◌^◌, ◌<◌, ◌≤◌, [], ◌∷◌, length, vec_capacity, All, IfOk};
+ghost use Rattle.std.specs.Prelude.{◌≡◌, ◌+◌, ◌/◌, ◌%◌, ◌^◌, ◌<◌, ◌≤◌, length, sum, All, IfOk};
 ghost use Rattle.gw_base.specs.Cell.{count_of};
-ghost use Rattle.hub_core.specs.Core.{IsLed};
 ghost use Rattle.hub_core.specs.View.{empty_view};
 ghost use Rattle.hub_core.specs.Calls.{buf_of, left_of};
 ghost use Rattle.hub_core.specs.Past.{event_of, view_after};
-ghost use Rattle.hub_core.specs.Plain.{AreLaid, ShowPlaces, ShowWords, AreCounts, hub_means};
+ghost use Rattle.hub_core.specs.Groups.{grouped};
+ghost use Rattle.hub_core.specs.Plain.{AreLaid, IsShown, hub_means};
 
 use crate::fit::smallest_fitting;
+use crate::groups::{after_free, after_take, find_group, first_buffer, full_pools, word_of};
 use crate::history::{Deed, History};
 use crate::place::{Place, Row};
-use crate::rings::{all_free, ring_starts};
+use crate::pool::Pool;
+use crate::rings::ring_starts;
 use crate::row::{advanced, find_session, first_positions, has_party, room_left, without};
 use crate::{End, Held, Joined, Left, Opened, Port, Room, Seen, Take};
 use gw_base::{BufNo, DestNo, GroupNo, Memory, PathNo};
@@ -55,11 +57,14 @@ fn leaving(end: &End, left: Left) -> Deed
     }
 }
 
-/// A hub of up to 32 buffers for 64 paths with eight destinations each, on one thread. It acts for all parties.
+/// A hub of up to four groups of 32 buffers each, for 64 paths with eight destinations each, on one thread. It acts for
+/// all parties.
 ///
 /// Each call costs the same whatever was done before, and no call takes memory.
 #[derive(Drop)]
 pub struct PlainHub {
+    /// The buffers of each group.
+    counts: Vec<u8>,
     /// The cells of each buffer.
     sizes: Vec<u32>,
     /// Where each buffer's ring of cells begins in the words.
@@ -68,38 +73,40 @@ pub struct PlainHub {
     words: Vec<u64>,
     /// What each buffer is used for.
     places: Vec<Place>,
-    /// The changes made, and the free set after them: bit i for buffer i.
-    changes: u32,
-    free: u32,
+    /// The pool word of each group.
+    pools: Vec<Pool>,
     takes: u32,
     past: History,
-    ghost laid: { AreLaid sizes.items starts.items words.items places.items },
-    ghost places_show: { ShowPlaces sizes.items places.items (view_after past.seat.me.0.deeds) },
-    ghost words_show: { ShowWords sizes.items words.items (view_after past.seat.me.0.deeds) },
-    ghost counts: { AreCounts sizes.items places.items changes free takes (view_after past.seat.me.0.deeds) },
-    ghost led: { IsLed (sizes.items ∷ []) (view_after past.seat.me.0.deeds) },
+    ghost laid: { AreLaid counts.items sizes.items starts.items words.items places.items },
+    ghost shown: { IsShown (grouped counts.items sizes.items) places.items words.items pools.items takes
+        (view_after past.seat.me.0.deeds) },
 }
 
 impl PlainHub {
-    /// A hub of 1 to 32 buffers, each of 1 to 8192 cells, all of them free, for 1,000,000 takes; it takes no memory
-    /// later. `cells` is the cells of each buffer. `Memory` where a growth was refused.
-    pub fn new(alloc: Global, cells: &[u32]) -> Result<PlainHub, Memory>
-        requires few { (1 ≤ length cells.now) × (length cells.now ≤ 32) }
+    ghost use Rattle.hub_core.specs.HubPort.{as_port, groups_of, view_of};
+
+    /// A hub of 1 to 4 groups of 1 to 32 buffers, each buffer of 1 to 8192 cells and free, for 1,000,000 takes; it
+    /// takes no memory later. `cells` is the cells of each buffer, group after group, and `counts` how many buffers
+    /// each group has. `Memory` where a growth was refused.
+    pub fn new(alloc: Global, cells: &[u32], counts: &[u8]) -> Result<PlainHub, Memory>
+        requires groups { (1 ≤ length counts.now) × (length counts.now ≤ 4) }
+        requires buffers { All (λ count. (1 ≤ count) × (count ≤ 32)) counts.now }
+        requires all { sum counts.now ≡ length cells.now }
         requires cells { All (λ size. (1 ≤ size) × (size ≤ 8192)) cells.now }
-        ensures view { IfOk result (λ hub. (⟦<PlainHub as Port>⟧.state hub).view ≡ empty_view) }
-        ensures means { IfOk result (λ hub. (⟦<PlainHub as Port>⟧.state hub).means ≡ hub_means (cells.now ∷ []) 1000000) }
+        ensures view { IfOk result (λ hub. view_of hub ≡ empty_view) }
+        ensures means { IfOk result (λ hub. (as_port hub).means ≡ hub_means (grouped counts.now cells.now) 1000000) }
     {
         let sizes = Vec::from_slice(alloc, cells)?;
         let (starts, total) = ring_starts(alloc, cells)?;
         let words = vec![in alloc; 0; total as usize]?;
         let places = vec![in alloc; Place::Free; cells.len()]?;
         Ok(PlainHub {
+            counts: Vec::from_slice(alloc, counts)?,
             sizes,
             starts,
             words,
             places,
-            changes: 0,
-            free: all_free(cells.len()),
+            pools: full_pools(alloc, counts)?,
             takes: MOST_TAKES,
             past: History::new(alloc)?,
         })
@@ -108,25 +115,36 @@ impl PlainHub {
 
 impl PlainHub {
     ghost use Rattle.hub_core.specs.Groups.{changes_in, IsWordOf};
+    ghost use Rattle.hub_core.specs.HubPort.{as_port, groups_of, view_of};
     ghost use Rattle.hub_core.specs.Joint.{Joint};
     ghost use Rattle.hub_core.specs.Journal.{AreInOrder};
 
     /// The pool word of the group: the number of its changes in its upper 32 bits, its free set in its lower 32.
     pub fn word(&self, group: GroupNo) -> u64
-        requires { group.0 < length (⟦<PlainHub as Port>⟧.state self.now).means.groups }
-        ensures word { IsWordOf (⟦<PlainHub as Port>⟧.state self.now).means.groups group.0 (⟦<PlainHub as Port>⟧.state self.now).view (result / 2 ^ 32) (result % 2 ^ 32) }
-        ensures joint { Joint (⟦<PlainHub as Port>⟧.state self.now).means.groups (⟦<PlainHub as Port>⟧.state self.now).view }
-        ensures in_order { AreInOrder (changes_in (⟦<PlainHub as Port>⟧.state self.now).means.groups group.0 (⟦<PlainHub as Port>⟧.state self.now).view) }
+        requires { group.0 < length (groups_of self.now) }
+        ensures word { IsWordOf (groups_of self.now) group.0 (view_of self.now) (result / 2 ^ 32) (result % 2 ^ 32) }
+        ensures joint { Joint (groups_of self.now) (view_of self.now) }
+        ensures in_order { AreInOrder (changes_in (groups_of self.now) group.0 (view_of self.now)) }
     {
-        let _one = group;
-        (u64::from(self.changes) << 32) + u64::from(self.free_set())
+        word_of(self.pools[usize::from(group.0)])
     }
+}
 
-    /// The free set: bit i for buffer i.
-    fn free_set(&self) -> u32
-        ensures { result ≡ self.now.free }
+impl PlainHub {
+    ghost use Rattle.std.specs.Prelude.{drop, take};
+    ghost use Rattle.hub_core.specs.Groups.{first_of, sizes_of};
+    ghost use Rattle.hub_core.specs.HubPort.{groups_of};
+
+    /// The group's first buffer, and the one after its last.
+    fn buffers_of(&self, group: GroupNo) -> (usize, usize)
+        requires { group.0 < length (groups_of self.now) }
+        ensures first { result.0 ≡ first_of self.now.counts.items group.0 }
+        ensures last { result.1 ≡ result.0 + length (sizes_of (groups_of self.now) group.0) }
+        ensures few { result.1 ≤ length self.now.sizes.items }
     {
-        self.free
+        let group = usize::from(group.0);
+        let first = first_buffer(&self.counts, group);
+        (first, first + usize::from(self.counts[group]))
     }
 }
 
@@ -134,51 +152,55 @@ impl Port for PlainHub {
     ghost use Rattle.std.specs.Prelude.{◌≡◌, ◌<◌, ◌≤◌, true, length};
     ghost use Rattle.hub_core.specs.Alone.{IsTakeOf, IsRoomOf, IsNextOf, IsSeenOf, IsLeavingOf};
     ghost use Rattle.hub_core.specs.Calls.{SameMeans, TakeUsed, SameParties, ByWriter, ByReader, ByEnd};
-    ghost use Rattle.hub_core.specs.Calls.{took_of, asked_of, next_of, saw_of, left_of, Answers, joins, Joins, FreesOwn};
+    ghost use Rattle.hub_core.specs.Calls.{took_of, asked_of, next_of, saw_of, left_of};
+    ghost use Rattle.hub_core.specs.Calls.{Answers, joins, Joins, FreesOwn};
     ghost use Rattle.hub_core.specs.Floors.{IsFresh};
-    ghost use Rattle.hub_core.specs.Past.{view_after};
-    ghost use Rattle.hub_core.specs.Plain.{port_of};
+    ghost use Rattle.hub_core.specs.HubPort.{as_port, groups_of, view_of};
     ghost use Rattle.hub_core.specs.Stays.{Stays};
     ghost use Rattle.hub_core.specs.Tokens.{Writes, Reads, TakesPart, asked, saw, SameOpened, SameJoined};
     ghost use Rattle.hub_core.specs.View.{grow};
 
     ghost Home = { Unit {0} };
 
-    ghost state = { λ hub. port_of (hub.sizes.items ∷ []) hub.takes (view_after hub.past.seat.me.0.deeds) };
+    ghost state = { as_port };
 
     /// As for any port; the answer has the pool word of this call.
     fn take(&mut self, group: GroupNo, need: u64) -> Take
-        requires group { group.0 < length (⟦<PlainHub as Port>⟧.state self.old).means.groups }
-        requires takes { 0 < (⟦<PlainHub as Port>⟧.state self.old).means.takes }
-        ensures view { (⟦<PlainHub as Port>⟧.state self.new).view ≡ grow (took_of group.0 need result) (⟦<PlainHub as Port>⟧.state self.old).view }
-        ensures answers { Answers (⟦<PlainHub as Port>⟧.state self.new).view (⟦<PlainHub as Port>⟧.state self.old).means.groups group.0 need result }
-        ensures fresh { IsFresh (⟦<PlainHub as Port>⟧.state self.old).view (⟦<PlainHub as Port>⟧.state self.old).floors (took_of group.0 need result) }
-        ensures stays { Stays SameParties TakeUsed (⟦<PlainHub as Port>⟧.state self.old) (⟦<PlainHub as Port>⟧.state self.new) }
+        requires group { group.0 < length (groups_of self.old) }
+        requires takes { 0 < (as_port self.old).means.takes }
+        ensures view { view_of self.new ≡ grow (took_of group.0 need result) (view_of self.old) }
+        ensures answers { Answers (view_of self.new) (groups_of self.old) group.0 need result }
+        ensures fresh { IsFresh (view_of self.old) (as_port self.old).floors (took_of group.0 need result) }
+        ensures stays { Stays SameParties TakeUsed (as_port self.old) (as_port self.new) }
 
         // Beside the port's: a buffer that fits is taken by the next change, and an overflow's word is the present one.
-        ensures exact { IsTakeOf (⟦<PlainHub as Port>⟧.state self.old).view (⟦<PlainHub as Port>⟧.state self.old).means.groups group.0 need result }
+        ensures exact { IsTakeOf (view_of self.old) (groups_of self.old) group.0 need result }
     {
+        let (first, last) = self.buffers_of(group);
+        let at = usize::from(group.0);
+        let pool = self.pools[at];
         self.takes -= 1;
-        let Some(at) = smallest_fitting(&self.sizes, self.free, need) else {
+        let Some(place) = smallest_fitting(&self.sizes[first..last], pool.free, need) else {
             self.past.note(Deed::Refused {
                 group: group.0,
-                change: self.changes,
-                free: self.free,
+                change: pool.changes,
+                free: pool.free,
                 need,
             });
             return Take::Overflow {
-                change: self.changes,
-                free: self.free,
+                change: pool.changes,
+                free: pool.free,
             };
         };
-        self.changes += 1;
-        self.free -= 1 << at;
-        self.places[at] = Place::Reserved;
+        let buf = first + place;
+        let pool = after_take(pool, place);
         let held = Held {
-            buf: BufNo(at as u8),
-            cells: self.sizes[at],
-            change: self.changes,
+            buf: BufNo(buf as u8),
+            cells: self.sizes[buf],
+            change: pool.changes,
         };
+        self.pools[at] = pool;
+        self.places[buf] = Place::Reserved;
         self.past.note(Deed::Took {
             group: group.0,
             change: held.change,
@@ -187,7 +209,7 @@ impl Port for PlainHub {
             need,
         });
         Take::Granted {
-            change: self.changes,
+            change: held.change,
             held,
         }
     }
@@ -228,16 +250,16 @@ impl Port for PlainHub {
 
     /// As for any port; the room is that of the present position.
     fn room(&mut self, at: &mut Opened) -> Room
-        requires { Writes (⟦<PlainHub as Port>⟧.state self.old).view at.old }
-        ensures view { (⟦<PlainHub as Port>⟧.state self.new).view ≡ grow (asked_of at.old result) (⟦<PlainHub as Port>⟧.state self.old).view }
+        requires { Writes (view_of self.old) at.old }
+        ensures view { view_of self.new ≡ grow (asked_of at.old result) (view_of self.old) }
         ensures token { SameOpened at.new (asked result at.old) }
         ensures cells { (at.old.room ≤ result.cells) × (result.cells ≤ at.old.cells) }
-        ensures writes { Writes (⟦<PlainHub as Port>⟧.state self.new).view at.new }
-        ensures fresh { IsFresh (⟦<PlainHub as Port>⟧.state self.old).view (⟦<PlainHub as Port>⟧.state self.old).floors (asked_of at.old result) }
-        ensures stays { Stays (ByWriter at.old.path.0 0) SameMeans (⟦<PlainHub as Port>⟧.state self.old) (⟦<PlainHub as Port>⟧.state self.new) }
+        ensures writes { Writes (view_of self.new) at.new }
+        ensures fresh { IsFresh (view_of self.old) (as_port self.old).floors (asked_of at.old result) }
+        ensures stays { Stays (ByWriter at.old.path.0 0) SameMeans (as_port self.old) (as_port self.new) }
 
         // Beside the port's: the look is exact.
-        ensures exact { IsRoomOf (⟦<PlainHub as Port>⟧.state self.old).view at.old.path.0 at.old.seq result }
+        ensures exact { IsRoomOf (view_of self.old) at.old.path.0 at.old.seq result }
     {
         let Place::Occupied(row) = self.places[usize::from(at.buf.0)] else {
             unreachable!();
@@ -287,20 +309,21 @@ impl Port for PlainHub {
 
     /// As for any port; `None` exactly where the path has no session of that number for the destination.
     fn next(&mut self, group: GroupNo, path: PathNo, dest: DestNo, seq: u32) -> Option<Joined>
-        requires group { group.0 < length (⟦<PlainHub as Port>⟧.state self.old).means.groups }
-        requires acts { (⟦<PlainHub as Port>⟧.state self.old).means.reads path.0 dest.0 ≡ true }
-        requires seq { length ((⟦<PlainHub as Port>⟧.state self.old).view.readings path.0 dest.0) ≡ seq }
-        ensures view { (⟦<PlainHub as Port>⟧.state self.new).view ≡ grow (next_of group.0 path.0 dest.0 seq result) (⟦<PlainHub as Port>⟧.state self.old).view }
-        ensures joins { Joins (⟦<PlainHub as Port>⟧.state self.new).view path dest seq result }
-        ensures fresh { IsFresh (⟦<PlainHub as Port>⟧.state self.old).view (⟦<PlainHub as Port>⟧.state self.old).floors (next_of group.0 path.0 dest.0 seq result) }
-        ensures stays { Stays (ByReader path.0 dest.0 (joins result)) SameMeans (⟦<PlainHub as Port>⟧.state self.old) (⟦<PlainHub as Port>⟧.state self.new) }
+        requires group { group.0 < length (groups_of self.old) }
+        requires acts { (as_port self.old).means.reads path.0 dest.0 ≡ true }
+        requires seq { length ((view_of self.old).readings path.0 dest.0) ≡ seq }
+        ensures view { view_of self.new ≡ grow (next_of group.0 path.0 dest.0 seq result) (view_of self.old) }
+        ensures joins { Joins (view_of self.new) path dest seq result }
+        ensures fresh { IsFresh (view_of self.old) (as_port self.old).floors (next_of group.0 path.0 dest.0 seq result) }
+        ensures stays { Stays (ByReader path.0 dest.0 (joins result)) SameMeans (as_port self.old) (as_port self.new) }
 
         // Beside the port's: the look is exact.
-        ensures exact { IsNextOf (⟦<PlainHub as Port>⟧.state self.old).view (⟦<PlainHub as Port>⟧.state self.old).means.groups group.0 path.0 dest.0 seq result }
+        ensures exact { IsNextOf (view_of self.old) (groups_of self.old) group.0 path.0 dest.0 seq result }
     {
-        let (buf, row) = find_session(&self.places, path.0, seq)?;
+        let (first, last) = self.buffers_of(group);
+        let (place, row) = find_session(&self.places[first..last], path.0, seq)?;
         row.positions[usize::from(dest.0)]?;
-        let buf = buf as u8;
+        let buf = (first + place) as u8;
         self.past.note(Deed::Joining {
             path: path.0,
             dest: dest.0,
@@ -322,16 +345,16 @@ impl Port for PlainHub {
 
     /// As for any port; all that is published is seen.
     fn seen(&mut self, at: &mut Joined) -> Seen
-        requires { Reads (⟦<PlainHub as Port>⟧.state self.old).view at.old }
-        ensures view { (⟦<PlainHub as Port>⟧.state self.new).view ≡ grow (saw_of at.old result) (⟦<PlainHub as Port>⟧.state self.old).view }
+        requires { Reads (view_of self.old) at.old }
+        ensures view { view_of self.new ≡ grow (saw_of at.old result) (view_of self.old) }
         ensures token { SameJoined at.new (saw result at.old) }
         ensures cells { at.old.seen ≤ result.cells }
-        ensures reads { Reads (⟦<PlainHub as Port>⟧.state self.new).view at.new }
-        ensures fresh { IsFresh (⟦<PlainHub as Port>⟧.state self.old).view (⟦<PlainHub as Port>⟧.state self.old).floors (saw_of at.old result) }
-        ensures stays { Stays (ByReader at.old.path.0 at.old.dest.0 0) SameMeans (⟦<PlainHub as Port>⟧.state self.old) (⟦<PlainHub as Port>⟧.state self.new) }
+        ensures reads { Reads (view_of self.new) at.new }
+        ensures fresh { IsFresh (view_of self.old) (as_port self.old).floors (saw_of at.old result) }
+        ensures stays { Stays (ByReader at.old.path.0 at.old.dest.0 0) SameMeans (as_port self.old) (as_port self.new) }
 
         // Beside the port's: the look is exact.
-        ensures exact { IsSeenOf (⟦<PlainHub as Port>⟧.state self.old).view at.old.path.0 at.old.seq result }
+        ensures exact { IsSeenOf (view_of self.old) at.old.path.0 at.old.seq result }
     {
         let Place::Occupied(row) = self.places[usize::from(at.buf.0)] else {
             unreachable!();
@@ -372,13 +395,13 @@ impl Port for PlainHub {
 
     /// As for any port; `Last` exactly where no other party takes part.
     fn leave(&mut self, end: End) -> Left
-        requires { TakesPart (⟦<PlainHub as Port>⟧.state self.old).view end }
-        ensures view { (⟦<PlainHub as Port>⟧.state self.new).view ≡ grow (left_of end result) (⟦<PlainHub as Port>⟧.state self.old).view }
+        requires { TakesPart (view_of self.old) end }
+        ensures view { view_of self.new ≡ grow (left_of end result) (view_of self.old) }
         ensures frees { FreesOwn end result }
-        ensures stays { Stays (ByEnd end) SameMeans (⟦<PlainHub as Port>⟧.state self.old) (⟦<PlainHub as Port>⟧.state self.new) }
+        ensures stays { Stays (ByEnd end) SameMeans (as_port self.old) (as_port self.new) }
 
         // Beside the port's: the last one is told so, and no other.
-        ensures exact { IsLeavingOf (⟦<PlainHub as Port>⟧.state self.new).view end result }
+        ensures exact { IsLeavingOf (view_of self.new) end result }
     {
         let buf = session_buf(&end);
         let at = usize::from(buf.0);
@@ -391,12 +414,12 @@ impl Port for PlainHub {
             self.past.note(leaving(&end, Left::Others));
             return Left::Others;
         }
-        let free = self.free_set() + (1 << at);
-        self.changes += 1;
-        self.free = free;
+        let (group, place) = find_group(&self.counts, at);
+        let pool = after_free(self.pools[group], place);
+        self.pools[group] = pool;
         self.places[at] = Place::Free;
         let left = Left::Last {
-            change: self.changes,
+            change: pool.changes,
             buf,
         };
         self.past.note(leaving(&end, left));

@@ -7,7 +7,7 @@ use std::alloc::Global;
 
 /// Where each buffer's ring begins, and how many words all rings have.
 pub(crate) fn ring_starts(alloc: Global, sizes: &[u32]) -> Result<(Vec<u32>, u32), Memory>
-    requires few { length sizes.now ≤ 32 }
+    requires few { length sizes.now ≤ 128 }
     requires sizes { All (λ size. (1 ≤ size) × (size ≤ 8192)) sizes.now }
     ensures starts { IfOk result (λ laid. StartAt sizes.now (length sizes.now) laid.0.items) }
     ensures words { IfOk result (λ laid. laid.1 ≡ sum sizes.now) }

@@ -4,6 +4,8 @@
 
 mod examples;
 #[cfg(test)]
+mod groups;
+#[cfg(test)]
 mod rings;
 #[cfg(test)]
 mod tests;

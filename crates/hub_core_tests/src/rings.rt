@@ -93,7 +93,7 @@ fn carry_nine<P: Port>(port: &mut P, cell: u64) -> Option<Told>
 
 #[test]
 fn nine_cells_go_round_a_buffer_of_four(rt: HostRuntime) -> Result<(), Fail> {
-    let mut hub = PlainHub::new(rt.alloc(), &[4])?;
+    let mut hub = PlainHub::new(rt.alloc(), &[4], &[1])?;
     let room = |cells: u32| Room { cells, readers: 1 };
     let seen = |cells: u32, writer: bool| Seen {
         cells,
@@ -158,7 +158,7 @@ fn hand_to_last<P: Port>(port: &mut P, cell: u64) -> Option<Told>
 
 #[test]
 fn the_eighth_destination_reads_and_leaves(rt: HostRuntime) -> Result<(), Fail> {
-    let mut hub = PlainHub::new(rt.alloc(), &[4])?;
+    let mut hub = PlainHub::new(rt.alloc(), &[4], &[1])?;
     let seen = Seen {
         cells: 1,
         bytes: 7,

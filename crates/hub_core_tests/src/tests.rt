@@ -95,7 +95,7 @@ fn carry_four<P: Port>(port: &mut P, cells: (u64, u64, u64, u64)) -> Option<Carr
 
 #[test]
 fn four_cells_go_through_a_buffer_of_two(rt: HostRuntime) -> Result<(), Fail> {
-    let mut hub = PlainHub::new(rt.alloc(), &[2])?;
+    let mut hub = PlainHub::new(rt.alloc(), &[2], &[1])?;
     let empty = Room {
         cells: 2,
         readers: 1,
@@ -207,7 +207,7 @@ fn share_one<P: Port>(port: &mut P, cell: u64) -> Option<Shared>
 
 #[test]
 fn three_destinations_share_the_smallest_of_equal_buffers(rt: HostRuntime) -> Result<(), Fail> {
-    let mut hub = PlainHub::new(rt.alloc(), &[8, 4, 4])?;
+    let mut hub = PlainHub::new(rt.alloc(), &[8, 4, 4], &[3])?;
     let seen = Seen {
         cells: 1,
         bytes: 7,

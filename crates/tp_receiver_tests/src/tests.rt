@@ -196,7 +196,7 @@ fn play_on<P: Port>(rt: &impl Abort, port: &mut P, rows: &[Row]) -> Result<(), F
 fn play(rt: &impl Abort, alloc: Global, rows: &[Row]) -> Result<(), Fail>
     requires { length rows.now ≤ 16 }
 {
-    let mut hub = PlainHub::new(alloc, &[4])?;
+    let mut hub = PlainHub::new(alloc, &[4], &[1])?;
     play_on(rt, &mut hub, rows)
 }
 

@@ -243,7 +243,7 @@ fn of_status(fs: u8) -> (usize, Tick, DestResult) {
 #[test]
 fn each_flow_status_is_obeyed(rt: HostRuntime) -> Result<(), Fail> {
     for fs in 0..16 {
-        let mut hub = PlainHub::new(rt.alloc(), &[20])?;
+        let mut hub = PlainHub::new(rt.alloc(), &[20], &[1])?;
         let row = Row {
             controls: &[(1, fs, 0, 0)],
             ticks: &[0, 1, 2],
@@ -289,7 +289,7 @@ const GAPS: [(u8, u32, u64); 27] = [
 fn separation_times_are_gaps(rt: HostRuntime) -> Result<(), Fail> {
     for (st, period, gap) in GAPS {
         let last = gap.saturating_add(1);
-        let mut hub = PlainHub::new(rt.alloc(), &[20])?;
+        let mut hub = PlainHub::new(rt.alloc(), &[20], &[1])?;
         let row = Row {
             period,
             controls: &[(1, 0, 0, st)],
@@ -403,7 +403,7 @@ const ROWS: [(Row, u64, DestResult); 9] = [
 #[test]
 fn frames_leave_in_their_ticks(rt: HostRuntime) -> Result<(), Fail> {
     for (row, end, result) in &ROWS {
-        let mut hub = PlainHub::new(rt.alloc(), &[20])?;
+        let mut hub = PlainHub::new(rt.alloc(), &[20], &[1])?;
         assert_eq!(rt;
             told(&mut hub, row),
             Some((row.ticks.len(), Tick(*end), *result))

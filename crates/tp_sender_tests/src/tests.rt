@@ -265,7 +265,7 @@ const ROWS: [Row; 6] = [
 #[test]
 fn sessions_end_as_their_rows_say(rt: HostRuntime) -> Result<(), Fail> {
     for (source, events, sent, end, result) in ROWS {
-        let mut hub = PlainHub::new(rt.alloc(), &[4])?;
+        let mut hub = PlainHub::new(rt.alloc(), &[4], &[1])?;
         let told = outcome(&mut hub, source, events);
         assert_eq!(rt;
             told.map(|r| (r.sent, r.end, r.result)),

@@ -1,4 +1,4 @@
-use Rattle.std.proofs.Common.{Bool, ◌<◌, ◌≤◌, length, subst, ap, ◌∙◌, arith}
+use Rattle.std.proofs.Common.{ℕ, Bool, List, ◌<◌, ◌≤◌, length, subst, ap, ◌∙◌, arith}
 use Rattle.std.specs.Bool.{MatchBool}
 use Rattle.tp_sender.specs.declared.event.TxEvent.TheVariants.{RunEnd}
 use Rattle.gw_run.specs.declared.gateway.Gateway.{Gateway}
@@ -30,5 +30,6 @@ pub returns-clause-over : goal.returns-clause-over
 returns-clause-over c =
     let B : Bool → Type 0 = λ b. MatchBool b (length c.loop.self.dests < length c.end_once.new.self.dests) (length c.end_once.new.self.dests ≤ length c.loop.self.dests) in
     let at = c.requires.at in
-    let can = can-tell-sender c.loop.self c.args.last.0 c.args.last.0 _ _ _ RunEnd (c.loop.invariant.ends at.0 at.1 at.2 at.3).stands (omega arith) c.requires.tick (λ e. cc) in
-    is-over c.loop.self c.end_once.new.self c.args.last.0 can.dest can.group c.in_ok-end_once.ensures.told (subst B c.if-branch.false c.in_ok-end_once.ensures.more)
+    let stands = (c.loop.invariant.ends at.0 at.1 at.2 at.3).stands in
+    let can = can-tell-sender c.loop.self c.args.last.0 c.args.last.0 _ _ _ RunEnd stands (omega arith) c.requires.tick (λ e. cc) in
+    is-over c.loop.self c.end_once.new.self c.args.last.0 (ap (λ (l : List (List ℕ)). length l) stands.pool.groups) can.dest can.group c.in_ok-end_once.ensures.told (subst B c.if-branch.false c.in_ok-end_once.ensures.more)

@@ -1,11 +1,13 @@
 use Rattle.std.proofs.Common.{ap, sym, subst, refl}
 use Rattle.std.specs.Prelude.{slice_set}
 use Rattle.hub_core.proofs.Growing.{same-opened, writes-published, by-published}
-use Rattle.hub_core.proofs.Hubs.{shown-of, laid-place, stays-same, party-at, party-there, party-row}
+use Rattle.hub_core.proofs.Hubs.{laid-place, stays-same, party-at, party-there, party-row}
 use Rattle.hub_core.proofs.Led.{published-may}
-use Rattle.hub_core.proofs.Shown.{IsShown, after-published}
+use Rattle.hub_core.proofs.Shown.{after-published}
 use Rattle.hub_core.proofs.plain.PlainHubPort.publish.Goals as goal
+use Rattle.hub_core.specs.HubPort.{groups_of}
 use Rattle.hub_core.specs.Past.{view_after}
+use Rattle.hub_core.specs.Plain.{IsShown}
 use Rattle.hub_core.specs.View.{Published}
 use Rattle.hub_core.specs.declared.place.Place.TheVariants.{Occupied}
 use Rattle.hub_core.specs.declared.token.End.TheVariants.{Write}
@@ -28,10 +30,10 @@ invariant_of-self c =
     let found = party-row hub (Write t) c.from-buf.result c.index.result.now row c.requires.writes c.from-buf.ensures c.index.ensures c.in-Occupied.is in
     let next = Occupied (record row { shown = t.put; told = t.given }) in
     let new = slice_set hub.places.items c.from-buf.result next in
-    let after = after-published hub.sizes.items hub.places.items hub.words.items hub.changes hub.free hub.takes v (shown-of hub) t row new c.args.bytes c.requires.writes found.0 found.1 found.2 c.requires.bytes
+    let after = after-published (groups_of hub) hub.places.items hub.words.items hub.pools.items hub.takes v hub.shown t row new c.args.bytes c.requires.writes found.0 found.1 found.2 c.requires.bytes
     (ap (λ i. slice_set hub.places.items i next) c.from-buf.ensures) (published-may v t c.args.bytes c.requires.writes c.requires.bytes) in
-    let all = subst (IsShown hub.sizes.items new hub.words.items hub.changes hub.free hub.takes) (sym (ap view_after c.note.ensures)) after in
-    record { laid = laid-place _ _ _ _ _ _ hub.laid; places_show = all.places_show; words_show = all.words_show; counts = all.counts; led = all.led }
+    let all = subst (IsShown (groups_of hub) new hub.words.items hub.pools.items hub.takes) (sym (ap view_after c.note.ensures)) after in
+    record { laid = laid-place _ _ _ _ _ _ _ hub.laid; shown = all }
 
 pub returns-clause-writes : goal.returns-clause-writes
 returns-clause-writes c = writes-published _ _ _ _ c.args.bytes c.requires.writes c.requires.bytes (ap view_after c.note.ensures) (same-opened _ _ refl)

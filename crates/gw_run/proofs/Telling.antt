@@ -73,14 +73,14 @@ most-one : (byte : Option ℕ) → bytes_of_address byte ≤ 1
 most-one None = omega arith
 most-one (Some byte) = omega arith
 
-module _ (address : Address) (functional : Bool) where
-  -- the start of a short message, where the frame is one
-  Short : Seen → Type 0
-  Short seen = is_start functional seen.meaning ≡ true → IsShortStart (bytes_of_address address.byte) seen.size seen.meaning
+-- the start of a short message, where the frame is a start
+abbrev ShortIfStart : (functional : Bool) → (a : ℕ) → Seen → Type 0
+ShortIfStart functional a seen = is_start functional seen.meaning ≡ true → IsShortStart a seen.size seen.meaning
 
+module _ (address : Address) (functional : Bool) where
   -- a frame of the address or of another one before others
   one-more : (tick : ℕ) (frame : CanFrame) (later : List InTick) (same : Bool) → is_addressed (address_of address) frame ≡ same → IsBuiltFrame (Source address functional) frame →
-      AllByRecursion Short (seen_for (address_of address) later) → AllByRecursion Short (seen_for (address_of address) (record { tick = tick; frame = frame } ∷ later))
+      AllByRecursion (ShortIfStart functional (bytes_of_address address.byte)) (seen_for (address_of address) later) → AllByRecursion (ShortIfStart functional (bytes_of_address address.byte)) (seen_for (address_of address) (record { tick = tick; frame = frame } ∷ later))
   one-more tick frame later true same built rest =
       let a : ℕ = bytes_of_address address.byte in
       rw same (
@@ -91,7 +91,7 @@ module _ (address : Address) (functional : Bool) where
   one-more tick frame later false same built rest = rw same rest
 
   starts-from : (start period before : ℕ) (frames : List Stamped) → All (λ s. IsBuiltFrame (Source address functional) s.frame) frames →
-      AllByRecursion Short (seen_for (address_of address) (in_ticks_from start period before frames))
+      AllByRecursion (ShortIfStart functional (bytes_of_address address.byte)) (seen_for (address_of address) (in_ticks_from start period before frames))
   starts-from start period before [] built = tt
   starts-from start period before (s ∷ later) built =
       let next : ℕ = max before (tick_at start period s.at.0) in
@@ -105,10 +105,9 @@ module _ (address : Address) (functional : Bool) where
 short-of-all : (p : Played) → All (λ s. IsBuiltFrame (Source p.m.source p.m.rx.functional) s.frame) p.source → AreAllShort (deeds_of (run_of p))
 short-of-all p built =
     let o : SerialRun = run_of p in
-    let OfChannel : Seen → Type 0 = λ seen. is_start p.m.rx.functional seen.meaning ≡ true → IsShortStart (bytes_of_address p.m.source.byte) seen.size seen.meaning in
-    let whole : AllByRecursion OfChannel (came_by frames_in (turns_of (works_of o))) =
-    subst (AllByRecursion OfChannel) (sym (ap (λ (r : RunTold). r.seen) p.plays.tells)) (starts-from p.m.source p.m.rx.functional p.clock.start.0 p.clock.period 0 p.source built) in
-    let read : ℕ → Type 0 = λ a. AllByRecursion (λ (seen : Seen). is_start p.m.rx.functional seen.meaning ≡ true → IsShortStart a seen.size seen.meaning) (came_by frames_in (turns_of (works_of o))) in
+    let whole : AllByRecursion (ShortIfStart p.m.rx.functional (bytes_of_address p.m.source.byte)) (came_by frames_in (turns_of (works_of o))) =
+    subst (AllByRecursion (ShortIfStart p.m.rx.functional (bytes_of_address p.m.source.byte))) (sym (ap (λ (r : RunTold). r.seen) p.plays.tells)) (starts-from p.m.source p.m.rx.functional p.clock.start.0 p.clock.period 0 p.source built) in
+    let read : ℕ → Type 0 = λ a. AllByRecursion (ShortIfStart p.m.rx.functional a) (came_by frames_in (turns_of (works_of o))) in
     let starts : AllByRecursion (StartsShort p.m.rx) (came_by frames_in (turns_of o.ticks)) =
     all-front (StartsShort p.m.rx) (came_by frames_in (turns_of o.ticks)) (came_by frames_in o.end.turns) (subst (AllByRecursion (StartsShort p.m.rx)) (came-append frames_in o.end.turns (turns_of o.ticks)) (subst read (sym p.are.address) whole)) in
     (subst (AreShort p.m.rx) (sym (turns-same o.ticks)) (record { address = omega (arith, p.are.address, most-one p.m.source.byte); starts = starts; looks = all-look o refl }), tt)

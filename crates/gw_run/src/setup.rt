@@ -2,6 +2,7 @@
 ghost use Rattle.std.specs.Prelude.{◌≡◌, ◌≢◌, ◌≤◌, List, ℕ, true, MatchBool, MatchOption};
 ghost use Rattle.std.specs.List.{list_all};
 ghost use Rattle.gw_config.specs.Config.{Configuration};
+ghost use Rattle.gw_config.specs.Lawful.{IsLawfulChannel};
 ghost use Rattle.gw_config.specs.Texts.{is_name_byte};
 ghost use Rattle.gw_law.specs.Channels.{bytes_of_address};
 ghost use Rattle.receiver_law.specs.ReceptionCauses.{most_short};
@@ -208,12 +209,32 @@ impl<'a> Model for Setup<'a> {
 
 /// Which frames come to a channel.
 fn address_of(channel: &ChannelKeys) -> Address
-    ensures { result ≡ comes_to channel.now }
+    ensures address { result ≡ comes_to channel.now }
+    ensures lawful { IsLawfulChannel channel.now }
 {
     Address {
         id: channel.rx,
         byte: channel.rx_address,
     }
+}
+
+/// What the source channel is to its bus.
+fn source_side(receiver: &ChannelKeys) -> Side
+    ensures side { result ≡ Side.Source (comes_to receiver.now) receiver.now.functional }
+    ensures lawful { IsLawfulChannel receiver.now }
+{
+    Side::Source {
+        address: address_of(receiver),
+        functional: receiver.functional,
+    }
+}
+
+/// What the destination's channel is to its bus.
+fn destination_side(sender: &ChannelKeys) -> Side
+    ensures side { result ≡ Side.Destination (comes_to sender.now) }
+    ensures lawful { IsLawfulChannel sender.now }
+{
+    Side::Destination(address_of(sender))
 }
 
 /// The shape of a channel's frames.
@@ -439,14 +460,8 @@ fn setup_of<'a>(
     ensures { result ≡ setup_of source.now destination.now receiver.now sender.now config.now.period config.now.linger }
 {
     Setup {
-        source: bus_of(
-            source,
-            Side::Source {
-                address: address_of(receiver),
-                functional: receiver.functional,
-            },
-        ),
-        destination: bus_of(destination, Side::Destination(address_of(sender))),
+        source: bus_of(source, source_side(receiver)),
+        destination: bus_of(destination, destination_side(sender)),
         receiver,
         sender,
         period: config.period,

@@ -2,7 +2,7 @@
 use Rattle.std.specs.Prelude.{ℕ, max, List, [], ◌∷◌, map}
 use Rattle.can_frame.specs.Frame.{CanFrame}
 use Rattle.candump_log.specs.declared.log.Stamped.{Stamped}
-use Rattle.gw_law.specs.Channels.{InTick, answer_in, answers_in, bytes_of_address, frames_for, seen_in}
+use Rattle.gw_law.specs.Channels.{InTick, answers_in, bytes_of_address, frames_for, seen_in}
 use Rattle.gw_law.specs.Plan.{Address}
 use Rattle.tick_clock.specs.Ticks.{greatest, tick_at}
 use Rattle.tp_attempts.specs.Seen.{Seen, seen_frame}

@@ -8,14 +8,19 @@ use Rattle.gw_law.specs.Run.{AreAllShort, IsNeverBusy, IsRun}
 use Rattle.gw_law.proofs.Dests.{all-dests}
 use Rattle.gw_law.proofs.Routes.{all-routes}
 use Rattle.gw_law.proofs.Sources.{all-sources}
+use Rattle.gw_law.proofs.Written.{written-law}
 use Rattle.gw_law.proofs.pools.PoolRuns.{pool_of}
 
 pub laws : (a : Account) (d : Deeds) (windows : List Window) (v : View) → IsRun a d windows v → IsNeverBusy d → AreAllShort d → Lawful a
-laws a d windows v is never short = record {
-  sources = all-sources a a.plan.receivers d.receivers is.plan.receivers is.receivers never.receivers short;
-  dests = all-dests a a.plan.senders d.senders is.plan.senders is.senders never.senders;
-  routes = λ place other r s r_there s_there path. all-routes a d windows v place other r s is never r_there s_there path;
-  no_others = is.no_others;
-  pool = pool_of a d windows v is;
-  buses = is.buses;
-}
+laws a d windows v is never short =
+    let sources = all-sources a a.plan.receivers d.receivers is.plan.receivers is.receivers never.receivers short in
+    let dests = all-dests a a.plan.senders d.senders is.plan.senders is.senders never.senders in
+    record {
+      sources = sources;
+      dests = dests;
+      routes = λ place other r s r_there s_there path. all-routes a d windows v place other r s is never r_there s_there path;
+      no_others = is.no_others;
+      pool = pool_of a d windows v is;
+      buses = is.buses;
+      written = λ bus. written-law a sources dests bus (is.buses bus);
+    }

@@ -9,3 +9,4 @@ mod Routes
 pub mod runs
 pub mod Sources
 pub mod times
+pub mod Written

@@ -1,10 +1,11 @@
 -- What the buses of a run send in each tick, and in which order.
-use Rattle.std.specs.Prelude.{◌≡◌, ◌⊎◌, ℕ, ◌≤◌, ◌&&◌, true, List, [], ◌∷◌, length}
+use Rattle.std.specs.Prelude.{◌≡◌, ◌⊎◌, ℕ, ◌≤◌, ◌&&◌, true, false, List, [], ◌∷◌, length}
 use Rattle.std.specs.List.{AllByRecursion}
 use Rattle.can_frame.specs.Priority.{priority_of}
 use Rattle.hub_core.specs.declared.record.DestRecord.{DestRecord}
 use Rattle.hub_core.specs.declared.record.SessionRecord.{SessionRecord}
 use Rattle.receiver_law.specs.Channel.{SourceChannel, WritesControl}
+use Rattle.sender_law.specs.Channel.{WritesData}
 use Rattle.tp_attempts.specs.Seen.{is_data}
 use Rattle.tp_unit.specs.Box.{NeverFall, Written, left_in}
 use Rattle.tp_unit.specs.Reading.{unit_of}
@@ -41,6 +42,24 @@ pub record BusLaw (a : Account) (bus : ℕ) : Type 0 where
   pub end : AllByRecursion (λ (w : Written). w.tick ≤ a.plan.last) (a.left bus)
   pub by_priority : AreByPriority (a.left bus)
   pub own : AllByRecursion (λ (w : Written). IsControlOn a bus w ⊎ IsDataOn a bus w) (a.left bus)
+
+-- a frame is a flow control of a source channel on the bus, or a data frame of a destination's channel on it, and is what the
+-- channel's shape makes of a unit: the identifier, the kind, the bit rate, the address byte, the length and the filling are the shape's
+abbrev pub WritesControlOn : Account → (bus : ℕ) → Written → Type 0
+WritesControlOn a bus w = (r : Receiving) × StandsIn a.plan.receivers r × (r.bus ≡ bus) × WritesControl r.set r.shape w
+
+abbrev pub WritesDataOn : Account → (bus : ℕ) → Written → Type 0
+WritesDataOn a bus w = (s : Sending) × StandsIn a.plan.senders s × (s.bus ≡ bus) × WritesData s.set.shape w
+
+-- no channel on the bus has FD frames
+pub record IsClassicBus (a : Account) (bus : ℕ) : Type 0 where
+  pub receivers : AllByRecursion (λ (r : Receiving). r.bus ≡ bus → r.shape.fd ≡ false) a.plan.receivers
+  pub senders : AllByRecursion (λ (s : Sending). s.bus ≡ bus → s.set.shape.fd ≡ false) a.plan.senders
+
+-- each frame that a bus sends is written so, and none is an FD frame where no channel of the bus has those
+pub record WrittenLaw (a : Account) (bus : ℕ) : Type 0 where
+  pub by_shape : AllByRecursion (λ (w : Written). WritesControlOn a bus w ⊎ WritesDataOn a bus w) (a.left bus)
+  pub classic : IsClassicBus a bus → AllByRecursion (λ (w : Written). w.frame.fd ≡ false) (a.left bus)
 
 -- each record is one of a configured source channel, or of a configured destination
 abbrev pub IsOfReceiving : Account → SessionRecord → Type 0

@@ -189,6 +189,10 @@ two_in_a_tick = record lawful_run { left = left_on (leaves 0 0x600 single_frame 
 abbrev pub frame_of_no_channel : Account
 frame_of_no_channel = record lawful_run { left = left_on (leaves 0 0x600 single_frame ∷ leaves 1 0x708 control_frame ∷ leaves 2 0x601 single_frame ∷ []) }
 
+-- the single frame leaves as an FD frame, which no channel of the bus has
+abbrev pub fd_on_a_classic_bus : Account
+fd_on_a_classic_bus = record lawful_run { left = left_on (record { tick = 0; frame = record (frame 0x600 single_frame) { fd = true } } ∷ leaves 1 0x708 control_frame ∷ []) }
+
 -- a frame leaves after the last tick
 abbrev pub frame_after_the_end : Account
 frame_after_the_end = record lawful_run { left = left_on (leaves 0 0x600 single_frame ∷ leaves 5 0x708 control_frame ∷ []) }
@@ -257,6 +261,8 @@ pub record NeighboursAreUnlawful : Type 0 where
   -- (BusLaw)
   pub two_in_a_tick : Lawful two_in_a_tick → ⊥
   pub frame_of_no_channel : Lawful frame_of_no_channel → ⊥
+  -- (WrittenLaw)
+  pub fd_on_a_classic_bus : Lawful fd_on_a_classic_bus → ⊥
   -- (ControlEmission)
   pub frame_after_the_end : Lawful frame_after_the_end → ⊥
   -- (SourceLaw)

@@ -9,7 +9,7 @@ use Rattle.sender_law.specs.Emission.{DataEmission, DestRecords}
 use Rattle.sender_law.specs.TransmissionCauses.{TransmissionCauses}
 use Rattle.gw_law.specs.Account.{Account, Route, dest_in, is_full_for, route_in, source_in}
 use Rattle.gw_law.specs.Delivery.{AreOfEach, DeliveryLaw}
-use Rattle.gw_law.specs.Emission.{BusLaw, ControlEmission, NoOthers}
+use Rattle.gw_law.specs.Emission.{BusLaw, ControlEmission, NoOthers, WrittenLaw}
 use Rattle.gw_law.specs.JointCauses.{JointCauses}
 use Rattle.gw_law.specs.Plan.{Receiving, Sending}
 use Rattle.gw_law.specs.PoolOfAccount.{PoolOf}
@@ -61,5 +61,6 @@ pub record Lawful (a : Account) : Type 0 where
   pub no_others : NoOthers a
   -- the moves of the pool replay, and at the end each buffer is free
   pub pool : PoolOf a
-  -- what each bus sends in a tick
+  -- what each bus sends in a tick, and that each frame is what its channel's shape makes of a unit
   pub buses : (bus : ℕ) → BusLaw a bus
+  pub written : (bus : ℕ) → WrittenLaw a bus

@@ -42,15 +42,15 @@ lawful-most false len fits = grind (arith, nat_tests)
 lawful-most true len fits = grind (arith, nat_tests)
 
 -- a frame of the source channel
-pub can-receive : (g : Gateway) (seen : List Seen) (answers : List Answer) (tick : ℕ) (frame : CanFrame) → IsLawful frame → length seen < 1000000 → InSource g seen answers tick →
-    CanTell g.receiver g.hub (Came (length frame.bytes) (unit_of 0 frame)) tick
-can-receive g seen answers tick frame lawful few at =
+pub can-receive : (g : Gateway) (seen : List Seen) (answers : List Answer) (a tick : ℕ) (frame : CanFrame) → IsLawful frame → length seen < 1000000 → g.machines.rx.a ≡ a → InSource g seen answers tick →
+    CanTell g.receiver g.hub (Came (length frame.bytes) (unit_of a frame)) tick
+can-receive g seen answers a tick frame lawful few same at =
     let s = at.stands in
     let count = ap length at.seen_is in
-    let address : g.receiver.set.a ≡ 0 = ap (λ (r : RxSet). r.a) s.receives.set ∙ g.machines.are.address in
-    can-tell g tick tick _ _ _ (Came (length frame.bytes) (unit_of 0 frame)) s (omega arith) (
+    let address : g.receiver.set.a ≡ a = ap (λ (r : RxSet). r.a) s.receives.set ∙ same in
+    can-tell g tick tick _ _ _ (Came (length frame.bytes) (unit_of a frame)) s (omega arith) (
       record { takes = omega (arith, count, s.pool.takes); spare = omega arith; number = omega (arith, count, s.receives.number) },
-      record { frame = frame; size_is = refl; most = lawful-most frame.fd (length frame.bytes) lawful.len; reads = ap (λ a. unit_of a frame) address },
+      record { frame = frame; size_is = refl; most = lawful-most frame.fd (length frame.bytes) lawful.len; reads = ap (λ n. unit_of n frame) address },
     )
 
 pub can-tell-sender : (g : Gateway) (t tick : ℕ) (turns : List RxTurn) (moments : List TxTurn) (view : View) (event : TxEvent) → Stands g t turns moments view → t ≤ tick → tick ≤ 10000000 →

@@ -4,17 +4,16 @@ use Rattle.tp_unit.specs.Box.{Answer}
 use Rattle.std.specs.Prelude.{All}
 use Rattle.std.proofs.lemmas.List.{append-nil}
 use Rattle.can_frame.specs.Frame.{CanFrame}
-use Rattle.can_frame.specs.declared.id.CanId.{CanId}
 use Rattle.tick_clock.specs.declared.clock.Clock.{Clock}
-use Rattle.tp_attempts.specs.Seen.{Seen, seen_frame}
-use Rattle.tp_unit.specs.Reading.{unit_of}
+use Rattle.tp_attempts.specs.Seen.{Seen}
 use Rattle.gw_run.specs.declared.gateway.Gateway.{Gateway}
 use Rattle.candump_log.specs.declared.log.Stamped.{Stamped}
 use Rattle.gw_run.specs.declared.machines.Machines.{Machines}
 use Rattle.gw_run.specs.Answers.{IsPlainAnswer, IsPlainControl}
 use Rattle.gw_run.specs.Feed.{ComeAfter, ComeWithin, TakesFirst}
-use Rattle.gw_law.specs.Channels.{InTick, answer_in, answers_in, is_same_id, seen_in}
-use Rattle.gw_run.specs.Frames.{greatest_tick, in_ticks, with_id}
+use Rattle.gw_law.specs.Channels.{InTick, answer_in, answers_in, bytes_of_address, frames_for, is_addressed, seen_in}
+use Rattle.gw_law.specs.Plan.{Address}
+use Rattle.gw_run.specs.Frames.{address_of, answers_for, greatest_tick, in_ticks, seen_by, seen_for, unit_for}
 use Rattle.gw_run.specs.Played.{Plays, Told}
 use Rattle.gw_run.specs.Playing.{DestinationSoFar, IsNext, MayWorkOnDestination, MayWorkOnSource, SoFar, SourceSoFar, WorksOnDestination, WorksOnSource}
 use Rattle.gw_run.specs.Standing.{AtBarrier, Finishes, InDestination, InSource, IsQuiet}
@@ -22,16 +21,16 @@ use Rattle.gw_run.proofs.Beginning.{begins-tick}
 use Rattle.gw_run.proofs.Feeds.{come_within, each-in_ticks, later-within, length-in_ticks, none-within}
 
 -- a tick's work on the source's bus, from one frame to another
-abbrev pub Receives : (id : CanId) (tick : ℕ) → (old : Gateway) → (before : List InTick) → (new : Gateway) → (after : List InTick) → Type 0
-Receives id tick old before new after =
-    (seen all : List Seen) (answers : List Answer) (last : ℕ) → SourceSoFar id all tick last seen before → InSource old seen answers tick →
-    (now : List Seen) × SourceSoFar id all tick last now after × InSource new now answers tick
+abbrev pub Receives : (address : Address) (tick : ℕ) → (old : Gateway) → (before : List InTick) → (new : Gateway) → (after : List InTick) → Type 0
+Receives address tick old before new after =
+    (seen all : List Seen) (answers : List Answer) (last : ℕ) → SourceSoFar address all tick last seen before → InSource old seen answers tick →
+    (now : List Seen) × SourceSoFar address all tick last now after × InSource new now answers tick
 
 -- a tick's work on the destination's bus, from one frame to another
-abbrev pub Answers : (id : CanId) (tick : ℕ) → (old : Gateway) → (before : List InTick) → (new : Gateway) → (after : List InTick) → Type 0
-Answers id tick old before new after =
-    (seen : List Seen) (answers all : List Answer) (last : ℕ) → DestinationSoFar id all tick last answers before → InDestination old seen answers tick →
-    (now : List Answer) × DestinationSoFar id all tick last now after × InDestination new seen now tick
+abbrev pub Answers : (address : Address) (tick : ℕ) → (old : Gateway) → (before : List InTick) → (new : Gateway) → (after : List InTick) → Type 0
+Answers address tick old before new after =
+    (seen : List Seen) (answers all : List Answer) (last : ℕ) → DestinationSoFar address all tick last answers before → InDestination old seen answers tick →
+    (now : List Answer) × DestinationSoFar address all tick last now after × InDestination new seen now tick
 
 -- a frame that came by a tick, where none comes before it, is of that tick
 takes-now : (tick last : ℕ) (frame : CanFrame) (old new : List InTick) → TakesFirst tick old new frame → ComeWithin tick last old → old ≡ record { tick = tick; frame = frame } ∷ new
@@ -47,146 +46,146 @@ leaves : (b : Bool) (f : InTick) (frames : List InTick) → b ≡ false → cond
 leaves b f frames other = rw other refl
 
 -- a frame of the source channel came
-source-takes : (id : CanId) (all seen : List Seen) (tick last : ℕ) (frame : CanFrame) (coming : List InTick) → is_same_id id frame.id ≡ true →
-    SourceSoFar id all tick last seen (record { tick = tick; frame = frame } ∷ coming) → SourceSoFar id all tick last (seen ++ seen_frame 0 tick frame ∷ []) coming
-source-takes id all seen tick last frame coming same far =
+source-takes : (address : Address) (all seen : List Seen) (tick last : ℕ) (frame : CanFrame) (coming : List InTick) → is_addressed address frame ≡ true →
+    SourceSoFar address all tick last seen (record { tick = tick; frame = frame } ∷ coming) → SourceSoFar address all tick last (seen ++ seen_by address tick frame ∷ []) coming
+source-takes address all seen tick last frame coming same far =
     let f : InTick = record { tick = tick; frame = frame } in
     record {
       all_is =
-          append_assoc seen (seen_frame 0 tick frame ∷ []) (seen_in 0 (with_id id coming))
-          ∙ ap (λ (frames : List InTick). seen ++ seen_in 0 frames) (sym (keeps (is_same_id id frame.id) f (with_id id coming) same)) ∙ far.all_is;
-      few = omega (arith, far.few, length-append seen (seen_frame 0 tick frame ∷ []));
+          append_assoc seen (seen_by address tick frame ∷ []) (seen_for address coming)
+          ∙ ap (λ (frames : List InTick). seen ++ seen_in (bytes_of_address address.byte) frames) (sym (keeps (is_addressed address frame) f (frames_for address coming) same)) ∙ far.all_is;
+      few = omega (arith, far.few, length-append seen (seen_by address tick frame ∷ []));
       within = far.within.2;
     }
 
 -- a frame that isn't of the source channel came
-source-leaves : (id : CanId) (all seen : List Seen) (tick last : ℕ) (frame : CanFrame) (coming : List InTick) → is_same_id id frame.id ≡ false →
-    SourceSoFar id all tick last seen (record { tick = tick; frame = frame } ∷ coming) → SourceSoFar id all tick last seen coming
-source-leaves id all seen tick last frame coming other far =
+source-leaves : (address : Address) (all seen : List Seen) (tick last : ℕ) (frame : CanFrame) (coming : List InTick) → is_addressed address frame ≡ false →
+    SourceSoFar address all tick last seen (record { tick = tick; frame = frame } ∷ coming) → SourceSoFar address all tick last seen coming
+source-leaves address all seen tick last frame coming other far =
     let f : InTick = record { tick = tick; frame = frame } in
     record {
-      all_is = ap (λ (frames : List InTick). seen ++ seen_in 0 frames) (sym (leaves (is_same_id id frame.id) f (with_id id coming) other)) ∙ far.all_is;
+      all_is = ap (λ (frames : List InTick). seen ++ seen_in (bytes_of_address address.byte) frames) (sym (leaves (is_addressed address frame) f (frames_for address coming) other)) ∙ far.all_is;
       few = omega (arith, far.few);
       within = far.within.2;
     }
 
 -- a frame of the destination's channel came
-destination-takes : (id : CanId) (all answers : List Answer) (tick last : ℕ) (frame : CanFrame) (coming : List InTick) → is_same_id id frame.id ≡ true →
-    DestinationSoFar id all tick last answers (record { tick = tick; frame = frame } ∷ coming) →
-    DestinationSoFar id all tick last (answers ++ answer_in tick (unit_of 0 frame)) coming
-destination-takes id all answers tick last frame coming same far =
+destination-takes : (address : Address) (all answers : List Answer) (tick last : ℕ) (frame : CanFrame) (coming : List InTick) → is_addressed address frame ≡ true →
+    DestinationSoFar address all tick last answers (record { tick = tick; frame = frame } ∷ coming) →
+    DestinationSoFar address all tick last (answers ++ answer_in tick (unit_for address frame)) coming
+destination-takes address all answers tick last frame coming same far =
     let f : InTick = record { tick = tick; frame = frame } in
     record {
       all_is =
-          append_assoc answers (answer_in tick (unit_of 0 frame)) (answers_in 0 (with_id id coming))
-          ∙ ap (λ (frames : List InTick). answers ++ answers_in 0 frames) (sym (keeps (is_same_id id frame.id) f (with_id id coming) same)) ∙ far.all_is;
+          append_assoc answers (answer_in tick (unit_for address frame)) (answers_for address coming)
+          ∙ ap (λ (frames : List InTick). answers ++ answers_in (bytes_of_address address.byte) frames) (sym (keeps (is_addressed address frame) f (frames_for address coming) same)) ∙ far.all_is;
       within = far.within.2;
       plain = far.plain.1;
     }
 
 -- a frame that isn't of the destination's channel came
-destination-leaves : (id : CanId) (all answers : List Answer) (tick last : ℕ) (frame : CanFrame) (coming : List InTick) → is_same_id id frame.id ≡ false →
-    DestinationSoFar id all tick last answers (record { tick = tick; frame = frame } ∷ coming) → DestinationSoFar id all tick last answers coming
-destination-leaves id all answers tick last frame coming other far =
+destination-leaves : (address : Address) (all answers : List Answer) (tick last : ℕ) (frame : CanFrame) (coming : List InTick) → is_addressed address frame ≡ false →
+    DestinationSoFar address all tick last answers (record { tick = tick; frame = frame } ∷ coming) → DestinationSoFar address all tick last answers coming
+destination-leaves address all answers tick last frame coming other far =
     let f : InTick = record { tick = tick; frame = frame } in
     record {
-      all_is = ap (λ (frames : List InTick). answers ++ answers_in 0 frames) (sym (leaves (is_same_id id frame.id) f (with_id id coming) other)) ∙ far.all_is;
+      all_is = ap (λ (frames : List InTick). answers ++ answers_in (bytes_of_address address.byte) frames) (sym (leaves (is_addressed address frame) f (frames_for address coming) other)) ∙ far.all_is;
       within = far.within.2;
       plain = far.plain.1;
     }
 
 -- the source's work goes on with a frame of its channel
-pub receives-one : (id : CanId) (tick : ℕ) (g0 g g1 : Gateway) (before coming later : List InTick) (frame : CanFrame) → TakesFirst tick coming later frame → is_same_id id frame.id ≡ true →
-    Receives id tick g0 before g coming →
-    ((seen : List Seen) (answers : List Answer) → InSource g seen answers tick → InSource g1 (seen ++ seen_frame 0 tick frame ∷ []) answers tick) →
-    Receives id tick g0 before g1 later
-receives-one id tick g0 g g1 before coming later frame takes same so_far step seen all answers last far at =
+pub receives-one : (address : Address) (tick : ℕ) (g0 g g1 : Gateway) (before coming later : List InTick) (frame : CanFrame) → TakesFirst tick coming later frame → is_addressed address frame ≡ true →
+    Receives address tick g0 before g coming →
+    ((seen : List Seen) (answers : List Answer) → InSource g seen answers tick → InSource g1 (seen ++ seen_by address tick frame ∷ []) answers tick) →
+    Receives address tick g0 before g1 later
+receives-one address tick g0 g g1 before coming later frame takes same so_far step seen all answers last far at =
     let here = so_far seen all answers last far at in
     let first = takes-now tick last frame coming later takes here.1.within in
-    (here.0 ++ seen_frame 0 tick frame ∷ [], source-takes id all here.0 tick last frame later same (subst (SourceSoFar id all tick last here.0) first here.1), step here.0 answers here.2)
+    (here.0 ++ seen_by address tick frame ∷ [], source-takes address all here.0 tick last frame later same (subst (SourceSoFar address all tick last here.0) first here.1), step here.0 answers here.2)
 
 -- and with one that isn't
-pub receives-other : (id : CanId) (tick : ℕ) (g0 g : Gateway) (before coming later : List InTick) (frame : CanFrame) → TakesFirst tick coming later frame → is_same_id id frame.id ≡ false →
-    Receives id tick g0 before g coming → Receives id tick g0 before g later
-receives-other id tick g0 g before coming later frame takes other so_far seen all answers last far at =
+pub receives-other : (address : Address) (tick : ℕ) (g0 g : Gateway) (before coming later : List InTick) (frame : CanFrame) → TakesFirst tick coming later frame → is_addressed address frame ≡ false →
+    Receives address tick g0 before g coming → Receives address tick g0 before g later
+receives-other address tick g0 g before coming later frame takes other so_far seen all answers last far at =
     let here = so_far seen all answers last far at in
     let first = takes-now tick last frame coming later takes here.1.within in
-    (here.0, source-leaves id all here.0 tick last frame later other (subst (SourceSoFar id all tick last here.0) first here.1), here.2)
+    (here.0, source-leaves address all here.0 tick last frame later other (subst (SourceSoFar address all tick last here.0) first here.1), here.2)
 
 -- the gateway may be given the source's next frame
-pub may_receive : (id : CanId) (tick : ℕ) (g0 g : Gateway) (before coming later : List InTick) (frame : CanFrame) → TakesFirst tick coming later frame → Receives id tick g0 before g coming →
-    MayWorkOnSource id tick g0 before →
+pub may_receive : (address : Address) (tick : ℕ) (g0 g : Gateway) (before coming later : List InTick) (frame : CanFrame) → TakesFirst tick coming later frame → Receives address tick g0 before g coming →
+    MayWorkOnSource address tick g0 before →
     (seen : List Seen) × (answers : List Answer) × (length seen < 1000000) × InSource g seen answers tick
-may_receive id tick g0 g before coming later frame takes so_far start =
+may_receive address tick g0 g before coming later frame takes so_far start =
     let here = so_far start.0 start.1 start.2 start.3 start.4 start.5 in
     let some : length coming ≡ length later + 1 = ap length takes.first ∙ omega arith in
     (here.0, start.2, omega (arith, here.1.few, some), here.2)
 
 -- the source's work of the tick is done
-pub receives-all : (id : CanId) (tick : ℕ) (g0 g g1 : Gateway) (before coming : List InTick) → ComeAfter tick coming → Receives id tick g0 before g coming →
+pub receives-all : (address : Address) (tick : ℕ) (g0 g g1 : Gateway) (before coming : List InTick) → ComeAfter tick coming → Receives address tick g0 before g coming →
     ((seen : List Seen) (answers : List Answer) → InSource g seen answers tick → InDestination g1 seen answers tick) →
-    WorksOnSource id tick g0 before g1 coming
-receives-all id tick g0 g g1 before coming after so_far step seen all answers last far at =
+    WorksOnSource address tick g0 before g1 coming
+receives-all address tick g0 g g1 before coming after so_far step seen all answers last far at =
     let here = so_far seen all answers last far at in
     (here.0, record { all_is = here.1.all_is; few = here.1.few; within = later-within tick tick last coming after here.1.within }, step here.0 answers here.2)
 
 -- the destination's work goes on with a frame of its channel
-pub answers-one : (id : CanId) (tick : ℕ) (g0 g g1 : Gateway) (before coming later : List InTick) (frame : CanFrame) → TakesFirst tick coming later frame → is_same_id id frame.id ≡ true →
-    Answers id tick g0 before g coming →
-    ((seen : List Seen) (answers : List Answer) → InDestination g seen answers tick → InDestination g1 seen (answers ++ answer_in tick (unit_of 0 frame)) tick) →
-    Answers id tick g0 before g1 later
-answers-one id tick g0 g g1 before coming later frame takes same so_far step seen answers all last far at =
+pub answers-one : (address : Address) (tick : ℕ) (g0 g g1 : Gateway) (before coming later : List InTick) (frame : CanFrame) → TakesFirst tick coming later frame → is_addressed address frame ≡ true →
+    Answers address tick g0 before g coming →
+    ((seen : List Seen) (answers : List Answer) → InDestination g seen answers tick → InDestination g1 seen (answers ++ answer_in tick (unit_for address frame)) tick) →
+    Answers address tick g0 before g1 later
+answers-one address tick g0 g g1 before coming later frame takes same so_far step seen answers all last far at =
     let here = so_far seen answers all last far at in
     let first = takes-now tick last frame coming later takes here.1.within in
-    (here.0 ++ answer_in tick (unit_of 0 frame), destination-takes id all here.0 tick last frame later same (subst (DestinationSoFar id all tick last here.0) first here.1), step seen here.0 here.2)
+    (here.0 ++ answer_in tick (unit_for address frame), destination-takes address all here.0 tick last frame later same (subst (DestinationSoFar address all tick last here.0) first here.1), step seen here.0 here.2)
 
 -- and with one that isn't
-pub answers-other : (id : CanId) (tick : ℕ) (g0 g : Gateway) (before coming later : List InTick) (frame : CanFrame) → TakesFirst tick coming later frame → is_same_id id frame.id ≡ false →
-    Answers id tick g0 before g coming → Answers id tick g0 before g later
-answers-other id tick g0 g before coming later frame takes other so_far seen answers all last far at =
+pub answers-other : (address : Address) (tick : ℕ) (g0 g : Gateway) (before coming later : List InTick) (frame : CanFrame) → TakesFirst tick coming later frame → is_addressed address frame ≡ false →
+    Answers address tick g0 before g coming → Answers address tick g0 before g later
+answers-other address tick g0 g before coming later frame takes other so_far seen answers all last far at =
     let here = so_far seen answers all last far at in
     let first = takes-now tick last frame coming later takes here.1.within in
-    (here.0, destination-leaves id all here.0 tick last frame later other (subst (DestinationSoFar id all tick last here.0) first here.1), here.2)
+    (here.0, destination-leaves address all here.0 tick last frame later other (subst (DestinationSoFar address all tick last here.0) first here.1), here.2)
 
 -- the gateway may be given the destination's next frame
-pub may_answer : (id : CanId) (tick : ℕ) (g0 g : Gateway) (before coming later : List InTick) (frame : CanFrame) → TakesFirst tick coming later frame → is_same_id id frame.id ≡ true → Answers id tick g0 before g coming →
-    MayWorkOnDestination id tick g0 before →
-    IsPlainControl (unit_of 0 frame)
-may_answer id tick g0 g before coming later frame takes same so_far start =
+pub may_answer : (address : Address) (tick : ℕ) (g0 g : Gateway) (before coming later : List InTick) (frame : CanFrame) → TakesFirst tick coming later frame → is_addressed address frame ≡ true → Answers address tick g0 before g coming →
+    MayWorkOnDestination address tick g0 before →
+    IsPlainControl (unit_for address frame)
+may_answer address tick g0 g before coming later frame takes same so_far start =
     let here = so_far start.0 start.1 start.2 start.3 start.4 start.5 in
     let first = takes-now tick start.3 frame coming later takes here.1.within in
-    let far : DestinationSoFar id start.2 tick start.3 here.0 (record { tick = tick; frame = frame } ∷ later) = subst (DestinationSoFar id start.2 tick start.3 here.0) first here.1 in
+    let far : DestinationSoFar address start.2 tick start.3 here.0 (record { tick = tick; frame = frame } ∷ later) = subst (DestinationSoFar address start.2 tick start.3 here.0) first here.1 in
     far.plain.0 same
 
 -- where the gateway stands at the destination's work
-pub at_destination : (id : CanId) (tick : ℕ) (g0 g : Gateway) (before coming : List InTick) → Answers id tick g0 before g coming →
-    MayWorkOnDestination id tick g0 before →
+pub at_destination : (address : Address) (tick : ℕ) (g0 g : Gateway) (before coming : List InTick) → Answers address tick g0 before g coming →
+    MayWorkOnDestination address tick g0 before →
     (seen : List Seen) × (answers : List Answer) × InDestination g seen answers tick
-at_destination id tick g0 g before coming so_far start =
+at_destination address tick g0 g before coming so_far start =
     let here = so_far start.0 start.1 start.2 start.3 start.4 start.5 in
     (start.0, here.0, here.2)
 
 -- where the gateway stands at the source's work
-pub at_source : (id : CanId) (tick : ℕ) (g0 g : Gateway) (before coming : List InTick) → Receives id tick g0 before g coming →
-    MayWorkOnSource id tick g0 before →
+pub at_source : (address : Address) (tick : ℕ) (g0 g : Gateway) (before coming : List InTick) → Receives address tick g0 before g coming →
+    MayWorkOnSource address tick g0 before →
     (seen : List Seen) × (answers : List Answer) × InSource g seen answers tick
-at_source id tick g0 g before coming so_far start =
+at_source address tick g0 g before coming so_far start =
     let here = so_far start.0 start.1 start.2 start.3 start.4 start.5 in
     (here.0, start.2, here.2)
 
 -- the destination's work of the tick is done
-pub answers-all : (id : CanId) (tick : ℕ) (g0 g g1 : Gateway) (before coming : List InTick) → ComeAfter tick coming → Answers id tick g0 before g coming →
+pub answers-all : (address : Address) (tick : ℕ) (g0 g g1 : Gateway) (before coming : List InTick) → ComeAfter tick coming → Answers address tick g0 before g coming →
     ((seen : List Seen) (answers : List Answer) → InDestination g seen answers tick → AtBarrier g1 seen answers (tick + 1)) →
-    WorksOnDestination id tick g0 before g1 coming
-answers-all id tick g0 g g1 before coming after so_far step seen answers all last far at =
+    WorksOnDestination address tick g0 before g1 coming
+answers-all address tick g0 g g1 before coming after so_far step seen answers all last far at =
     let here = so_far seen answers all last far at in
     (here.0, record { all_is = here.1.all_is; within = later-within tick tick last coming after here.1.within; plain = here.1.plain }, step seen here.0 here.2)
 
 -- before the first tick all frames are still to come
 pub starts : (g : Gateway) (m : Machines) (start period last : ℕ) (source destination : List Stamped) →
     length source + length destination ≤ 1000000 → greatest_tick start period source ≤ last → greatest_tick start period destination ≤ last →
-    All (λ (s : Stamped). IsPlainAnswer m.destination_id s.frame) destination → g.machines ≡ m → AtBarrier g [] [] 0 →
-    SoFar g m (seen_in 0 (with_id m.source_id (in_ticks start period source))) (answers_in 0 (with_id m.destination_id (in_ticks start period destination))) 0 last
+    All (λ (s : Stamped). IsPlainAnswer (address_of m.destination) s.frame) destination → g.machines ≡ m → AtBarrier g [] [] 0 →
+    SoFar g m (seen_for (address_of m.source) (in_ticks start period source)) (answers_for (address_of m.destination) (in_ticks start period destination)) 0 last
     (in_ticks start period source) (in_ticks start period destination)
 starts g m start period last source destination few by by' plain machines at = record {
   seen = [];
@@ -204,21 +203,21 @@ starts g m start period last source destination few by by' plain machines at = r
   on_destination = record {
     all_is = refl;
     within = come_within start period last destination by';
-    plain = each-in_ticks (IsPlainAnswer m.destination_id) start period destination plain;
+    plain = each-in_ticks (IsPlainAnswer (address_of m.destination)) start period destination plain;
   };
 }
 
 -- what a tick's work needs on the source's bus
 pub works_on_source : (g : Gateway) (m : Machines) (all : List Seen) (all_answers : List Answer) (tick last : ℕ) (source destination : List InTick) →
     SoFar g m all all_answers tick last source destination →
-    MayWorkOnSource m.source_id tick g source
+    MayWorkOnSource (address_of m.source) tick g source
 works_on_source g m all all_answers tick last source destination far =
     (far.seen, all, far.answers, last, far.on_source, begins-tick g far.seen far.answers far.next tick far.begun far.quiet far.at)
 
 -- what it needs on the destination's bus
 pub works_on_destination : (g g1 : Gateway) (m : Machines) (all : List Seen) (all_answers : List Answer) (tick last : ℕ) (source destination later : List InTick) →
-    SoFar g m all all_answers tick last source destination → WorksOnSource m.source_id tick g source g1 later →
-    MayWorkOnDestination m.destination_id tick g1 destination
+    SoFar g m all all_answers tick last source destination → WorksOnSource (address_of m.source) tick g source g1 later →
+    MayWorkOnDestination (address_of m.destination) tick g1 destination
 works_on_destination g g1 m all all_answers tick last source destination later far did =
     let at : InSource g far.seen far.answers tick = begins-tick g far.seen far.answers far.next tick far.begun far.quiet far.at in
     let one = did far.seen all far.answers last far.on_source at in
@@ -226,7 +225,7 @@ works_on_destination g g1 m all all_answers tick last source destination later f
 
 -- the tick's work is done on both buses
 worked : (g g1 g2 : Gateway) (m : Machines) (all : List Seen) (all_answers : List Answer) (tick last : ℕ) (source destination later later' : List InTick) →
-    SoFar g m all all_answers tick last source destination → WorksOnSource m.source_id tick g source g1 later → WorksOnDestination m.destination_id tick g1 destination g2 later' →
+    SoFar g m all all_answers tick last source destination → WorksOnSource (address_of m.source) tick g source g1 later → WorksOnDestination (address_of m.destination) tick g1 destination g2 later' →
     g1.machines ≡ g.machines → g2.machines ≡ g1.machines → SoFar g2 m all all_answers (tick + 1) last later later'
 worked g g1 g2 m all all_answers tick last source destination later later' far did did' same same' =
     let at : InSource g far.seen far.answers tick = begins-tick g far.seen far.answers far.next tick far.begun far.quiet far.at in
@@ -251,7 +250,7 @@ either_idle g live tick next was quiet (inr same) (inr same') = inr (same ∙ sa
 
 -- the run goes on with the next tick
 pub goes_on : (g g1 g2 : Gateway) (m : Machines) (all : List Seen) (all_answers : List Answer) (live : Bool) (tick last next : ℕ) (source destination later later' : List InTick) →
-    SoFar g m all all_answers tick last source destination → WorksOnSource m.source_id tick g source g1 later → WorksOnDestination m.destination_id tick g1 destination g2 later' →
+    SoFar g m all all_answers tick last source destination → WorksOnSource (address_of m.source) tick g source g1 later → WorksOnDestination (address_of m.destination) tick g1 destination g2 later' →
     g1.machines ≡ g.machines → g2.machines ≡ g1.machines → (live ≡ false → IsQuiet g2) →
     (ComeWithin (tick + 1) last later → ComeWithin (tick + 1) last later' → IsNext live tick last later later' next) →
     (next ≤ last + 1) × SoFar g2 m all all_answers next last later later' × (tick < next)
@@ -283,18 +282,18 @@ ends g m all all_answers tick last source destination by past far =
 
 -- and all came, of which the run tells
 pub tells : (g : Gateway) (m : Machines) (clock : Clock) (tick last : ℕ) (source destination : List Stamped) (rest rest' : List InTick) (told : Told) → tick ≤ last + 1 → last < tick →
-    SoFar g m (seen_in 0 (with_id m.source_id (in_ticks clock.start.0 clock.period source))) (answers_in 0 (with_id m.destination_id (in_ticks clock.start.0 clock.period destination))) tick last rest rest' →
+    SoFar g m (seen_for (address_of m.source) (in_ticks clock.start.0 clock.period source)) (answers_for (address_of m.destination) (in_ticks clock.start.0 clock.period destination)) tick last rest rest' →
     ((seen : List Seen) (answers : List Answer) (next : ℕ) → next ≤ last + 1 → IsQuiet g ⊎ (next ≡ last + 1) → AtBarrier g seen answers next → Finishes g.machines clock last seen answers told) →
     Plays m clock last source destination told
 unfolding ends
 tells g m clock tick last source destination rest rest' told by past far tell =
-    let all : List Seen = seen_in 0 (with_id m.source_id (in_ticks clock.start.0 clock.period source)) in
-    let all_answers : List Answer = answers_in 0 (with_id m.destination_id (in_ticks clock.start.0 clock.period destination)) in
+    let all : List Seen = seen_for (address_of m.source) (in_ticks clock.start.0 clock.period source) in
+    let all_answers : List Answer = answers_for (address_of m.destination) (in_ticks clock.start.0 clock.period destination) in
     let none : rest ≡ [] = none-within tick last rest past far.on_source.within in
     let none' : rest' ≡ [] = none-within tick last rest' past far.on_destination.within in
-    let seen : far.seen ≡ all = sym (append-nil far.seen) ∙ subst (λ (frames : List InTick). far.seen ++ seen_in 0 (with_id m.source_id frames) ≡ all) none far.on_source.all_is in
+    let seen : far.seen ≡ all = sym (append-nil far.seen) ∙ subst (λ (frames : List InTick). far.seen ++ seen_for (address_of m.source) frames ≡ all) none far.on_source.all_is in
     let answers : far.answers ≡ all_answers =
-    sym (append-nil far.answers) ∙ subst (λ (frames : List InTick). far.answers ++ answers_in 0 (with_id m.destination_id frames) ≡ all_answers) none' far.on_destination.all_is in
+    sym (append-nil far.answers) ∙ subst (λ (frames : List InTick). far.answers ++ answers_for (address_of m.destination) frames ≡ all_answers) none' far.on_destination.all_is in
     let end = ends g m all all_answers tick last rest rest' by past far in
     let over : Finishes m clock last all all_answers told =
     subst (λ (m : Machines). Finishes m clock last all all_answers told) far.machines

@@ -7,7 +7,7 @@ use Rattle.gw_config.specs.Config.{BusEntry, ChannelEntry, Configuration, PathEn
 use Rattle.gw_config.specs.Lawful.{IsLawfulChannel}
 use Rattle.gw_config.specs.Repeated.{bus_repeats, is_used, repeated_among, repeated_in}
 use Rattle.gw_run.specs.declared.setup.Side.TheVariants.{Source, Destination}
-use Rattle.gw_run.specs.Setup.{HasLawfulNumbers, IsBaseBus, IsBaseChannel, IsBasePath, IsBuiltConfig, Setup, setup_of}
+use Rattle.gw_run.specs.Setup.{HasLawfulNumbers, IsBaseBus, IsBaseChannel, IsBasePath, IsBuiltConfig, Setup, comes_to, setup_of}
 
 -- a list of two items, and of one
 pub two-items : {A : Type 0} (l : List A) (x y : A) → 2 ≤ length l → length l < 3 → x ≡ get_or l 0 x → y ≡ get_or l 1 y → l ≡ x ∷ y ∷ []
@@ -69,7 +69,7 @@ other_path c receiver sender path channels paths not setup built =
 in-range : (low high n : ℕ) → (nat_le low n && nat_le n high) ≡ true → (low ≤ n) × (n ≤ high)
 in-range low high n is = grind (arith, nat_tests)
 
-pub lawful_numbers : (setup : Setup) → setup.source.side ≡ Source setup.receiver.rx → setup.destination.side ≡ Destination setup.sender.rx → (nat_le 1 setup.period && nat_le setup.period 1_000_000) ≡ true → (nat_le 0 setup.linger && nat_le setup.linger 1_000_000) ≡ true →
+pub lawful_numbers : (setup : Setup) → setup.source.side ≡ Source (comes_to setup.receiver) setup.receiver.functional → setup.destination.side ≡ Destination (comes_to setup.sender) → (nat_le 1 setup.period && nat_le setup.period 1_000_000) ≡ true → (nat_le 0 setup.linger && nat_le setup.linger 1_000_000) ≡ true →
     IsLawfulChannel setup.receiver → IsLawfulChannel setup.sender → setup.source.out ≢ setup.destination.out → HasLawfulNumbers setup
 lawful_numbers setup source_side destination_side period_is linger_is received sent apart =
     let ticks = in-range 1 1_000_000 setup.period period_is in

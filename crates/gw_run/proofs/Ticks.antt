@@ -50,10 +50,10 @@ fresh-at g t turns moments view calls s fresh =
     subst Q s.pool.view_is (subst P s.pool.groups fresh)
 
 -- a frame of the source channel came
-pub received : (g h : Gateway) (seen : List Seen) (answers : List Answer) (tick : ℕ) (frame : CanFrame) → InSource g seen answers tick →
-    TellsReceiver g h (Came (length frame.bytes) (unit_of 0 frame)) tick (lying g.control) g.controls → InSource h (seen ++ seen_frame 0 tick frame ∷ []) answers tick
-received g h seen answers tick frame at told =
-    let event = Came (length frame.bytes) (unit_of 0 frame) in
+pub received : (g h : Gateway) (seen : List Seen) (answers : List Answer) (a tick : ℕ) (frame : CanFrame) → InSource g seen answers tick →
+    TellsReceiver g h (Came (length frame.bytes) (unit_of a frame)) tick (lying g.control) g.controls → InSource h (seen ++ seen_frame a tick frame ∷ []) answers tick
+received g h seen answers a tick frame at told =
+    let event = Came (length frame.bytes) (unit_of a frame) in
     let turn : RxTurn = record { event = event; did = told.did } in
     let view = grows (calls_by at.turns) (view_of at.earlier) in
     let told_so = told-same g h event tick (lying g.control) told in
@@ -69,8 +69,8 @@ received g h seen answers tick frame at told =
       looks = (fresh-at g tick _ _ view told.did.calls at.stands told.stepped.fresh, at.looks);
       stands = subst V (sym (grows-append (calls_by at.turns) told.did.calls (view_of at.earlier))) stands;
       clear = at.clear;
-      seen_is = ap (λ (k : ℕ). came_by frames_in (at.turns ++ turns_of at.earlier) ++ (record { at = k; size = length frame.bytes; meaning = unit_of 0 frame } ∷ [])) told.stepped.tick_is
-          ∙ ap (λ (l : List Seen). l ++ seen_frame 0 tick frame ∷ []) at.seen_is;
+      seen_is = ap (λ (k : ℕ). came_by frames_in (at.turns ++ turns_of at.earlier) ++ (record { at = k; size = length frame.bytes; meaning = unit_of a frame } ∷ [])) told.stepped.tick_is
+          ∙ ap (λ (l : List Seen). l ++ seen_frame a tick frame ∷ []) at.seen_is;
       answers_is = at.answers_is;
     }
 

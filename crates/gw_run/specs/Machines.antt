@@ -1,19 +1,21 @@
 -- How the receiver and the sender of a run are configured (this project's own).
-use Rattle.std.specs.Prelude.{◌≡◌, ◌<◌, ◌≤◌, false, None}
+use Rattle.std.specs.Prelude.{◌≡◌, ◌<◌, ◌≤◌, false}
 use Rattle.tp_receiver.specs.declared.set.RxSet.{RxSet}
 use Rattle.tp_sender.specs.declared.set.TxSet.{TxSet}
 use Rattle.tp_unit.specs.Shape.{IsShape}
 use Rattle.tp_unit.specs.declared.shape.Shape.{Shape}
+use Rattle.gw_law.specs.Channels.{bytes_of_address}
+use Rattle.gw_run.specs.declared.address.Address.{Address}
 
--- a classic channel without an address byte
+-- a channel of classic frames
 pub record IsClassic (shape : Shape) : Type 0 where
   pub shape_is : IsShape shape
-  pub address : shape.address ≡ None
   pub fd : shape.fd ≡ false
   pub dl : shape.dl ≡ 8
 
--- the receiver and the one destination of path 0 with the buffers of group 0, both on classic channels without an address byte, with limits of at least a tick
-pub record AreMachines (rx : RxSet) (shape : Shape) (tx : TxSet) : Type 0 where
+-- the receiver and the one destination of path 0 with the buffers of group 0, both on channels of classic frames, with limits of at
+-- least a tick; the receiver reads the frames of its channel's address
+pub record AreMachines (rx : RxSet) (shape : Shape) (tx : TxSet) (source : Address) : Type 0 where
   pub chan : rx.chan.0 ≡ 0
   pub path : rx.path.0 ≡ 0
   pub same_path : tx.path ≡ rx.path
@@ -21,8 +23,7 @@ pub record AreMachines (rx : RxSet) (shape : Shape) (tx : TxSet) : Type 0 where
   pub same_group : tx.group ≡ rx.group
   pub dest : tx.dest.0 ≡ 0
   pub readers : rx.readers ≡ 1
-  pub address : rx.a ≡ 0
-  pub functional : rx.functional ≡ false
+  pub address : rx.a ≡ bytes_of_address source.byte
   pub separation : rx.st ≡ 0
   pub threshold : tx.threshold ≡ 1
   pub store : tx.store ≡ false

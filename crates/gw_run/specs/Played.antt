@@ -1,14 +1,13 @@
 -- What a run over the frames of two logs has sent and tells.
-use Rattle.std.specs.Prelude.{◌≡◌, ℕ, zero, suc, None, List, [], ◌∷◌}
+use Rattle.std.specs.Prelude.{◌≡◌, ℕ, zero, suc, List, [], ◌∷◌}
 use Rattle.candump_log.specs.declared.log.Stamped.{Stamped}
 use Rattle.gw_law.specs.Account.{Account}
-use Rattle.gw_law.specs.Channels.{answers_in, seen_in}
 use Rattle.gw_law.specs.Plan.{Plan, Receiving, Sending}
 use Rattle.session_report.specs.declared.report.Report.{Report}
 use Rattle.tick_clock.specs.declared.clock.Clock.{Clock}
 use Rattle.tp_attempts.specs.Seen.{Seen}
 use Rattle.tp_unit.specs.Box.{Answer, Written}
-use Rattle.gw_run.specs.Frames.{in_ticks, with_id}
+use Rattle.gw_run.specs.Frames.{address_of, answers_for, in_ticks, seen_for}
 use Rattle.gw_run.specs.Works.{IsSerialRun, RunTold, Work, told_by}
 use Rattle.gw_run.specs.declared.machines.Machines.{Machines}
 use Rattle.gw_run.specs.declared.machines.TheConstants.{BUDGET, BUFFER_CELLS}
@@ -27,10 +26,10 @@ by_bus source destination other (suc (suc bus)) = other
 
 -- the one source channel, and the one destination of its path
 abbrev pub receiving_of : Machines → Receiving
-receiving_of m = record { set = m.rx; comes = record { id = m.source_id; byte = None }; shape = m.shape; bus = 0 }
+receiving_of m = record { set = m.rx; comes = address_of m.source; shape = m.shape; bus = 0 }
 
 abbrev pub sending_of : Machines → Sending
-sending_of m = record { set = m.tx; comes = record { id = m.destination_id; byte = None }; bus = 1 }
+sending_of m = record { set = m.tx; comes = address_of m.destination; bus = 1 }
 
 -- the run's plan: windows of one tick, and one group of one buffer
 abbrev pub plan_of : Machines → (last : ℕ) → Plan
@@ -65,10 +64,10 @@ told_with seen answers told = record {
 
 -- the frames of the source channel, and the flow controls of the destination's, among those of their bus's log
 abbrev pub source_seen : Machines → (start period : ℕ) → List Stamped → List Seen
-source_seen m start period frames = seen_in 0 (with_id m.source_id (in_ticks start period frames))
+source_seen m start period frames = seen_for (address_of m.source) (in_ticks start period frames)
 
 abbrev pub destination_answers : Machines → (start period : ℕ) → List Stamped → List Answer
-destination_answers m start period frames = answers_in 0 (with_id m.destination_id (in_ticks start period frames))
+destination_answers m start period frames = answers_for (address_of m.destination) (in_ticks start period frames)
 
 -- the machines ran over both logs' frames, from tick 0 to the last, and this is what they tell
 pub record Plays (m : Machines) (clock : Clock) (last : ℕ) (source destination : List Stamped) (told : Told) : Type 0 where

@@ -1,23 +1,22 @@
 -- The configurations that are built: two classic buses, and a path from a channel of the first to one of the second (this project's own).
-use Rattle.std.specs.Prelude.{◌≡◌, ◌≢◌, ℕ, ◌<◌, ◌≤◌, ◌==◌, Bool, true, false, not, ◌&&◌, nat_lt, None, List, [], ◌∷◌, length}
+use Rattle.std.specs.Prelude.{◌≡◌, ◌≢◌, ℕ, ◌<◌, ◌≤◌, ◌==◌, Bool, true, false, not, ◌&&◌, nat_lt, List, [], ◌∷◌, length}
 use Rattle.can_frame.specs.Frame.{CanFrame}
 use Rattle.can_frame.specs.Id.{id_fits}
-use Rattle.can_frame.specs.declared.id.CanId.{CanId}
-use Rattle.can_frame.specs.declared.id.CanId.TheVariants.{Std}
 use Rattle.candump_line.specs.Line.{IsInterface}
 use Rattle.gw_config.specs.Config.{BusEntry, ChannelEntry, Configuration, PathEntry}
-use Rattle.gw_config.specs.declared.words.Addressing.TheVariants.{Normal}
 use Rattle.gw_config.specs.declared.words.Mode.TheVariants.{Serial}
 use Rattle.gw_depot.specs.Files.{IsName}
 use Rattle.tp_receiver.specs.declared.set.RxSet.{RxSet}
 use Rattle.tp_sender.specs.declared.set.TxSet.{TxSet}
-use Rattle.tp_unit.specs.Reading.{unit_of}
 use Rattle.tp_unit.specs.Unit.{Meaning, SingleFrame, FirstFrame, ConsecutiveFrame, FlowControl, NoUnit}
 use Rattle.tp_unit.specs.declared.shape.Shape.{Shape}
 use Rattle.gw_run.specs.declared.machines.Machines.{Machines}
 use Rattle.gw_run.specs.declared.setup.Side.{Side}
 use Rattle.gw_run.specs.declared.setup.Side.TheVariants.{Source, Destination}
-use Rattle.gw_law.specs.Channels.{is_same_id}
+use Rattle.gw_law.specs.Channels.{bytes_of_address, is_addressed}
+use Rattle.receiver_law.specs.ReceptionCauses.{most_short}
+use Rattle.gw_run.specs.Frames.{address_of, unit_for}
+use Rattle.gw_run.specs.declared.address.Address.{Address}
 
 -- a bus of a run: its interface's name in its log, its files, and the channel on it
 pub record Bus : Type 0 where
@@ -43,10 +42,14 @@ pub record Setup : Type 0 where
   pub period : ℕ
   pub linger : ℕ
 
+-- which frames come to a channel
+abbrev pub comes_to : ChannelEntry → Address
+comes_to channel = record { id = channel.rx; byte = channel.rx_address }
+
 -- the buses have the two channels, the outputs are two files, the period, the linger and the timers are in their ranges, and the identifiers have 11 or 29 bits
 pub record HasLawfulNumbers (setup : Setup) : Type 0 where
-  pub source_side : setup.source.side ≡ Source setup.receiver.rx
-  pub destination_side : setup.destination.side ≡ Destination setup.sender.rx
+  pub source_side : setup.source.side ≡ Source (comes_to setup.receiver) setup.receiver.functional
+  pub destination_side : setup.destination.side ≡ Destination (comes_to setup.sender)
   pub apart : setup.source.out ≢ setup.destination.out
   pub some : 0 < setup.period
   pub period : setup.period ≤ 1_000_000
@@ -62,8 +65,8 @@ pub record HasLawfulNumbers (setup : Setup) : Type 0 where
 -- these buses and channels of a configuration with that period and linger
 abbrev pub setup_of : (source destination : BusEntry) → (receiver sender : ChannelEntry) → (period linger : ℕ) → Setup
 setup_of source destination receiver sender period linger = record {
-  source = record { interface = source.name; log = source.log; out = source.out; side = Source receiver.rx };
-  destination = record { interface = destination.name; log = destination.log; out = destination.out; side = Destination sender.rx };
+  source = record { interface = source.name; log = source.log; out = source.out; side = Source (comes_to receiver) receiver.functional };
+  destination = record { interface = destination.name; log = destination.log; out = destination.out; side = Destination (comes_to sender) };
   receiver = receiver;
   sender = sender;
   period = period;
@@ -76,26 +79,16 @@ pub record IsBaseBus (bus : BusEntry) : Type 0 where
   pub brs : bus.brs ≡ false
   pub budget : bus.budget ≡ 8
 
--- an identifier of 11 bits
-abbrev pub IsShortId : CanId → Type 0
-IsShortId id = (number : ℕ) × (id ≡ Std number)
-
--- a channel's flags and numbers but for its timers, as by default
+-- what a channel's frames carry and its flow controls ask for, as by default
 pub record HasBaseNumbers (channel : ChannelEntry) : Type 0 where
-  pub functional : channel.functional ≡ false
-  pub pad : channel.pad ≡ false
   pub dl : channel.dl ≡ 8
-  pub fill : channel.fill ≡ 204
   pub bs : channel.bs ≡ 0
   pub stmin : channel.stmin ≡ 0
   pub wft_max : channel.wft_max ≡ 16
 
--- a channel of that bus with identifiers of 11 bits and no address bytes, else in all but its timers as by default
+-- a channel of that bus with such numbers
 pub record IsBaseChannel (bus : List ℕ) (channel : ChannelEntry) : Type 0 where
   pub on : channel.bus ≡ bus
-  pub rx : IsShortId channel.rx
-  pub tx : IsShortId channel.tx
-  pub addressing : channel.addressing ≡ Normal
   pub numbers : HasBaseNumbers channel
 
 -- the path from the one channel to the other
@@ -113,7 +106,8 @@ pub record HasBaseTop (config : Configuration) : Type 0 where
   pub interface : config.interface ≡ []
   pub cancel : config.cancel ≡ []
 
--- the configuration is built, and this is what it leaves free: names, files, identifiers of 11 bits, period, linger and the six timers
+-- the configuration is built, and this is what it leaves free: names, files, the channels' identifiers, addresses, filling and timers,
+-- whether they are functional, period and linger
 pub record IsBuiltConfig (config : Configuration) (setup : Setup) : Type 0 where
   pub top : HasBaseTop config
   pub source : BusEntry
@@ -131,13 +125,13 @@ pub record IsBuiltConfig (config : Configuration) (setup : Setup) : Type 0 where
   pub path_is : IsBasePath receiver.name sender.name path
   pub setup_is : setup ≡ setup_of source destination receiver sender config.period config.linger
 
--- a first frame of a message of more bytes than the buffer's four cells carry: six, and three times seven
-abbrev pub is_long_first : Meaning → Bool
-is_long_first (SingleFrame bytes) = false
-is_long_first (FirstFrame len bytes) = nat_lt 27 len
-is_long_first (ConsecutiveFrame number bytes) = false
-is_long_first (FlowControl status block_size separation) = false
-is_long_first (NoUnit why) = false
+-- a first frame that starts a message of more bytes than the buffer's four cells carry; none starts one where the channel is functional
+abbrev pub is_long_start : (functional : Bool) → (address : ℕ) → Meaning → Bool
+is_long_start functional address (SingleFrame bytes) = false
+is_long_start functional address (FirstFrame len bytes) = not functional && nat_lt (most_short address) len
+is_long_start functional address (ConsecutiveFrame number bytes) = false
+is_long_start functional address (FlowControl status block_size separation) = false
+is_long_start functional address (NoUnit why) = false
 
 -- a flow control that doesn't let everything come at once
 abbrev pub is_other_control : Meaning → Bool
@@ -147,10 +141,11 @@ is_other_control (ConsecutiveFrame number bytes) = false
 is_other_control (FlowControl status block_size separation) = not (status == 0 && block_size == 0 && separation == 0)
 is_other_control (NoUnit why) = false
 
--- a frame that isn't built: one of the channel's, which is a first frame of a long message or another flow control
+-- a frame that isn't built: one of the channel's, which is the start of a long message or another flow control
 abbrev pub is_unbuilt_frame : Side → CanFrame → Bool
-is_unbuilt_frame (Source id) frame = is_same_id id frame.id && is_long_first (unit_of 0 frame)
-is_unbuilt_frame (Destination id) frame = is_same_id id frame.id && is_other_control (unit_of 0 frame)
+is_unbuilt_frame (Source address functional) frame =
+    is_addressed (address_of address) frame && is_long_start functional (bytes_of_address address.byte) (unit_for (address_of address) frame)
+is_unbuilt_frame (Destination address) frame = is_addressed (address_of address) frame && is_other_control (unit_for (address_of address) frame)
 
 -- a frame of at most 8 bytes that is built
 abbrev pub IsBuiltFrame : Side → CanFrame → Type 0
@@ -158,7 +153,7 @@ IsBuiltFrame side frame = (length frame.bytes ≤ 8) × (is_unbuilt_frame side f
 
 -- the shape of a channel's frames
 abbrev pub shape_of : ChannelEntry → Shape
-shape_of channel = record { id = channel.tx; fd = false; brs = false; address = None; dl = 8; pad = false; fill = 204 }
+shape_of channel = record { id = channel.tx; fd = false; brs = false; address = channel.tx_address; dl = 8; pad = channel.pad; fill = channel.fill }
 
 -- how the receiver of the source channel is configured: channel 0, path 0 and group 0, with one destination
 abbrev pub rx_set_of : ChannelEntry → RxSet
@@ -167,8 +162,8 @@ rx_set_of channel = record {
   path = record { 0 = 0 };
   group = record { 0 = 0 };
   readers = 1;
-  a = 0;
-  functional = false;
+  a = bytes_of_address channel.rx_address;
+  functional = channel.functional;
   bs = 0;
   st = 0;
   wft_max = 16;
@@ -199,5 +194,5 @@ pub record AreMachinesOf (setup : Setup) (machines : Machines) : Type 0 where
   pub rx : machines.rx ≡ rx_set_of setup.receiver
   pub shape : machines.shape ≡ shape_of setup.receiver
   pub tx : machines.tx ≡ tx_set_of setup.period setup.sender
-  pub source_id : machines.source_id ≡ setup.receiver.rx
-  pub destination_id : machines.destination_id ≡ setup.sender.rx
+  pub source : machines.source ≡ comes_to setup.receiver
+  pub destination : machines.destination ≡ comes_to setup.sender

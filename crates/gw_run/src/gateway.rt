@@ -5,14 +5,15 @@ ghost use Rattle.tp_sender.specs.State.{TxTurn};
 ghost use Rattle.tp_receiver.specs.State.{FcLeft, event_of, RxTurn};
 ghost use Rattle.std.specs.Bool.{MatchBool};
 ghost use Rattle.hub_core.specs.View.{View};
-ghost use Rattle.tp_attempts.specs.Seen.{Seen, seen_frame};
+ghost use Rattle.tp_attempts.specs.Seen.{Seen};
 ghost use Rattle.tp_sender.specs.declared.event.TxEvent.TheVariants.{Left, RunEnd};
-ghost use Rattle.tp_unit.specs.Reading.{unit_of};
 ghost use Rattle.gw_run.specs.Answers.{IsPlainControl};
-ghost use Rattle.gw_law.specs.Channels.{answer_in};
+ghost use Rattle.gw_law.specs.Channels.{answer_in, bytes_of_address};
+ghost use Rattle.gw_run.specs.Frames.{address_of, seen_by, unit_for};
 ghost use Rattle.gw_run.specs.Standing.{AtBarrier, Finishes, FitsIn, InDestination, InSource, IsQuiet, Lies, Stands, lying};
 ghost use Rattle.gw_run.specs.Telling.{CanTell, CanTellSender, EndsTelling, IsOver, LeavesControl, LeavesFrame, Tells, TellsReceiver, TellsSender};
 
+use crate::address::Address;
 use crate::boxes::{leave, put};
 use crate::machines::{BUFFER_CELLS, Machines};
 use crate::notes::{note, note_all};
@@ -27,7 +28,7 @@ use std::alloc::Global;
 use tick_clock::Clock;
 use tp_receiver::{Receiver, RxActs, RxEvent};
 use tp_sender::{Sender, TxActs, TxEvent};
-use tp_unit::{Unit, read_unit};
+use tp_unit::Unit;
 
 /// The version of a report of one group, in which no unit was refused.
 const REPORT_VERSION: u8 = 1;
@@ -93,14 +94,20 @@ impl Gateway {
         self.hub.word(GroupNo(0)) % ONE_CHANGE != ALL_FREE
     }
 
-    /// A frame of the source channel came.
-    pub(crate) fn receive(&mut self, tick: Tick, frame: &Frame) -> Result<(), Memory>
-        requires { (seen : List Seen) × (answers : List Answer) × (length seen < 1_000_000) × InSource self.old seen answers tick.0 }
+    /// A frame of the source channel, which has that address, came.
+    pub(crate) fn receive(
+        &mut self,
+        tick: Tick,
+        address: Address,
+        frame: &Frame,
+    ) -> Result<(), Memory>
+        requires address { self.old.machines.rx.a ≡ bytes_of_address address.byte }
+        requires at { (seen : List Seen) × (answers : List Answer) × (length seen < 1_000_000) × InSource self.old seen answers tick.0 }
         ensures machines { OnOk result (self.new.machines ≡ self.old.machines) }
-        ensures step { OnOk result ((seen : List Seen) (answers : List Answer) → InSource self.old seen answers tick.0 → InSource self.new (seen ++ seen_frame 0 tick.0 frame.now ∷ []) answers tick.0) }
+        ensures step { OnOk result ((seen : List Seen) (answers : List Answer) → InSource self.old seen answers tick.0 → InSource self.new (seen ++ seen_by (address_of address) tick.0 frame.now ∷ []) answers tick.0) }
     {
         let event = RxEvent::Unit {
-            unit: read_unit(0, frame),
+            unit: address.unit(frame),
             dl: frame.bytes().len() as u8,
         };
         self.tell_receiver(event, tick)?;
@@ -118,15 +125,20 @@ impl Gateway {
         Ok(())
     }
 
-    /// A frame of the destination's channel came: a flow control goes to the sender.
-    pub(crate) fn answer(&mut self, tick: Tick, frame: &Frame) -> Result<(), Memory>
-        requires plain { IsPlainControl (unit_of 0 frame.now) }
+    /// A frame of the destination's channel, which has that address, came: a flow control goes to the sender.
+    pub(crate) fn answer(
+        &mut self,
+        tick: Tick,
+        address: Address,
+        frame: &Frame,
+    ) -> Result<(), Memory>
+        requires plain { IsPlainControl (unit_for (address_of address) frame.now) }
         requires tick { tick.0 ≤ 10_000_000 }
         requires at { (seen : List Seen) × (answers : List Answer) × InDestination self.old seen answers tick.0 }
         ensures machines { OnOk result (self.new.machines ≡ self.old.machines) }
-        ensures step { OnOk result ((seen : List Seen) (answers : List Answer) → InDestination self.old seen answers tick.0 → InDestination self.new seen (answers ++ answer_in tick.0 (unit_of 0 frame.now)) tick.0) }
+        ensures step { OnOk result ((seen : List Seen) (answers : List Answer) → InDestination self.old seen answers tick.0 → InDestination self.new seen (answers ++ answer_in tick.0 (unit_for (address_of address) frame.now)) tick.0) }
     {
-        match read_unit(0, frame) {
+        match address.unit(frame) {
             Unit::Fc { fs, bs, st } => {
                 self.tell_sender(TxEvent::Fc { fs, bs, st }, tick)?;
                 Ok(())

@@ -1,6 +1,7 @@
 //! The top call of the gateway: from the words of a command to logs, a report and a status.
 #![tactic(auto)]
 
+mod address;
 mod boxes;
 mod check;
 mod config;

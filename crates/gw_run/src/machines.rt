@@ -1,7 +1,7 @@
 //! How the receiver and the sender of a run are configured.
 ghost use Rattle.gw_run.specs.Machines.{AreMachines};
 
-use can_frame::CanId;
+use crate::address::Address;
 use tp_receiver::RxSet;
 use tp_sender::TxSet;
 use tp_unit::Shape;
@@ -19,9 +19,9 @@ pub(crate) struct Machines {
     /// The shape of the source channel's flow controls.
     pub(crate) shape: Shape,
     pub(crate) tx: TxSet,
-    /// The identifier of the frames that the source channel receives.
-    pub(crate) source_id: CanId,
-    /// The identifier of the flow controls that the destination's channel receives.
-    pub(crate) destination_id: CanId,
-    ghost are: { AreMachines rx shape tx },
+    /// Which frames the source channel receives.
+    pub(crate) source: Address,
+    /// Which frames the destination's channel receives; the flow controls among them go to the sender.
+    pub(crate) destination: Address,
+    ghost are: { AreMachines rx shape tx source },
 }

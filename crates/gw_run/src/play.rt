@@ -2,55 +2,56 @@
 ghost use Rattle.std.specs.Prelude.{◌≡◌, ◌≤◌, ◌<◌, ◌+◌, length, All, IfOk, OnOk};
 ghost use Rattle.gw_run.specs.Answers.{IsPlainAnswer};
 ghost use Rattle.gw_run.specs.Feed.{ComeWithin};
-ghost use Rattle.gw_run.specs.Frames.{greatest_tick};
+ghost use Rattle.gw_law.specs.Channels.{bytes_of_address};
+ghost use Rattle.gw_run.specs.Frames.{address_of, greatest_tick};
 ghost use Rattle.gw_run.specs.Played.{Plays};
 ghost use Rattle.gw_run.specs.Playing.{IsNext, MayWorkOnDestination, MayWorkOnSource, WorksOnDestination, WorksOnSource};
 
+use crate::address::Address;
 use crate::feed::Feed;
 use crate::gateway::Gateway;
 use crate::machines::Machines;
 use crate::played::Played;
-use crate::setup::is_same_id;
-use can_frame::CanId;
 use candump_log::Stamped;
 use gw_base::{Memory, Tick};
 use std::alloc::Global;
 use tick_clock::Clock;
 
-/// A tick's work on the source's bus: the frames with that identifier come.
+/// A tick's work on the source's bus: the frames of that address come.
 fn work_on_source(
     gateway: &mut Gateway,
-    id: CanId,
+    address: Address,
     tick: Tick,
     coming: &mut Feed,
 ) -> Result<(), Memory>
-    requires { MayWorkOnSource id tick.0 gateway.old coming.old }
+    requires address { gateway.old.machines.rx.a ≡ bytes_of_address address.byte }
+    requires at { MayWorkOnSource (address_of address) tick.0 gateway.old coming.old }
     ensures machines { OnOk result (gateway.new.machines ≡ gateway.old.machines) }
-    ensures works { OnOk result (WorksOnSource id tick.0 gateway.old coming.old gateway.new coming.new) }
+    ensures works { OnOk result (WorksOnSource (address_of address) tick.0 gateway.old coming.old gateway.new coming.new) }
 {
     while let Some(frame) = coming.take_by(tick) {
-        if is_same_id(id, frame.id()) {
-            gateway.receive(tick, frame)?;
+        if address.is_of(frame) {
+            gateway.receive(tick, address, frame)?;
         }
     }
     gateway.end_source(tick)
 }
 
-/// A tick's work on the destination's bus: the flow controls with that identifier come.
+/// A tick's work on the destination's bus: the flow controls of that address come.
 fn work_on_destination(
     gateway: &mut Gateway,
-    id: CanId,
+    address: Address,
     tick: Tick,
     coming: &mut Feed,
 ) -> Result<(), Memory>
     requires limit { tick.0 ≤ 10_000_000 }
-    requires at { MayWorkOnDestination id tick.0 gateway.old coming.old }
+    requires at { MayWorkOnDestination (address_of address) tick.0 gateway.old coming.old }
     ensures machines { OnOk result (gateway.new.machines ≡ gateway.old.machines) }
-    ensures works { OnOk result (WorksOnDestination id tick.0 gateway.old coming.old gateway.new coming.new) }
+    ensures works { OnOk result (WorksOnDestination (address_of address) tick.0 gateway.old coming.old gateway.new coming.new) }
 {
     while let Some(frame) = coming.take_by(tick) {
-        if is_same_id(id, frame.id()) {
-            gateway.answer(tick, frame)?;
+        if address.is_of(frame) {
+            gateway.answer(tick, address, frame)?;
         }
     }
     gateway.end_destination(tick)
@@ -86,7 +87,7 @@ pub(crate) fn play(
     requires source { greatest_tick clock.now.start.0 clock.now.period source.now ≤ last.0 }
     requires destination { greatest_tick clock.now.start.0 clock.now.period destination.now ≤ last.0 }
     requires limit { last.0 < 10_000_000 }
-    requires answers { All (λ s. IsPlainAnswer machines.now.destination_id s.frame) destination.now }
+    requires answers { All (λ s. IsPlainAnswer (address_of machines.now.destination) s.frame) destination.now }
     ensures { IfOk result (Plays machines.now clock.now last.0 source.now destination.now) }
 {
     let mut gateway = Gateway::new(alloc, machines)?;
@@ -94,10 +95,10 @@ pub(crate) fn play(
     let mut destination_coming = Feed::new(destination, clock);
     let mut tick = Tick(0);
     while tick.0 <= last.0 {
-        work_on_source(&mut gateway, machines.source_id, tick, &mut source_coming)?;
+        work_on_source(&mut gateway, machines.source, tick, &mut source_coming)?;
         work_on_destination(
             &mut gateway,
-            machines.destination_id,
+            machines.destination,
             tick,
             &mut destination_coming,
         )?;

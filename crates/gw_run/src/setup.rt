@@ -1,35 +1,42 @@
-//! What a configuration that is built leaves free: names, files, identifiers, the period, the linger and the timers.
-ghost use Rattle.std.specs.Prelude.{◌≡◌, ◌≢◌, List, ℕ, true, Some, None, MatchBool, MatchOption, IsTrue};
+//! What a configuration that is built leaves free: names, files, the channels' addresses and filling, the period, the linger and the timers.
+ghost use Rattle.std.specs.Prelude.{◌≡◌, ◌≢◌, ◌≤◌, List, ℕ, true, MatchBool, MatchOption};
 ghost use Rattle.std.specs.List.{list_all};
 ghost use Rattle.gw_config.specs.Config.{Configuration};
+ghost use Rattle.gw_config.specs.Lawful.{IsLawfulChannel};
 ghost use Rattle.gw_config.specs.Texts.{is_name_byte};
-ghost use Rattle.gw_law.specs.Channels.{is_same_id};
-ghost use Rattle.gw_run.specs.Setup.{IsBaseBus, IsBaseChannel, IsBasePath, IsBuiltConfig, HasBaseNumbers, HasBaseTop, IsShortId, is_unbuilt_frame, setup_of, shape_of};
+ghost use Rattle.gw_law.specs.Channels.{bytes_of_address};
+ghost use Rattle.receiver_law.specs.ReceptionCauses.{most_short};
+ghost use Rattle.gw_run.specs.Frames.{address_of, unit_for};
+ghost use Rattle.gw_run.specs.Setup.{IsBaseBus, IsBaseChannel, IsBasePath, IsBuiltConfig, HasBaseNumbers, HasBaseTop, comes_to, is_long_start, is_other_control, is_unbuilt_frame, setup_of, shape_of};
 ghost use Rattle.gw_run.specs.Setup.{Bus as BusOfRun, Setup as SetupOfRun};
 
+use crate::address::Address;
 use crate::files::are_same;
 use crate::machines::{BUDGET, BUFFER_CELLS, Machines};
-use can_frame::{CanId, Frame};
+use can_frame::Frame;
 use candump_log::LogSource;
 use gw_base::{BusNo, ChanNo, DestNo, GroupNo, PathNo};
-use gw_config::{Addressing, BusKeys, ChannelKeys, Config, Mode, PathKeys};
+use gw_config::{BusKeys, ChannelKeys, Config, Mode, PathKeys};
 use std::marker::Model;
 use std::str;
 use tp_receiver::RxSet;
 use tp_sender::TxSet;
-use tp_unit::{Shape, Unit, read_unit};
+use tp_unit::{Shape, Unit};
 
 /// The most bytes of a classic frame.
 const CLASSIC_BYTES: u8 = 8;
 
-/// The byte that a channel's frames are filled with, by default.
-const FILL: u8 = 204;
-
 /// The most waits in a row, by default.
 const MOST_WAITS: u8 = 16;
 
-/// The most bytes of a message that the buffer's cells carry: six, and three times seven.
-const MOST_BYTES: u32 = 27;
+/// The bytes of a message in a first frame of a channel without an address byte.
+const FIRST_FRAME_BYTES: u32 = 6;
+
+/// The most bytes of a message in a consecutive frame of such a channel.
+const CONSECUTIVE_FRAME_BYTES: u32 = 7;
+
+/// The consecutive frames whose bytes have a cell of the buffer, after the first frame's.
+const CONSECUTIVE_FRAMES: u32 = 3;
 
 /// The number of the source channel's bus.
 pub(crate) const SOURCE: BusNo = BusNo(0);
@@ -37,41 +44,55 @@ pub(crate) const SOURCE: BusNo = BusNo(0);
 /// The number of the destination's bus.
 pub(crate) const DESTINATION: BusNo = BusNo(1);
 
-/// The channel on a bus, by the identifier that it receives.
+/// The channel on a bus, by the frames that it receives.
 #[derive(Clone, Copy, Debug, PartialEq, Eq)]
 pub(crate) enum Side {
-    /// The source channel.
-    Source(CanId),
+    /// The source channel, and whether it is addressed functionally.
+    Source { address: Address, functional: bool },
     /// The destination's channel.
-    Destination(CanId),
+    Destination(Address),
 }
 
-/// Whether two identifiers are the same, in the same format.
-pub(crate) fn is_same_id(one: CanId, other: CanId) -> bool
-    ensures { result ≡ is_same_id one other }
+/// The most bytes of a message whose frames have so many address bytes, that the buffer's cells carry.
+fn most_bytes(address: u32) -> u32
+    requires { address ≤ 1 }
+    ensures { result ≡ most_short address }
 {
-    match (one, other) {
-        (CanId::Std(one), CanId::Std(other)) => one == other,
-        (CanId::Ext(one), CanId::Ext(other)) => one == other,
-        (CanId::Std(_), CanId::Ext(_)) | (CanId::Ext(_), CanId::Std(_)) => false,
+    FIRST_FRAME_BYTES - address + CONSECUTIVE_FRAMES * (CONSECUTIVE_FRAME_BYTES - address)
+}
+
+/// Whether the frame, which is of that address, starts a message of more bytes than the buffer's cells carry.
+fn is_long_start(functional: bool, address: Address, frame: &Frame) -> bool
+    ensures { result ≡ is_long_start functional (bytes_of_address address.byte) (unit_for (address_of address) frame.now) }
+{
+    match address.unit(frame) {
+        Unit::Ff { len, bytes: _ } => !functional && len > most_bytes(u32::from(address.size())),
+        Unit::Sf { .. } | Unit::Cf { .. } | Unit::Fc { .. } | Unit::Ignored(_) => false,
+    }
+}
+
+/// Whether the frame, which is of that address, is a flow control that doesn't let everything come at once.
+fn is_other_control(address: Address, frame: &Frame) -> bool
+    ensures { result ≡ is_other_control (unit_for (address_of address) frame.now) }
+{
+    match address.unit(frame) {
+        Unit::Fc { fs, bs, st } => !(fs == 0 && bs == 0 && st == 0),
+        Unit::Sf { .. } | Unit::Ff { .. } | Unit::Cf { .. } | Unit::Ignored(_) => false,
     }
 }
 
 impl Side {
-    /// Whether the frame isn't built: one of the channel's, and a first frame of a long message, or a flow control that
+    /// Whether the frame isn't built: one of the channel's, and the start of a long message, or a flow control that
     /// doesn't let everything come at once.
     pub(crate) fn is_unbuilt(self, frame: &Frame) -> bool
         ensures { result ≡ is_unbuilt_frame self frame.now }
     {
         match self {
-            Side::Source(id) => {
-                is_same_id(id, frame.id())
-                    && matches!(read_unit(0, frame), Unit::Ff { len, .. } if len > MOST_BYTES)
-            }
-            Side::Destination(id) => {
-                is_same_id(id, frame.id())
-                    && matches!(read_unit(0, frame), Unit::Fc { fs, bs, st } if !(fs == 0 && bs == 0 && st == 0))
-            }
+            Side::Source {
+                address,
+                functional,
+            } => address.is_of(frame) && is_long_start(functional, address, frame),
+            Side::Destination(address) => address.is_of(frame) && is_other_control(address, frame),
         }
     }
 }
@@ -186,6 +207,36 @@ impl<'a> Model for Setup<'a> {
     ghost invariant = { λ setup. HasLawfulNumbers (record { source = setup.source; destination = setup.destination; receiver = setup.receiver.now; sender = setup.sender.now; period = setup.period; linger = setup.linger }) };
 }
 
+/// Which frames come to a channel.
+fn address_of(channel: &ChannelKeys) -> Address
+    ensures address { result ≡ comes_to channel.now }
+    ensures lawful { IsLawfulChannel channel.now }
+{
+    Address {
+        id: channel.rx,
+        byte: channel.rx_address,
+    }
+}
+
+/// What the source channel is to its bus.
+fn source_side(receiver: &ChannelKeys) -> Side
+    ensures side { result ≡ Side.Source (comes_to receiver.now) receiver.now.functional }
+    ensures lawful { IsLawfulChannel receiver.now }
+{
+    Side::Source {
+        address: address_of(receiver),
+        functional: receiver.functional,
+    }
+}
+
+/// What the destination's channel is to its bus.
+fn destination_side(sender: &ChannelKeys) -> Side
+    ensures side { result ≡ Side.Destination (comes_to sender.now) }
+    ensures lawful { IsLawfulChannel sender.now }
+{
+    Side::Destination(address_of(sender))
+}
+
 /// The shape of a channel's frames.
 fn shape_of(channel: &ChannelKeys) -> Shape
     ensures { result ≡ shape_of channel.now }
@@ -194,10 +245,10 @@ fn shape_of(channel: &ChannelKeys) -> Shape
         id: channel.tx,
         fd: false,
         brs: false,
-        address: None,
+        address: channel.tx_address,
         dl: CLASSIC_BYTES,
-        pad: false,
-        fill: FILL,
+        pad: channel.pad,
+        fill: channel.fill,
     }
 }
 
@@ -240,19 +291,20 @@ impl Setup<'_> {
     /// How the receiver and the sender are configured.
     pub(crate) fn machines(&self) -> Machines
         ensures are { AreMachinesOf self.now result }
-        ensures source { self.now.source.side ≡ Side.Source result.source_id }
-        ensures destination { self.now.destination.side ≡ Side.Destination result.destination_id }
+        ensures source { self.now.source.side ≡ Side.Source result.source result.rx.functional }
+        ensures destination { self.now.destination.side ≡ Side.Destination result.destination }
     {
         let receiver = self.receiver;
         let sender = self.sender;
+        let source = address_of(receiver);
         Machines {
             rx: RxSet {
                 chan: ChanNo(0),
                 path: PathNo(0),
                 group: GroupNo(0),
                 readers: 1,
-                a: 0,
-                functional: false,
+                a: source.size(),
+                functional: receiver.functional,
                 bs: 0,
                 st: 0,
                 wft_max: MOST_WAITS,
@@ -275,19 +327,9 @@ impl Setup<'_> {
                 n_cs: sender.n_cs,
                 period: self.period,
             },
-            source_id: receiver.rx,
-            destination_id: sender.rx,
+            source,
+            destination: address_of(sender),
         }
-    }
-}
-
-/// Whether the identifier has 11 bits.
-fn is_short(id: CanId) -> bool
-    ensures { MatchBool result (IsShortId id) (¬ IsShortId id) }
-{
-    match id {
-        CanId::Std(_) => true,
-        CanId::Ext(_) => false,
     }
 }
 
@@ -304,20 +346,11 @@ fn is_base_bus(bus: &BusKeys) -> bool
     bus.budget == BUDGET
 }
 
-/// Whether the channel's numbers and flags are the default ones.
+/// Whether what the channel's frames carry and what its flow controls ask for is the default.
 fn has_base_numbers(channel: &ChannelKeys) -> bool
     ensures { MatchBool result (HasBaseNumbers channel.now) (¬ HasBaseNumbers channel.now) }
 {
-    if channel.functional {
-        return false;
-    }
-    if channel.pad {
-        return false;
-    }
     if channel.dl != CLASSIC_BYTES {
-        return false;
-    }
-    if channel.fill != FILL {
         return false;
     }
     if channel.bs != 0 {
@@ -329,21 +362,11 @@ fn has_base_numbers(channel: &ChannelKeys) -> bool
     channel.wft_max == MOST_WAITS
 }
 
-/// Whether the channel is on the bus with that name, has identifiers of 11 bits and no address bytes, and is else as by
-/// default.
+/// Whether the channel is on the bus with that name and has such numbers.
 fn is_base_channel(bus: &[u8], channel: &ChannelKeys) -> bool
     ensures { MatchBool result (IsBaseChannel bus.now channel.now) (¬ IsBaseChannel bus.now channel.now) }
 {
     if !are_same(channel.bus.items(), bus) {
-        return false;
-    }
-    if !is_short(channel.rx) {
-        return false;
-    }
-    if !is_short(channel.tx) {
-        return false;
-    }
-    if !matches!(channel.addressing, Addressing::Normal) {
         return false;
     }
     has_base_numbers(channel)
@@ -437,8 +460,8 @@ fn setup_of<'a>(
     ensures { result ≡ setup_of source.now destination.now receiver.now sender.now config.now.period config.now.linger }
 {
     Setup {
-        source: bus_of(source, Side::Source(receiver.rx)),
-        destination: bus_of(destination, Side::Destination(sender.rx)),
+        source: bus_of(source, source_side(receiver)),
+        destination: bus_of(destination, destination_side(sender)),
         receiver,
         sender,
         period: config.period,

@@ -1,5 +1,6 @@
 //! Commands that are refused: by their words, their configuration, a line of a log or a limit.
 
+use crate::addresses::ADDRESSED_SOURCE;
 use crate::base::{
     AS_IT_IS, BAD, CONFIGURATION, Change, EMPTY, NOTHING, Outcome, RESULTS, RUN, SAME_ADDRESS,
     SHORT, changed, depot_with, expect,
@@ -77,13 +78,13 @@ const REFUSED_CONFIGURATIONS: [ConfigurationRow; 14] = [
         UNBUILT,
     ),
     (
-        ("rx = \"700\"\n", "rx = \"00000700\"\n"),
+        ("\"can1.out\"\n", "\"can1.out\"\nfd = true\n"),
         "gw.report",
         9,
         UNBUILT,
     ),
     (
-        ("tx = \"710\"\n", "tx = \"710\"\npad = true\n"),
+        ("tx = \"710\"\n", "tx = \"710\"\nstmin = 1\n"),
         "gw.report",
         9,
         UNBUILT,
@@ -142,7 +143,7 @@ fn a_refused_configuration_makes_no_output(rt: HostRuntime) -> Result<(), Fail> 
 /// A change of the configuration, the logs of can0 and can1, the exit code, and what is said.
 type LogRow = (Change, [&'static [u8]; 2], u8, &'static [u8]);
 
-const REFUSED_LOGS: [LogRow; 17] = [
+const REFUSED_LOGS: [LogRow; 18] = [
     // First frames of more bytes than the buffer's cells carry.
     (
         AS_IT_IS,
@@ -153,6 +154,16 @@ const REFUSED_LOGS: [LogRow; 17] = [
     (
         AS_IT_IS,
         [b"(0000000001.000000) can0 700#100000001000AABB", EMPTY],
+        9,
+        FIRST_OF_CAN0,
+    ),
+    // With an address byte each frame carries a byte less, so that four cells hold fewer bytes.
+    (
+        ADDRESSED_SOURCE,
+        [
+            b"(0000000001.000000) can0 700#5110180001020304\n",
+            EMPTY,
+        ],
         9,
         FIRST_OF_CAN0,
     ),

@@ -11,7 +11,7 @@ use std::test::Fail;
 use std::thread::Threads;
 
 /// A change of the configuration, the logs of can0 and can1, both outputs, the report, and what is said.
-type Row = (
+pub(crate) type Row = (
     Change,
     [&'static [u8]; 2],
     [&'static [u8]; 2],
@@ -409,7 +409,11 @@ pool 1 2 00000001
 ];
 
 /// Fails unless the row's run has its results, over files that hand out seven bytes a call.
-fn try_row<R: Threads + Sync>(rt: &R, alloc: Global, row: Row) -> Result<(), Fail> {
+pub(crate) fn try_row<R: Threads + Sync>(
+    rt: &R,
+    alloc: Global,
+    row: Row,
+) -> Result<(), Fail> {
     let (change, logs, [controls, frames], report, said) = row;
     let configuration = changed(alloc, change)?;
     let mut depot = depot_with(alloc, configuration.as_str(), logs)?;

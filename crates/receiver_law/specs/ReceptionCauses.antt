@@ -1,5 +1,5 @@
 -- Each record of the source channel's receptions comes of its cause, and no earlier cause is passed over (ISO 15765-2, segmentation and reassembly, N_Ar and N_Cr).
-use Rattle.std.specs.Prelude.{◌≡◌, ◌⊎◌, ℕ, ◌+◌, ◌<◌, ◌≤◌, Bool, true, max, Some, List, [], ◌∷◌, ◌++◌, length, slice_get}
+use Rattle.std.specs.Prelude.{◌≡◌, ◌⊎◌, ℕ, ◌+◌, ◌-◌, ◌*◌, ◌<◌, ◌≤◌, Bool, true, max, Some, List, [], ◌∷◌, ◌++◌, length, slice_get}
 use Rattle.tp_unit.specs.Box.{Written}
 use Rattle.std.specs.List.{AllByRecursion, AllZip}
 use Rattle.hub_core.specs.declared.record.RxLimit.{RxLimit}
@@ -133,10 +133,14 @@ HasRoom NoReaders = Unit {0}
 HasRoom Cancelled = Unit {0}
 HasRoom (RunEnd wait since) = Unit {0}
 
--- a first frame of 8 bytes, 6 of them of a message of at most 27
-abbrev pub IsShortStart : ℕ → Meaning → Type 0
-IsShortStart size (SingleFrame bytes) = Unit {0}
-IsShortStart size (FirstFrame len bytes) = (size ≡ 8) × (length bytes ≡ 6) × (len ≤ 27)
-IsShortStart size (ConsecutiveFrame number bytes) = Unit {0}
-IsShortStart size (FlowControl status block_size separation) = Unit {0}
-IsShortStart size (NoUnit why) = Unit {0}
+-- the most bytes of a message that a first frame of 8 bytes and three consecutive frames carry, each in a cell of its own
+abbrev pub most_short : (address : ℕ) → ℕ
+most_short address = (6 - address) + 3 * (7 - address)
+
+-- a first frame of 8 bytes of such a message: all of them but its two of control information and the address byte are the message's
+abbrev pub IsShortStart : (address size : ℕ) → Meaning → Type 0
+IsShortStart address size (SingleFrame bytes) = Unit {0}
+IsShortStart address size (FirstFrame len bytes) = (size ≡ 8) × (length bytes ≡ 6 - address) × (len ≤ most_short address)
+IsShortStart address size (ConsecutiveFrame number bytes) = Unit {0}
+IsShortStart address size (FlowControl status block_size separation) = Unit {0}
+IsShortStart address size (NoUnit why) = Unit {0}

@@ -67,21 +67,25 @@ fn a_wrong_number_ends_the_attempt(rt: HostRuntime) -> Result<(), Fail> {
     Ok(())
 }
 
-/// The frames of two channels as one log has them: the identifier and the data.
-const INTERLEAVED: [(u16, &[u8]); 6] = [
-    (0x700, &[0x10, 0x0A, 0, 1, 2, 3, 4, 5]),
-    (0x701, &[0x10, 0x09, 9, 8, 7, 6, 5, 4]),
-    (0x701, &[0x21, 3, 2, 1]),
-    (0x700, &[0x21, 6, 7, 8, 9]),
-    (0x701, &[0x01, 0xEE]),
-    (0x700, &[0x22, 0xFF]),
+/// The frames of three channels as one log has them: the identifier and the data. Two channels have one identifier and
+/// two address bytes; the third is functional.
+const INTERLEAVED: [(u16, &[u8]); 9] = [
+    (0x700, &[0x51, 0x10, 0x0A, 0, 1, 2, 3, 4]),
+    (0x700, &[0x52, 0x10, 0x09, 9, 8, 7, 6, 5]),
+    (0x7DF, &[0x02, 0x3E, 0x00]),
+    (0x700, &[0x52, 0x21, 4, 3, 2, 1]),
+    (0x7DF, &[0x10, 0x0A, 0, 1, 2, 3, 4, 5]),
+    (0x700, &[0x51, 0x21, 5, 6, 7, 8, 9, 0xCC]),
+    (0x700, &[0x52, 0x01, 0xEE]),
+    (0x7DF, &[0x21, 6, 7, 8, 9]),
+    (0x700, &[0x51, 0x22, 0xFF]),
 ];
 
 /// The frames of one channel of that log.
-fn frames_of(alloc: Global, id: u16) -> Result<Vec<Frame>, Fail> {
+fn frames_of(alloc: Global, id: u16, address: Option<u8>) -> Result<Vec<Frame>, Fail> {
     let mut frames = Vec::new(alloc);
     for (other, bytes) in INTERLEAVED {
-        if other == id {
+        if other == id && (address.is_none() || bytes.first().copied() == address) {
             frames.push(Frame::new(CanId::Std(id), false, false, bytes)?)?;
         }
     }
@@ -89,10 +93,10 @@ fn frames_of(alloc: Global, id: u16) -> Result<Vec<Frame>, Fail> {
 }
 
 #[test]
-fn two_channels_of_one_log_have_their_own_attempts(rt: HostRuntime) -> Result<(), Fail> {
-    let one = frames_of(rt.alloc(), 0x700)?;
+fn two_channels_of_one_identifier_have_their_own_attempts(rt: HostRuntime) -> Result<(), Fail> {
+    let one = frames_of(rt.alloc(), 0x700, Some(0x51))?;
     assert_eq!(rt; one.len(), 3);
-    let list = attempts(rt.alloc(), 0, false, one.as_slice())?;
+    let list = attempts(rt.alloc(), 1, false, one.as_slice())?;
     let [only] = list.items() else {
         return Err(Fail::from("one attempt"));
     };
@@ -102,13 +106,26 @@ fn two_channels_of_one_log_have_their_own_attempts(rt: HostRuntime) -> Result<()
         [0, 1, 2, 3, 4, 5, 6, 7, 8, 9].as_slice()
     );
 
-    let other = frames_of(rt.alloc(), 0x701)?;
+    let other = frames_of(rt.alloc(), 0x700, Some(0x52))?;
     assert_eq!(rt; other.len(), 3);
-    let list = attempts(rt.alloc(), 0, false, other.as_slice())?;
+    let list = attempts(rt.alloc(), 1, false, other.as_slice())?;
     let [first, second] = list.items() else {
         return Err(Fail::from("two attempts"));
     };
     assert_eq!(rt; first.bytes.items(), [9, 8, 7, 6, 5, 4, 3, 2, 1].as_slice());
     assert_eq!(rt; second.bytes.items(), [0xEE].as_slice());
+    Ok(())
+}
+
+#[test]
+fn a_functional_start_interrupts_no_other_message(rt: HostRuntime) -> Result<(), Fail> {
+    let functional = frames_of(rt.alloc(), 0x7DF, None)?;
+    assert_eq!(rt; functional.len(), 3);
+    let list = attempts(rt.alloc(), 0, true, functional.as_slice())?;
+    let [only] = list.items() else {
+        return Err(Fail::from("one attempt"));
+    };
+    assert_eq!(rt; (only.start, only.len, only.end), (0, 2, 0));
+    assert_eq!(rt; only.bytes.items(), [0x3E, 0x00].as_slice());
     Ok(())
 }

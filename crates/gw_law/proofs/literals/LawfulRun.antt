@@ -17,6 +17,7 @@ use Rattle.tp_attempts.specs.Seen.{Seen}
 use Rattle.tp_attempts.specs.Walk.{walk_of}
 use Rattle.gw_base.proofs.Lists.{same-some}
 use Rattle.std.proofs.lemmas.Bool.{ne_eqb, le-leb, lt-ltb}
+use Rattle.gw_law.proofs.Written.{written-law}
 use Rattle.gw_law.proofs.literals.PoolOfRun.{pool}
 use Rattle.gw_law.proofs.literals.Items.{alone, no-second}
 use Rattle.gw_law.proofs.literals.SourcesOfRun.{control, long_lawful, long_receiving, once, short_lawful, short_receiving}
@@ -167,4 +168,5 @@ lawful = record {
   no_others = no_others;
   pool = pool;
   buses = buses;
+  written = λ bus. written-law lawful_run (long_lawful, (short_lawful, tt)) (long_dest, (short_dest, tt)) bus (buses bus);
 }

@@ -115,6 +115,9 @@ neighbours = record {
   lower_priority_first = by-priority;
   two_in_a_tick = λ law. let most : 2 ≤ 1 = (law.buses 0).most 0 in omega (arith, most);
   frame_of_no_channel = no-stray;
+  fd_on_a_classic_bus = λ law.
+      let classic : true ≡ false = ((law.written 0).classic (record { receivers = (λ on. refl, (λ on. refl, tt)); senders = (λ on. refl, (λ on. refl, tt)) })).0 in
+      true≢false classic;
   frame_after_the_end = λ law. let end : 5 ≤ 4 = law.sources.0.emission.end.0 in omega (arith, end);
   wrong_length = λ law. let len : 11 ≡ 10 = law.sources.0.source.tells.0.len in omega (arith, len);
   awaited_too_early = not-awaited;

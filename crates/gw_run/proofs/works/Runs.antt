@@ -56,7 +56,7 @@ pub record Played : Type 0 where
   pub source : List Stamped
   pub destination : List Stamped
   pub told : Told
-  pub are : AreMachines m.rx m.shape m.tx
+  pub are : AreMachines m.rx m.shape m.tx m.source
   pub plays : Plays m clock last source destination told
 
 abbrev pub run_of : Played → SerialRun

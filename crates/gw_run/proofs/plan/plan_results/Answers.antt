@@ -5,6 +5,7 @@ use Rattle.std.proofs.lemmas.List.Elements.{All-weaker}
 use Rattle.gw_run.specs.declared.setup.Side.TheVariants.{Destination}
 use Rattle.gw_run.specs.Answers.{IsPlainAnswer}
 use Rattle.gw_run.specs.Forwarded.{last_of}
+use Rattle.gw_run.specs.Frames.{address_of}
 use Rattle.gw_run.specs.Setup.{IsBuiltFrame}
 use Rattle.gw_run.proofs.Outputs.{written-log}
 use Rattle.gw_run.proofs.Telling.{controls-within, frames-within, lawful_of, plain-answer, tells_of, told-controls, told-frames}
@@ -12,8 +13,8 @@ use Rattle.gw_run.proofs.plan.plan_results.Goals as goal
 
 pub play-requires-clause-answers : goal.play-requires-clause-answers
 play-requires-clause-answers c =
-    let id = c.machines-machines.result.destination_id in
-    All-weaker (λ s. IsBuiltFrame (Destination id) s.frame) (λ s. IsPlainAnswer id s.frame) (λ s built. plain-answer id s.frame built) c.args.destination.now
+    let address = c.machines-machines.result.destination in
+    All-weaker (λ s. IsBuiltFrame (Destination address) s.frame) (λ s. IsPlainAnswer (address_of address) s.frame) (λ s built. plain-answer address s.frame built) c.args.destination.now
     (subst (λ side. All (λ s. IsBuiltFrame side s.frame) c.args.destination.now) c.machines-machines.ensures.destination c.requires.answers)
 
 pub print_all-requires-clause-controls : goal.print_all-requires-clause-controls

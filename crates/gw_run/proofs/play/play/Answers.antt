@@ -1,5 +1,5 @@
 -- All frames are still to come at first, and none is after the last tick.
-use Rattle.std.proofs.Common.{◌<◌, arith}
+use Rattle.std.proofs.Common.{◌<◌, arith, ap, ◌∙◌}
 use Rattle.std.proofs.lemmas.Result.{IfOk-weaker}
 use Rattle.gw_run.proofs.Onward.{ends, goes_on, starts, tells, works_on_destination, works_on_source}
 use Rattle.gw_run.proofs.play.play.Goals as goal
@@ -12,8 +12,11 @@ loop-tick-init c = (
       c.requires.few c.requires.source c.requires.destination c.requires.answers c.in_ok-gateway.ensures.machines c.in_ok-gateway.ensures.barrier),
 )
 
-pub work_on_source-requires : goal.work_on_source-requires
-work_on_source-requires c = works_on_source c.loop-tick.gateway c.args.machines.now _ _ c.loop-tick.tick.0 c.args.last.0 c.loop-tick.source_coming c.loop-tick.destination_coming c.loop-tick.invariant.1
+pub work_on_source-requires-clause-address : goal.work_on_source-requires-clause-address
+work_on_source-requires-clause-address c = ap (λ m. m.rx.a) c.loop-tick.invariant.1.machines ∙ c.args.machines.now.are.address
+
+pub work_on_source-requires-clause-at : goal.work_on_source-requires-clause-at
+work_on_source-requires-clause-at c = works_on_source c.loop-tick.gateway c.args.machines.now _ _ c.loop-tick.tick.0 c.args.last.0 c.loop-tick.source_coming c.loop-tick.destination_coming c.loop-tick.invariant.1
 
 pub work_on_destination-requires-clause-at : goal.work_on_destination-requires-clause-at
 work_on_destination-requires-clause-at c =

@@ -1,7 +1,7 @@
 use Rattle.std.proofs.Common.{◌≡◌, List, [], ◌++◌, refl, ap, sym, subst, ◌∙◌, arith, append-nil, inl, inr}
 use Rattle.tp_unit.specs.Box.{Answer}
 use Rattle.tp_sender.specs.declared.event.TxEvent.TheVariants.{Fc}
-use Rattle.tp_unit.specs.Reading.{unit_of}
+use Rattle.gw_run.specs.Frames.{address_of, unit_for}
 use Rattle.tp_unit.specs.Unit.{Meaning, FlowControl, meaning_of}
 use Rattle.gw_law.specs.Channels.{answer_in}
 use Rattle.gw_run.specs.Standing.{InDestination}
@@ -15,7 +15,7 @@ tell_sender-requires c =
 
 pub returns-in_ok-tell_sender-in-Fc-clause-step : goal.returns-in_ok-tell_sender-in-Fc-clause-step
 returns-in_ok-tell_sender-in-Fc-clause-step c = λ seen answers at.
-    let is : FlowControl c.in-Fc.fs c.in-Fc.bs c.in-Fc.st ≡ unit_of 0 c.args.frame.now = sym (ap meaning_of c.in-Fc.is) ∙ c.read_unit.ensures in
+    let is : FlowControl c.in-Fc.fs c.in-Fc.bs c.in-Fc.st ≡ unit_for (address_of c.args.address) c.args.frame.now = sym (ap meaning_of c.in-Fc.is) ∙ c.unit.ensures in
     let P : Meaning → Type 0 = λ m. InDestination c.tell_sender.new.self seen (answers ++ answer_in c.args.tick.0 m) c.args.tick.0 in
     subst P is (answered c.args.self.now c.tell_sender.new.self seen answers c.args.tick.0 c.in-Fc.fs c.in-Fc.bs c.in-Fc.st at c.in_ok-tell_sender-in-Fc.ensures)
 
@@ -24,8 +24,8 @@ pub returns-in-Sf : goal.returns-in-Sf
 returns-in-Sf c = record {
   machines = refl;
   step = λ seen answers at.
-      let said = c.read_unit.ensures in
-      let none : [] ≡ answer_in c.args.tick.0 (unit_of 0 c.args.frame.now) = elim c.in-Sf.is [
+      let said = c.unit.ensures in
+      let none : [] ≡ answer_in c.args.tick.0 (unit_for (address_of c.args.address) c.args.frame.now) = elim c.in-Sf.is [
         | inl single ↦ ap (answer_in c.args.tick.0) (sym (ap meaning_of single.1) ∙ said)
         | inr more ↦ elim more [
           | inl first ↦ ap (answer_in c.args.tick.0) (sym (ap meaning_of first.2) ∙ said)

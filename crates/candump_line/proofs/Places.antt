@@ -5,7 +5,7 @@ use Rattle.std.specs.Char.{digit_value, is_digit}
 use Rattle.std.specs.List.{list_all, prefix_len}
 use Rattle.std.specs.Str.Parse.{AllDigits, digits_value}
 use Rattle.std.proofs.Math.Seq.{drop-cons, take-length}
-use Rattle.std.proofs.lemmas.Bool.{cases_Bool, eqb-true, leb-true, ltb-true}
+use Rattle.std.proofs.lemmas.Bool.{cases_Bool, eqb-true, le-leb, leb-true, ltb-true}
 use Rattle.std.proofs.lemmas.List.{drop-drop, length-drop, length-take-le, take-append-drop, take_more, take_more_set, take_rest}
 use Rattle.std.proofs.lemmas.List.Elements.{All-nil, All-cons, All-append}
 use Rattle.can_frame.specs.Length.{length_fits}
@@ -151,24 +151,22 @@ data_more_after rest bytes count byte are long room size first second is =
 
 -- sixteen digits and eight bytes are all
 pub data_whole : (rest bytes : List ℕ) (count : ℕ) → AreDataDigits (take (2 * count) (take (length rest - 1) (drop 1 rest))) (take count bytes) → count ≡ 8 → length rest ≡ 17 → length bytes ≡ 8 → AreDataDigits (drop 1 rest) bytes
-data_whole rest bytes count are full after size =
-    let digits : List ℕ = drop 1 rest in
-    let long : length digits ≡ 16 = omega (arith, length-drop 1 rest, after) in
-    let sames : AreDataDigits (take (2 * count) digits) (take count bytes) = subst (λ t. AreDataDigits (take (2 * count) t) (take count bytes)) (take_rest rest 1) are in
-    let digits_are : take (2 * count) digits ≡ digits = let n : 2 * count ≡ length digits = omega (arith, full, long) in ap (λ n. take n digits) n ∙ take-length digits in
+data_whole rest bytes count are full long size =
+    let digits : List ℕ = take (length rest - 1) (drop 1 rest) in
+    let all : take (2 * count) digits ≡ drop 1 rest = let n : 2 * count ≡ length digits = omega (arith, full, ap length (take_rest rest 1), length-drop 1 rest, long) in ap (λ n. take n digits) n ∙ take-length digits ∙ take_rest rest 1 in
     let bytes_are : take count bytes ≡ bytes = ap (λ n. take n bytes) (full ∙ sym size) ∙ take-length bytes in
-    subst (λ t. AreDataDigits t bytes) digits_are (subst (AreDataDigits (take (2 * count) digits)) bytes_are sames)
+    subst (λ t. AreDataDigits t bytes) all (subst (AreDataDigits (take (2 * count) digits)) bytes_are are)
 
 pub no_digits : AreDataDigits [] []
 unfolding AreDataDigits
 no_digits = tt
 
--- a classic frame of eight bytes ends the line
-pub content_eight : (len stamp : ℕ) (id : CanId) (rest bytes : List ℕ) → begins 35 rest ≡ true → AreDataDigits (drop 1 rest) bytes → length bytes ≡ 8 →
+-- the data of a classic frame ends the line
+pub content_written : (len stamp : ℕ) (id : CanId) (rest bytes : List ℕ) → begins 35 rest ≡ true → AreDataDigits (drop 1 rest) bytes → length bytes ≤ 8 →
     content_at len stamp (Some id) rest ≡ Ok (FrameLine (record { 0 = stamp }) (record { id = id; fd = false; brs = false; bytes = bytes }))
-content_eight len stamp id [] bytes hash are size = cc
-content_eight len stamp id (b ∷ digits) bytes hash are size =
+content_written len stamp id [] bytes hash are few = cc
+content_written len stamp id (b ∷ digits) bytes hash are few =
     let is : b ≡ 35 = eqb-true b 35 hash in
     let whole : b ∷ digits ≡ codes "#" ++ (digits ++ ([] ++ [])) = ap (λ c. c ∷ digits) is ∙ ap (λ t. 35 ∷ t) (sym (append-nil digits)) in
-    let fits : length_fits false (length bytes) ≡ true = rw size refl in
+    let fits : length_fits false (length bytes) ≡ true = le-leb (length bytes) 8 few in
     ap (content_at len stamp (Some id)) whole ∙ content-of len stamp id false false (codes "#") digits bytes [] [] refl are (inl refl) (inl (All-nil (λ c. c ≡ 32))) fits (λ _. refl)

@@ -90,7 +90,7 @@ module _ (len : ℕ) (id : CanId) (rest : List ℕ) where
       let long : length (take count buffer) ≡ count = length-take-le count buffer (omega (arith, few, size)) in
       rw read.is (rw (le-leb (length (take count buffer)) 8 read.few) (rw long (joined len at count left (record { id = id; fd = false; brs = false; bytes = take count buffer }) (length_code_at len count left))))
 
--- ---- an FD frame
+  -- ---- an FD frame
 
   pub fd_fault : (fault : LineFault) → digits_in 16 1 rest ≡ 1 → data_within 64 len (drop 1 rest) ≡ Err fault → fd_at len id rest ≡ Err fault
   unfolding data_within fd_at

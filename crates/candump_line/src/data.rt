@@ -1,5 +1,6 @@
 //! A frame's data in a line, and the line's end.
 ghost use Rattle.std.specs.Prelude.{◌≡◌, ◌≤◌, ◌<◌, ◌+◌, ◌*◌, ◌^◌, ◌++◌, ◌&&◌, length, drop, take, true, false, Ok, Err, MatchResult, IfOk, IfSome, MatchBool};
+ghost use Rattle.std.specs.Bool.{OnTrue};
 ghost use Rattle.std.specs.List.{prefix_len};
 ghost use Rattle.can_frame.specs.Frame.{IsLawful};
 ghost use Rattle.can_frame.specs.Id.{id_fits};
@@ -182,27 +183,28 @@ pub(crate) fn read_classic(
     Ok(classic_line(at, id, &bytes[..count]))
 }
 
-/// The eight bytes of a classic frame, where `#` and their digits are all that is left of a line.
-#[inline(always)]
-pub(crate) fn last_eight(rest: &[u8]) -> Option<[u8; MAX_CLASSIC]>
-    ensures hash { IfSome result (λ _. begins 35 rest.now ≡ true) }
-    ensures digits { IfSome result (λ bytes. AreDataDigits (drop 1 rest.now) bytes) }
+/// Takes the eight bytes of a classic frame, and says whether `#` and their digits are all that is left of a line.
+#[inline(never)]
+pub(crate) fn take_last_eight(rest: &[u8], bytes: &mut [u8; MAX_CLASSIC]) -> bool
+    ensures hash { OnTrue result (begins 35 rest.now ≡ true) }
+    ensures digits { OnTrue result (AreDataDigits (drop 1 rest.now) bytes.new) }
 {
-    if rest.len() != 2 * MAX_CLASSIC + 1 || rest[0] != b'#' {
-        return None;
+    let [b'#', digits @ ..] = rest else {
+        return false;
+    };
+    if digits.len() != 2 * MAX_CLASSIC {
+        return false;
     }
-    let digits = &rest[1..];
-    let mut bytes = [0; MAX_CLASSIC];
     let mut count = 0;
     while count < MAX_CLASSIC {
         let pair = hex_pair(digits[2 * count], digits[2 * count + 1]);
         if pair >= HEX_PAIRS {
-            return None;
+            return false;
         }
         bytes[count] = pair as u8;
         count += 1;
     }
-    Some(bytes)
+    true
 }
 
 /// What stands after spaces and a direction, else what stands after the spaces.

@@ -3,13 +3,13 @@ ghost use Rattle.std.specs.Prelude.{◌≡◌, ◌≤◌, ◌<◌, ◌^◌, ◌*
 ghost use Rattle.can_frame.specs.Id.{id_fits};
 ghost use Rattle.candump_line.specs.Reading.{IsLawfulLine, content_at, is_remote, line_of, named_at};
 
-use crate::data::{classic_line, last_eight, read_classic, read_fd};
+use crate::data::{classic_line, read_classic, read_fd, take_last_eight};
 use crate::fault::{LineFault, LineKind};
 use crate::fields::{MOST_LINE, after, fault_at, is_blank};
 use crate::id::{read_id, read_name};
 use crate::line::Line;
 use crate::stamp::read_stamp;
-use can_frame::CanId;
+use can_frame::{CanId, MAX_CLASSIC};
 use gw_base::Micros;
 
 /// Whether a remote frame's mark stands here.
@@ -29,7 +29,8 @@ fn read_content(len: usize, at: Micros, id: CanId, rest: &[u8]) -> Result<Line, 
     ensures read { result ≡ content_at len at.0 (Some id) rest.now }
     ensures lawful { IfOk result IsLawfulLine }
 {
-    if let Some(bytes) = last_eight(rest) {
+    let mut bytes = [0; MAX_CLASSIC];
+    if take_last_eight(rest, &mut bytes) {
         return Ok(classic_line(at, id, &bytes));
     }
     let Some(rest) = after(b'#', rest) else {

@@ -16,19 +16,19 @@ and-parts false b is = cc
 -- ---- the table of digits
 
 -- the table agrees with the definition at each byte below n
-unfoldable pub agrees_below : List ℕ → ℕ → Bool
-agrees_below table zero = true
-agrees_below table (suc n) = eqb (get_or table n 0) (digit_value n) && agrees_below table n
+unfoldable pub agrees_below : (defined : ℕ → ℕ) → List ℕ → ℕ → Bool
+agrees_below defined table zero = true
+agrees_below defined table (suc n) = eqb (get_or table n 0) (defined n) && agrees_below defined table n
 
-agrees_at : (table : List ℕ) (n : ℕ) → agrees_below table n ≡ true → (b : ℕ) → b < n → get_or table b 0 ≡ digit_value b
+agrees_at : (defined : ℕ → ℕ) (table : List ℕ) (n : ℕ) → agrees_below defined table n ≡ true → (b : ℕ) → b < n → get_or table b 0 ≡ defined b
 unfolding agrees_below
-agrees_at table zero all b inside = absurd (omega arith)
-agrees_at table (suc n) all b inside =
-    let parts = and-parts (eqb (get_or table n 0) (digit_value n)) (agrees_below table n) all in
-    elim (cases_eq b n) [ inl same ↦ rw same (eqb-true (get_or table n 0) (digit_value n) parts.0) | inr other ↦ agrees_at table n parts.1 b (omega arith) ]
+agrees_at defined table zero all b inside = absurd (omega arith)
+agrees_at defined table (suc n) all b inside =
+    let parts = and-parts (eqb (get_or table n 0) (defined n)) (agrees_below defined table n) all in
+    elim (cases_eq b n) [ inl same ↦ rw same (eqb-true (get_or table n 0) (defined n) parts.0) | inr other ↦ agrees_at defined table n parts.1 b (omega arith) ]
 
-pub by_table : (table : List ℕ) (b : ℕ) → b < 256 → agrees_below table 256 ≡ true → get_or table b 0 ≡ digit_value b
-by_table table b inside all = agrees_at table 256 all b inside
+pub by_table : (defined : ℕ → ℕ) (table : List ℕ) (b : ℕ) → b < 256 → agrees_below defined table 256 ≡ true → get_or table b 0 ≡ defined b
+by_table defined table b inside all = agrees_at defined table 256 all b inside
 
 -- ---- digits that are counted
 
@@ -116,10 +116,10 @@ pub record PairsHeld (text buffer rest : List ℕ) (count : ℕ) : Type 0 where
   pub count_is : length (take count buffer) ≡ count
 
 -- a pair more, put behind them in the buffer
-pub pair_held : (text buffer rest : List ℕ) (count high low byte : ℕ) → PairsHeld text buffer rest count → 2 ≤ length rest → high ≡ get_or rest 0 0 → low ≡ get_or rest 1 0 →
-    digit_value high < 16 → digit_value low < 16 → byte ≡ digit_value high * 16 + digit_value low → length buffer ≡ 64 → count < 64 →
+pub pair_held : (text buffer rest : List ℕ) (size count high low byte : ℕ) → PairsHeld text buffer rest count → 2 ≤ length rest → high ≡ get_or rest 0 0 → low ≡ get_or rest 1 0 →
+    digit_value high < 16 → digit_value low < 16 → byte ≡ digit_value high * 16 + digit_value low → length buffer ≡ size → size ≤ 64 → count < size →
     PairsHeld text (set buffer count byte) (take (length rest - 2) (drop 2 rest)) (count + 1)
-pair_held text buffer rest count high low byte held two high_is low_is first second byte_is size room =
+pair_held text buffer rest size count high low byte held two high_is low_is first second byte_is size_is few room =
     let more : take (count + 1) (set buffer count byte) ≡ take count buffer ++ byte ∷ [] = take_more_set buffer count byte (omega arith) in
     record {
       taken = rw more (pair_taken_at text (take count buffer) rest high low byte held.taken two high_is low_is first second byte_is (omega (arith, held.count_is)));
@@ -141,11 +141,3 @@ data_read len rest bytes left digits bytes_are left_is most none =
     let even : eqb (prefix_len is_hex rest % 2) 1 ≡ false = ne_eqb (prefix_len is_hex rest % 2) 1 (λ odd. omega (arith, all, odd)) in
     let short : ltb 128 (prefix_len is_hex rest) ≡ false = le-ltb 128 (prefix_len is_hex rest) (omega (arith, all, most)) in
     rw (even, short) (rw spelled (ap (λ n. Ok (bytes, drop n rest)) all ∙ ap (λ t. Ok (bytes, t)) (sym left_is)))
-
--- the same of the bytes that a buffer holds
-pub data_held : (len : ℕ) (rest buffer left : List ℕ) (count : ℕ) → prefix_len is_hex rest ≡ 2 * count + prefix_len is_hex left →
-    hex_bytes (take (prefix_len is_hex rest) rest) ≡ take count buffer ++ hex_bytes (take (prefix_len is_hex left) left) → left ≡ drop (2 * count) rest → count ≤ 64 →
-    length buffer ≡ 64 → prefix_len is_hex left ≡ 0 → data_at len rest ≡ Ok (take count buffer, left)
-data_held len rest buffer left count digits bytes_are left_is most size none =
-    let long : length (take count buffer) ≡ count = length-take-le count buffer (omega arith) in
-    data_read len rest (take count buffer) left (rw long digits) bytes_are (rw long left_is) (omega (arith, long)) none

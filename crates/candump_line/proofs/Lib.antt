@@ -1,7 +1,11 @@
 pub mod Digits
 pub mod Reading
 pub mod Counting
+pub mod Room
+pub mod Pairs
 pub mod ReadLemmas
 pub mod Written
 pub mod Runs
 pub mod Spelled
+pub mod Places
+pub mod Steps

@@ -39,7 +39,7 @@ micros-of len value xs ys rest writes six more (inr three) =
     let m : digits_in 10 3 (ys ++ 41 ∷ rest) ≡ 3 = digits-run 10 3 ys 41 rest more (omega (arith, three)) refl ∙ three in
     rw n (rw (drop_at xs (ys ++ 41 ∷ rest) 6 six, take_at xs (ys ++ 41 ∷ rest) 6 six) (rw m (rw (drop_at ys (41 ∷ rest) 3 three) (rw writes.value refl))))
 
-stamp-of : (seconds micros : ℕ) (xs ys zs rest : List ℕ) → Writes 10 seconds xs → 1 ≤ length xs → length xs ≤ 10 → Writes 10 micros ys → length ys ≡ 6 → AllDigits 10 zs → (length zs ≡ 0) ⊎ (length zs ≡ 3) →
+pub stamp-of : (seconds micros : ℕ) (xs ys zs rest : List ℕ) → Writes 10 seconds xs → 1 ≤ length xs → length xs ≤ 10 → Writes 10 micros ys → length ys ≡ 6 → AllDigits 10 zs → (length zs ≡ 0) ⊎ (length zs ≡ 3) →
     seconds < 2 ^ 32 → stamp_at (40 ∷ (xs ++ 46 ∷ (ys ++ (zs ++ 41 ∷ rest)))) ≡ Ok (seconds * 1_000_000 + micros, rest)
 unfolding stamp_at
 stamp-of seconds micros xs ys zs rest writes some few writes' six more three below =
@@ -64,7 +64,7 @@ space-ends : (gap rest : List ℕ) → AreSomeSpaces gap → prefix_len is_visib
 space-ends [] rest some = absurd (omega (arith, some.0))
 space-ends (x ∷ gap) rest some = subst (λ b. prefix_len is_visible (b ∷ (gap ++ rest)) ≡ 0) (sym (some.1 0 0 (omega arith))) refl
 
-interface-of : (len : ℕ) (gap iface space rest : List ℕ) → IsInterface iface → AreSomeSpaces gap → AreSomeSpaces space → interface_at len (gap ++ (iface ++ (space ++ rest))) ≡ Ok (iface, space ++ rest)
+pub interface-of : (len : ℕ) (gap iface space rest : List ℕ) → IsInterface iface → AreSomeSpaces gap → AreSomeSpaces space → interface_at len (gap ++ (iface ++ (space ++ rest))) ≡ Ok (iface, space ++ rest)
 unfolding interface_at
 interface-of len gap iface space rest name some after =
     let n : prefix_len is_visible (iface ++ (space ++ rest)) ≡ length iface = run-ends is_visible iface (space ++ rest) (visible-pass iface name.visible) (space-ends space rest after) in
@@ -82,7 +82,7 @@ digit-first (x ∷ xs) rest all some =
     let other : eqb x 32 ≡ false = ne_eqb x 32 (λ is. let low : digit_value 32 < 16 = subst (λ b. digit_value b < 16) is all.0 in omega (arith, low)) in
     rw other refl
 
-id-of : (len : ℕ) (gap xs : List ℕ) (id : CanId) (rest : List ℕ) → AreSomeSpaces gap → IsIdText xs id → id_at len (gap ++ (xs ++ 35 ∷ rest)) ≡ Ok (Some id, 35 ∷ rest)
+pub id-of : (len : ℕ) (gap xs : List ℕ) (id : CanId) (rest : List ℕ) → AreSomeSpaces gap → IsIdText xs id → id_at len (gap ++ (xs ++ 35 ∷ rest)) ≡ Ok (Some id, 35 ∷ rest)
 unfolding id_at
 id-of len gap xs (Std number) rest some (three, fits, writes) =
     let n : digits_in 16 9 (xs ++ 35 ∷ rest) ≡ 3 = digits-run 16 9 xs 35 rest writes.all (omega (arith, three)) refl ∙ three in
@@ -207,7 +207,7 @@ no-code code bytes (inl none) = none
 no-code code bytes (inr (digit, text_is, classic, eight, least, most)) = cc
 
 -- what stands after the identifier
-content-of : (len stamp : ℕ) (id : CanId) (fd brs : Bool) (kind digits bytes code end : List ℕ) → IsKindText kind fd brs → AreDataDigits digits bytes → IsLengthCode code fd (length bytes) → IsEndText end →
+pub content-of : (len stamp : ℕ) (id : CanId) (fd brs : Bool) (kind digits bytes code end : List ℕ) → IsKindText kind fd brs → AreDataDigits digits bytes → IsLengthCode code fd (length bytes) → IsEndText end →
     length_fits fd (length bytes) ≡ true → (fd ≡ false → brs ≡ false) →
     content_at len stamp (Some id) (kind ++ (digits ++ (code ++ end))) ≡ Ok (FrameLine (record { 0 = stamp }) (record { id = id; fd = fd; brs = brs; bytes = bytes }))
 unfolding content_at
@@ -239,7 +239,7 @@ named-of len stamp space id_digits id fd brs kind digits bytes code end some id_
     ap (λ t. id_at len (space ++ (id_digits ++ t))) first.1 ∙ id-of len space id_digits id first.0 some id_is ∙ ap (λ t. Ok (Some id, t)) (sym first.1) in
     rw read (content-of len stamp id fd brs kind digits bytes code end kind_is are code_is end_is fits slow)
 
-same-name : (name : List ℕ) → bytes_eq name name ≡ true
+pub same-name : (name : List ℕ) → bytes_eq name name ≡ true
 same-name [] = refl
 same-name (b ∷ name) = rw (eq-eqb b b refl, same-name name) refl
 

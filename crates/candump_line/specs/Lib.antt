@@ -2,3 +2,4 @@ pub mod Line
 pub mod Fault
 pub mod Reading
 pub mod Spelling
+pub mod Steps

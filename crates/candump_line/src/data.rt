@@ -1,14 +1,18 @@
 //! A frame's data in a line, and the line's end.
-ghost use Rattle.std.specs.Prelude.{◌≡◌, ◌≤◌, ◌<◌, ◌+◌, ◌*◌, ◌^◌, ◌++◌, ◌&&◌, length, drop, take, true, false, Ok, Err, MatchResult, IfOk, MatchBool};
+ghost use Rattle.std.specs.Prelude.{◌≡◌, ◌≤◌, ◌<◌, ◌+◌, ◌*◌, ◌^◌, ◌++◌, ◌&&◌, length, drop, take, true, false, Ok, Err, MatchResult, IfOk, IfSome, MatchBool};
+ghost use Rattle.std.specs.Bool.{OnTrue};
 ghost use Rattle.std.specs.List.{prefix_len};
 ghost use Rattle.can_frame.specs.Frame.{IsLawful};
 ghost use Rattle.can_frame.specs.Id.{id_fits};
-ghost use Rattle.candump_line.specs.Reading.{IsLawfulLine, after_direction, classic_at, data_at, end_at, ended_at, fd_at, frame_of, hex_bytes, is_hex, length_code_at};
+ghost use Rattle.candump_line.specs.Spelling.{AreDataDigits};
+ghost use Rattle.candump_line.specs.Steps.{data_within};
+ghost use Rattle.candump_line.specs.Reading.{IsLawfulLine, after_direction, begins, classic_at, data_at, end_at, ended_at, fd_at, frame_of, hex_bytes, is_hex, length_code_at};
 
 use crate::digit::{HEX, count_hex, digit_value, number};
 use crate::fault::{LineFault, LineKind};
 use crate::fields::{MOST_LINE, after, after_spaces, fault_at, skip};
 use crate::line::Line;
+use crate::pair::{HEX_PAIRS, hex_pair};
 use can_frame::{CanId, Frame, FrameFault, MAX_CLASSIC, MAX_FD};
 use gw_base::Micros;
 
@@ -16,22 +20,27 @@ use gw_base::Micros;
 const LEAST_LENGTH_CODE: u64 = 9;
 
 /// Takes the pairs of hex digits at the front as bytes, as far as there is room, and gives how many they are and what stands after them.
-fn take_pairs<'a>(text: &'a [u8], bytes: &mut [u8; MAX_FD]) -> (usize, &'a [u8])
+#[inline(always)]
+fn take_pairs<'a, const N: usize>(text: &'a [u8], bytes: &mut [u8; N]) -> (usize, &'a [u8])
+    requires { N ≤ 64 }
     ensures digits { prefix_len is_hex text.now ≡ 2 * result.0 + prefix_len is_hex result.1.now }
     ensures bytes { hex_bytes (take (prefix_len is_hex text.now) text.now) ≡ take result.0 bytes.new ++ hex_bytes (take (prefix_len is_hex result.1.now) result.1.now) }
     ensures rest { result.1.now ≡ drop (2 * result.0) text.now }
-    ensures most { result.0 ≤ 64 }
-    ensures full { 2 ≤ prefix_len is_hex result.1.now → result.0 ≡ 64 }
+    ensures most { result.0 ≤ N }
+    ensures size { length bytes.new ≡ N }
+    ensures full { 2 ≤ prefix_len is_hex result.1.now → result.0 ≡ N }
 {
     let mut rest = text;
     let mut count = 0;
-    while let [high, low, later @ ..] = rest {
-        let high = digit_value(*high);
-        let low = digit_value(*low);
-        if high >= HEX || low >= HEX || count == MAX_FD {
+    while count < N {
+        let [high, low, later @ ..] = rest else {
+            return (count, rest);
+        };
+        let pair = hex_pair(*high, *low);
+        if pair >= HEX_PAIRS {
             return (count, rest);
         }
-        bytes[count] = high * HEX + low;
+        bytes[count] = pair as u8;
         count += 1;
         rest = later;
     }
@@ -48,16 +57,18 @@ fn begins_with_hex(rest: &[u8]) -> bool
     digit_value(*first) < HEX
 }
 
-/// Takes the bytes of the data, and gives how many they are and what stands after it.
-#[tactic(auto, unfolding(crate::specs::Reading::data_at))]
-fn read_data<'a>(
+/// Takes the bytes of the data, where there is room for them, and gives how many they are and what stands after them.
+#[inline(always)]
+#[tactic(auto, unfolding(crate::specs::Steps::data_within, crate::specs::Reading::data_at))]
+fn read_data<'a, const N: usize>(
     len: usize,
     rest: &'a [u8],
-    bytes: &mut [u8; MAX_FD],
+    bytes: &mut [u8; N],
 ) -> Result<(usize, &'a [u8]), LineFault>
-    requires { len ≤ MOST_LINE }
-    ensures read { MatchResult result (λ read. data_at len rest.now ≡ Ok (take read.0 bytes.new, read.1.now)) (λ fault. data_at len rest.now ≡ Err fault) }
-    ensures most { IfOk result (λ read. read.0 ≤ 64) }
+    requires short { len ≤ MOST_LINE }
+    requires room { N ≤ 64 }
+    ensures read { MatchResult result (λ read. data_within N len rest.now ≡ Ok (take read.0 bytes.new, read.1.now)) (λ fault. data_within N len rest.now ≡ Err fault) }
+    ensures most { IfOk result (λ read. read.0 ≤ N) }
 {
     let (count, left) = take_pairs(rest, bytes);
     if !begins_with_hex(left) {
@@ -94,6 +105,7 @@ fn frame_of(
 
 /// The FD frame whose flags begin here, to the line's end.
 #[tactic(auto, unfolding(crate::specs::Reading::fd_at))]
+#[inline(never)]
 pub(crate) fn read_fd(len: usize, at: Micros, id: CanId, rest: &[u8]) -> Result<Line, LineFault>
     requires short { len ≤ MOST_LINE }
     requires id { id_fits id ≡ true }
@@ -115,6 +127,7 @@ pub(crate) fn read_fd(len: usize, at: Micros, id: CanId, rest: &[u8]) -> Result<
 
 /// What stands after a classic frame's data length code, where there is one.
 #[tactic(auto, unfolding(crate::specs::Reading::length_code_at))]
+#[inline(always)]
 fn after_length_code(len: usize, bytes: usize, rest: &[u8]) -> Result<&[u8], LineFault>
     requires { len ≤ MOST_LINE }
     ensures { MatchResult result (λ read. length_code_at len bytes rest.now ≡ Ok read.now) (λ fault. length_code_at len bytes rest.now ≡ Err fault) }
@@ -133,8 +146,24 @@ fn after_length_code(len: usize, bytes: usize, rest: &[u8]) -> Result<&[u8], Lin
     }
 }
 
+/// The line of the classic frame of these parts.
+#[inline(always)]
+pub(crate) fn classic_line(at: Micros, id: CanId, bytes: &[u8]) -> Line
+    requires few { length bytes.now ≤ 8 }
+    requires id { id_fits id ≡ true }
+    requires dated { at.0 < 2 ^ 32 * 10 ^ 6 }
+    ensures line { result ≡ Line.Frame at (record { id = id; fd = false; brs = false; bytes = bytes.now }) }
+    ensures lawful { IsLawfulLine result }
+{
+    let Ok(frame) = Frame::new(id, false, false, bytes) else {
+        unreachable!();
+    };
+    Line::Frame { at, frame }
+}
+
 /// The classic frame whose data begins here, to the line's end.
 #[tactic(auto, unfolding(crate::specs::Reading::classic_at))]
+#[inline(never)]
 pub(crate) fn read_classic(
     len: usize,
     at: Micros,
@@ -147,15 +176,39 @@ pub(crate) fn read_classic(
     ensures read { result ≡ ended_at len at.0 (classic_at len id rest.now) }
     ensures lawful { IfOk result IsLawfulLine }
 {
-    let mut bytes = [0; MAX_FD];
+    let mut bytes = [0; MAX_CLASSIC];
     let (count, left) = read_data(len, rest, &mut bytes)?;
-    let frame = frame_of(len, id, false, false, &bytes[..count], rest)?;
     let left = after_length_code(len, count, left)?;
     read_end(len, left)?;
-    Ok(Line::Frame { at, frame })
+    Ok(classic_line(at, id, &bytes[..count]))
+}
+
+/// Takes the eight bytes of a classic frame, and says whether `#` and their digits are all that is left of a line.
+#[inline(never)]
+pub(crate) fn take_last_eight(rest: &[u8], bytes: &mut [u8; MAX_CLASSIC]) -> bool
+    ensures hash { OnTrue result (begins 35 rest.now ≡ true) }
+    ensures digits { OnTrue result (AreDataDigits (drop 1 rest.now) bytes.new) }
+{
+    let [b'#', digits @ ..] = rest else {
+        return false;
+    };
+    if digits.len() != 2 * MAX_CLASSIC {
+        return false;
+    }
+    let mut count = 0;
+    while count < MAX_CLASSIC {
+        let pair = hex_pair(digits[2 * count], digits[2 * count + 1]);
+        if pair >= HEX_PAIRS {
+            return false;
+        }
+        bytes[count] = pair as u8;
+        count += 1;
+    }
+    true
 }
 
 /// What stands after spaces and a direction, else what stands after the spaces.
+#[inline(never)]
 fn after_direction(rest: &[u8]) -> &[u8]
     ensures { result.now ≡ after_direction rest.now }
 {
@@ -174,10 +227,14 @@ fn after_direction(rest: &[u8]) -> &[u8]
 
 /// Looks at what stands after a frame: the end, perhaps after a direction.
 #[tactic(auto, unfolding(crate::specs::Reading::end_at))]
+#[inline(always)]
 fn read_end(len: usize, rest: &[u8]) -> Result<(), LineFault>
     requires { len ≤ MOST_LINE }
     ensures { result ≡ end_at len rest.now }
 {
+    if rest.is_empty() {
+        return Ok(());
+    }
     let left = after_direction(rest);
     if left.is_empty() {
         Ok(())

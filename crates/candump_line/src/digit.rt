@@ -1,9 +1,14 @@
 //! Digits at the front of a rest of a line.
-ghost use Rattle.std.specs.Prelude.{◌≡◌, ◌<◌, ◌≤◌, ◌^◌, length, take};
+ghost use Rattle.std.specs.Prelude.{◌≡◌, ◌<◌, ◌≤◌, ◌%◌, ◌^◌, length, take, IfSome};
 ghost use Rattle.std.specs.Char.{digit_value, is_digit};
 ghost use Rattle.std.specs.List.{prefix_len};
-ghost use Rattle.std.specs.Str.Parse.{digits_value};
+ghost use Rattle.std.specs.Str.Parse.{AllDigits, digits_value};
 ghost use Rattle.candump_line.specs.Reading.{digits_in, is_hex, number_in};
+
+use crate::pair::{DECIMAL_PAIRS, decimal_pair};
+
+/// The base of decimal digits.
+pub(crate) const DECIMAL: u8 = 10;
 
 /// The base of hex digits.
 pub(crate) const HEX: u8 = 16;
@@ -80,4 +85,25 @@ pub(crate) fn number(rest: &[u8], base: u8, most: usize) -> (u64, usize)
     } else {
         digits_of(&rest[..most], base)
     }
+}
+
+/// The number that so many bytes write as decimal digits, two and two, where all of them are digits.
+#[inline(always)]
+pub(crate) fn all_decimal(front: &[u8]) -> Option<u64>
+    requires even { length front.now % 2 ≡ 0 }
+    requires short { length front.now ≤ 10 }
+    ensures digits { IfSome result (λ _. AllDigits 10 front.now) }
+    ensures value { IfSome result (λ value. value ≡ digits_value 10 front.now) }
+{
+    let mut value = 0;
+    let mut at = 0;
+    while at < front.len() {
+        let pair = decimal_pair(front[at], front[at + 1]);
+        if pair >= DECIMAL_PAIRS {
+            return None;
+        }
+        value = value * u64::from(DECIMAL_PAIRS) + u64::from(pair);
+        at += 2;
+    }
+    Some(value)
 }

@@ -60,6 +60,14 @@ pub(crate) fn after_spaces(rest: &[u8]) -> &[u8]
     skip(rest, count_spaces(rest))
 }
 
+/// Whether the byte is a visible character.
+#[inline(always)]
+pub(crate) fn is_visible(byte: u8) -> bool
+    ensures { result ≡ is_visible byte }
+{
+    byte.is_ascii_graphic()
+}
+
 /// How many visible characters stand at the front.
 pub(crate) fn count_visible(rest: &[u8]) -> usize
     ensures count { result ≡ prefix_len is_visible rest.now }

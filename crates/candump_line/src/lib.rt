@@ -8,6 +8,7 @@ mod fields;
 mod id;
 mod law;
 mod line;
+mod pair;
 mod read;
 mod spell;
 mod stamp;

@@ -3,13 +3,13 @@ ghost use Rattle.std.specs.Prelude.{◌≡◌, ◌≤◌, ◌<◌, ◌^◌, ◌*
 ghost use Rattle.can_frame.specs.Id.{id_fits};
 ghost use Rattle.candump_line.specs.Reading.{IsLawfulLine, content_at, is_remote, line_of, named_at};
 
-use crate::data::{read_classic, read_fd};
+use crate::data::{classic_line, read_classic, read_fd, take_last_eight};
 use crate::fault::{LineFault, LineKind};
 use crate::fields::{MOST_LINE, after, fault_at, is_blank};
-use crate::id::{read_id, read_interface};
+use crate::id::{read_id, read_name};
 use crate::line::Line;
 use crate::stamp::read_stamp;
-use can_frame::CanId;
+use can_frame::{CanId, MAX_CLASSIC};
 use gw_base::Micros;
 
 /// Whether a remote frame's mark stands here.
@@ -21,6 +21,7 @@ fn is_remote(rest: &[u8]) -> bool
 
 /// What stands after an identifier.
 #[tactic(auto, unfolding(crate::specs::Reading::content_at))]
+#[inline(always)]
 fn read_content(len: usize, at: Micros, id: CanId, rest: &[u8]) -> Result<Line, LineFault>
     requires short { len ≤ MOST_LINE }
     requires id { id_fits id ≡ true }
@@ -28,6 +29,10 @@ fn read_content(len: usize, at: Micros, id: CanId, rest: &[u8]) -> Result<Line, 
     ensures read { result ≡ content_at len at.0 (Some id) rest.now }
     ensures lawful { IfOk result IsLawfulLine }
 {
+    let mut bytes = [0; MAX_CLASSIC];
+    if take_last_eight(rest, &mut bytes) {
+        return Ok(classic_line(at, id, &bytes));
+    }
     let Some(rest) = after(b'#', rest) else {
         return Err(fault_at(len, LineKind::NoHash, rest));
     };
@@ -42,6 +47,7 @@ fn read_content(len: usize, at: Micros, id: CanId, rest: &[u8]) -> Result<Line, 
 
 /// What stands after the bus's own name.
 #[tactic(auto, unfolding(crate::specs::Reading::named_at, crate::specs::Reading::content_at))]
+#[inline(always)]
 fn read_named(len: usize, at: Micros, rest: &[u8]) -> Result<Line, LineFault>
     requires short { len ≤ MOST_LINE }
     requires dated { at.0 < 2 ^ 32 * 10 ^ 6 }
@@ -72,13 +78,13 @@ pub fn read_line(line: &[u8], iface: &[u8]) -> Result<Line, LineFault>
             at: MOST_LINE as u32,
         });
     }
-    if is_blank(line) {
-        return Ok(Line::Empty);
+    let (at, rest) = match read_stamp(line) {
+        Ok(read) => read,
+        Err(_) if is_blank(line) => return Ok(Line::Empty),
+        Err(fault) => return Err(fault),
+    };
+    match read_name(len, rest, iface)? {
+        Some(rest) => read_named(len, at, rest),
+        None => Ok(Line::Passed),
     }
-    let (at, rest) = read_stamp(line)?;
-    let (name, rest) = read_interface(len, rest)?;
-    if name != iface {
-        return Ok(Line::Passed);
-    }
-    read_named(len, at, rest)
 }

@@ -1,15 +1,12 @@
 //! A line's stamp.
-ghost use Rattle.std.specs.Prelude.{◌≡◌, ◌==◌, ◌&&◌, ◌||◌, ◌<◌, ◌≤◌, ◌^◌, ◌*◌, length, Ok, Err, MatchResult, IfOk};
+ghost use Rattle.std.specs.Prelude.{◌≡◌, ◌==◌, ◌&&◌, ◌||◌, ◌<◌, ◌≤◌, ◌^◌, ◌*◌, length, Ok, Err, MatchResult, IfOk, IfSome};
 ghost use Rattle.candump_line.specs.Reading.{stamp_at};
 
-use crate::digit::number;
+use crate::digit::{DECIMAL, all_decimal, number};
 use crate::fault::{LineFault, LineKind};
 use crate::fields::{MOST_LINE, after, fault_at, skip};
 use crate::spell::{MICROS_WIDTH, SECOND, SECONDS_WIDTH};
 use gw_base::Micros;
-
-/// The base of a stamp's digits.
-const DECIMAL: u8 = 10;
 
 /// How many digits after the microseconds are dropped: those of nanoseconds.
 const NANOS_WIDTH: usize = 3;
@@ -30,9 +27,27 @@ fn is_fraction(micros: usize, more: usize) -> bool
     more == 0 || more == NANOS_WIDTH
 }
 
-/// The stamp that begins a line, and what stands after it.
+/// The stamp of ten and six digits that begins a line as candump writes it, and what stands after it.
+#[inline(always)]
+fn written_stamp(line: &[u8]) -> Option<(Micros, &[u8])>
+    ensures read { IfSome result (λ read. stamp_at line.now ≡ Ok (read.0.0, read.1.now)) }
+    ensures dated { IfSome result (λ read. read.0.0 < 2 ^ 32 * 10 ^ 6) }
+{
+    if line.len() < 19 || line[0] != b'(' || line[11] != b'.' || line[18] != b')' {
+        return None;
+    }
+    let seconds = all_decimal(&line[1..11])?;
+    let micros = all_decimal(&line[12..18])?;
+    if seconds > MOST_SECONDS {
+        return None;
+    }
+    Some((Micros(seconds * SECOND + micros), &line[19..]))
+}
+
+/// The stamp that begins a line, and what stands after it, whatever its width.
 #[tactic(auto, unfolding(crate::specs::Reading::stamp_at, crate::specs::Reading::seconds_at, crate::specs::Reading::micros_at))]
-pub(crate) fn read_stamp(line: &[u8]) -> Result<(Micros, &[u8]), LineFault>
+#[inline(never)]
+fn read_any_stamp(line: &[u8]) -> Result<(Micros, &[u8]), LineFault>
     requires { length line.now ≤ MOST_LINE }
     ensures read { MatchResult result (λ read. stamp_at line.now ≡ Ok (read.0.0, read.1.now)) (λ fault. stamp_at line.now ≡ Err fault) }
     ensures dated { IfOk result (λ read. read.0.0 < 2 ^ 32 * 10 ^ 6) }
@@ -68,4 +83,17 @@ pub(crate) fn read_stamp(line: &[u8]) -> Result<(Micros, &[u8]), LineFault>
         });
     }
     Ok((Micros(seconds * SECOND + micros), rest))
+}
+
+/// The stamp that begins a line, and what stands after it.
+#[inline(always)]
+pub(crate) fn read_stamp(line: &[u8]) -> Result<(Micros, &[u8]), LineFault>
+    requires { length line.now ≤ MOST_LINE }
+    ensures read { MatchResult result (λ read. stamp_at line.now ≡ Ok (read.0.0, read.1.now)) (λ fault. stamp_at line.now ≡ Err fault) }
+    ensures dated { IfOk result (λ read. read.0.0 < 2 ^ 32 * 10 ^ 6) }
+{
+    match written_stamp(line) {
+        Some(read) => Ok(read),
+        None => read_any_stamp(line),
+    }
 }

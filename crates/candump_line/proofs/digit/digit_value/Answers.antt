@@ -7,4 +7,4 @@ use Rattle.candump_line.specs.declared.digit.TheConstants.{DIGIT_VALUES}
 
 pub returns : goal.returns
 unfolding agrees_below
-returns c = by_table DIGIT_VALUES c.from.result (omega (arith, c.from.ensures)) refl ∙ ap digit_value c.from.ensures
+returns c = by_table digit_value DIGIT_VALUES c.from.result (omega (arith, c.from.ensures)) refl ∙ ap digit_value c.from.ensures

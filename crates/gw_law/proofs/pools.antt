@@ -1,5 +1,5 @@
 -- The moves of the pool, and what the records of source channels say of them.
-mod Changes
+pub mod Changes
 mod Entries
 mod FreeSets
 mod Needs

@@ -1,8 +1,8 @@
 -- The fields of a line as candump writes it, by the places of their bytes.
-use Rattle.std.proofs.Common.{◌≡◌, ℕ, zero, suc, ◌+◌, ◌-◌, ◌*◌, ◌^◌, ◌<◌, ◌≤◌, Bool, true, false, leb, ltb, List, [], ◌∷◌, ◌++◌, length, take, drop, set, get_or, Some, Ok, Err, inl, inr, refl, sym, ap, ◌∙◌, subst, append-nil, append_assoc, length-append, arith}
+use Rattle.std.proofs.Common.{◌≡◌, ℕ, suc, ◌+◌, ◌-◌, ◌*◌, ◌<◌, ◌≤◌, true, false, leb, ltb, List, [], ◌∷◌, ◌++◌, length, take, drop, set, get_or, Some, Ok, inl, inr, refl, sym, ap, ◌∙◌, subst, append-nil, append_assoc, arith}
 use Rattle.std.specs.Prelude.{All, codes}
 use Rattle.std.specs.Char.{digit_value, is_digit}
-use Rattle.std.specs.List.{list_all, prefix_len}
+use Rattle.std.specs.List.{prefix_len}
 use Rattle.std.specs.Str.Parse.{AllDigits, digits_value}
 use Rattle.std.proofs.Math.Seq.{drop-cons, take-length}
 use Rattle.std.proofs.lemmas.Bool.{cases_Bool, eqb-true, le-leb, leb-true, ltb-true}
@@ -11,9 +11,8 @@ use Rattle.std.proofs.lemmas.List.Elements.{All-nil, All-cons, All-append}
 use Rattle.can_frame.specs.Length.{length_fits}
 use Rattle.can_frame.specs.declared.id.CanId.{CanId}
 use Rattle.can_frame.specs.declared.id.CanId.TheVariants.{Std}
-use Rattle.candump_line.specs.Line.{IsInterface}
 use Rattle.candump_line.specs.Reading.{begins, content_at, digits_in, id_at, interface_at, is_visible, number_in, stamp_at}
-use Rattle.candump_line.specs.Spelling.{AreDataDigits, AreSomeSpaces, IsIdText, Writes}
+use Rattle.candump_line.specs.Spelling.{AreDataDigits, AreSomeSpaces}
 use Rattle.candump_line.specs.declared.line.Line.TheVariants.{Frame as FrameLine}
 use Rattle.candump_line.proofs.Counting.{and-parts}
 use Rattle.candump_line.proofs.Spelled.{content-of, id-of, interface-of, stamp-of}

@@ -1,10 +1,8 @@
 -- The data of a line in a buffer: all of it, or more than there is room for.
-use Rattle.std.proofs.Common.{◌≡◌, ℕ, zero, suc, ◌+◌, ◌*◌, ◌≤◌, ◌%◌, ◌<◌, eqb, leb, ltb, cond, true, false, Ok, Err, List, [], ◌∷◌, ◌++◌, length, take, drop, refl, sym, ap, ◌∙◌, arith, length-append}
+use Rattle.std.proofs.Common.{◌≡◌, ℕ, zero, suc, ◌+◌, ◌*◌, ◌≤◌, ◌%◌, eqb, leb, ltb, cond, true, false, Ok, Err, List, [], ◌∷◌, ◌++◌, length, take, drop, refl, ap, ◌∙◌, arith, length-append}
 use Rattle.std.specs.List.{prefix_len}
 use Rattle.std.proofs.lemmas.Bool.{le-leb, lt-leb, ne_eqb}
 use Rattle.std.proofs.lemmas.List.{length-take-le}
-use Rattle.can_frame.specs.Length.{length_fits}
-use Rattle.can_frame.specs.declared.id.CanId.{CanId}
 use Rattle.candump_line.specs.Steps.{data_within}
 use Rattle.candump_line.specs.Fault.{fault_at, ◌>>=◌}
 use Rattle.candump_line.specs.Reading.{data_at, hex_bytes, is_hex}

@@ -1,5 +1,5 @@
 -- The steps of the reading are parts of its table.
-use Rattle.std.proofs.Common.{◌≡◌, ◌≤◌, ◌<◌, ◌%◌, ◌==◌, ◌⊎◌, ℕ, leb, cond, Bool, true, false, Some, None, Ok, Err, List, [], ◌∷◌, length, take, drop, refl, sym, ap, ◌∙◌, arith, inl, inr}
+use Rattle.std.proofs.Common.{◌≡◌, ◌≤◌, ◌<◌, ◌%◌, ◌==◌, ◌⊎◌, ℕ, leb, true, false, Some, None, Ok, Err, List, [], ◌∷◌, length, take, drop, refl, sym, ap, arith, inl, inr}
 use Rattle.std.specs.Prelude.{Option, Result, if◌then◌else◌}
 use Rattle.std.specs.Str.{bytes_eq}
 use Rattle.std.specs.List.{list_all}

@@ -15,6 +15,9 @@ const MOST_NAME: usize = 15;
 /// How many hex digits an identifier of the base format has.
 const STD_DIGITS: usize = 3;
 
+/// The place of the `#` behind a space and an identifier of the base format.
+const HASH_AT: usize = 1 + STD_DIGITS;
+
 /// How many hex digits an identifier of the extended format has.
 const EXT_DIGITS: usize = 8;
 
@@ -130,14 +133,14 @@ fn written_id(rest: &[u8]) -> Option<(CanId, &[u8])>
     ensures read { IfSome result (λ read. (len : ℕ) → id_at len rest.now ≡ Ok (Some read.0, read.1.now)) }
     ensures fits { IfSome result (λ read. id_fits read.0 ≡ true) }
 {
-    if rest.len() < 5 || rest[0] != b' ' || rest[4] != b'#' {
+    if rest.len() <= HASH_AT || rest[0] != b' ' || rest[HASH_AT] != b'#' {
         return None;
     }
-    let (number, digits) = number(&rest[1..4], HEX, STD_DIGITS);
+    let (number, digits) = number(&rest[1..HASH_AT], HEX, STD_DIGITS);
     if digits != STD_DIGITS || number > u64::from(MAX_STD) {
         return None;
     }
-    Some((CanId::Std(number as u16), skip(rest, 1 + STD_DIGITS)))
+    Some((CanId::Std(number as u16), skip(rest, HASH_AT)))
 }
 
 /// The identifier, and what stands after it; None is an error frame's.

@@ -27,21 +27,27 @@ fn is_fraction(micros: usize, more: usize) -> bool
     more == 0 || more == NANOS_WIDTH
 }
 
+/// The place of the dot in a stamp of ten digits of seconds.
+const DOT_AT: usize = 1 + SECONDS_WIDTH;
+
+/// The place of its end, after six digits of microseconds.
+const END_AT: usize = DOT_AT + 1 + MICROS_WIDTH;
+
 /// The stamp of ten and six digits that begins a line as candump writes it, and what stands after it.
 #[inline(always)]
 fn written_stamp(line: &[u8]) -> Option<(Micros, &[u8])>
     ensures read { IfSome result (λ read. stamp_at line.now ≡ Ok (read.0.0, read.1.now)) }
     ensures dated { IfSome result (λ read. read.0.0 < 2 ^ 32 * 10 ^ 6) }
 {
-    if line.len() < 19 || line[0] != b'(' || line[11] != b'.' || line[18] != b')' {
+    if line.len() <= END_AT || line[0] != b'(' || line[DOT_AT] != b'.' || line[END_AT] != b')' {
         return None;
     }
-    let seconds = all_decimal(&line[1..11])?;
-    let micros = all_decimal(&line[12..18])?;
+    let seconds = all_decimal(&line[1..DOT_AT])?;
+    let micros = all_decimal(&line[DOT_AT + 1..END_AT])?;
     if seconds > MOST_SECONDS {
         return None;
     }
-    Some((Micros(seconds * SECOND + micros), &line[19..]))
+    Some((Micros(seconds * SECOND + micros), &line[END_AT + 1..]))
 }
 
 /// The stamp that begins a line, and what stands after it, whatever its width.

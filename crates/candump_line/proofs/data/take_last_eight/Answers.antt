@@ -1,5 +1,5 @@
 -- A pair of digits more, or all of them.
-use Rattle.std.proofs.Common.{◌<◌, length-set, refl, arith}
+use Rattle.std.proofs.Common.{◌<◌, length-set, arith}
 use Rattle.candump_line.proofs.Places.{data_more_after, data_whole, no_digits}
 use Rattle.candump_line.proofs.data.take_last_eight.Goals as goal
 

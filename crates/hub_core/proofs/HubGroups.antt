@@ -39,7 +39,11 @@ module _ (hub : PlainHub) where
   hub-groups = groups-cut hub.counts.items hub.sizes.items
 
   pub hub-few : length hub.sizes.items ≤ 128
-  hub-few = few-buffers hub.counts.items hub.sizes.items hub.laid.groups hub.laid.buffers hub.laid.all
+  hub-few = few-buffers hub.counts.items hub.sizes.items hub.laid.groups.1 hub.laid.buffers hub.laid.all
+
+  -- there is a first group
+  pub first-there : 0 < length groups
+  first-there = omega (arith, hub-groups, hub.laid.groups.0)
 
   -- a group's word
   pub pool-read : (group i : ℕ) (pool : Pool) → group < length groups → i ≡ group → pool ≡ get_or hub.pools.items i pool → pool ≡ pool_after groups group v.changes

@@ -3,7 +3,7 @@ mod Bits
 mod Cut
 mod EveryStep
 mod Grouped
-mod HubGroups
+pub mod HubGroups
 mod Leaving
 mod Ledger
 mod Looks

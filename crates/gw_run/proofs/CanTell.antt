@@ -28,10 +28,11 @@ can-tell g t tick turns moments view event s by can =
     let set = s.receives.set in
     let path : g.receiver.set.path.0 ≡ 0 = ap (λ (r : RxSet). r.path.0) set ∙ g.machines.are.path in
     let group : g.receiver.set.group.0 ≡ 0 = ap (λ (r : RxSet). r.group.0) set ∙ g.machines.are.group in
+    let one : length (means_in g.hub).groups ≡ 1 = ap (λ (l : List (List ℕ)). length l) s.pool.groups in
     let readers : g.receiver.set.readers ≡ 1 = ap (λ (r : RxSet). r.readers) set ∙ g.machines.are.readers in
     let P : View → Type 0 = λ v. Knows v g.receiver in
     record {
-      acts = record { writes = ap (λ n. nat_lt n 64) path; most = omega (arith, readers); group = omega (arith, group) };
+      acts = record { writes = ap (λ n. nat_lt n 64) path; most = omega (arith, readers); group = omega (arith, group, one) };
       knows = subst P (sym s.pool.view_is) s.receives.knows;
       waits = waits-later g.receiver.state t tick by s.receives.waits;
       can = can;
@@ -59,11 +60,12 @@ can-tell-sender g t tick turns moments view event s by low left =
     let set = s.sends.set in
     let path : g.sender.set.path.0 ≡ 0 = ap (λ (r : TxSet). r.path.0) set ∙ ap (λ (p : PathNo). p.0) g.machines.are.same_path ∙ g.machines.are.path in
     let group : g.sender.set.group.0 ≡ 0 = ap (λ (r : TxSet). r.group.0) set ∙ ap (λ (k : GroupNo). k.0) g.machines.are.same_group ∙ g.machines.are.group in
+    let one : length (means_in g.hub).groups ≡ 1 = ap (λ (l : List (List ℕ)). length l) s.pool.groups in
     let dest : g.sender.set.dest.0 ≡ 0 = ap (λ (r : TxSet). r.dest.0) set ∙ g.machines.are.dest in
     let P : View → Type 0 = λ v. KnowsPort v g.sender in
     record {
       knows = subst P (sym s.pool.view_is) s.sends.knows;
-      acts = record { reads = ap (λ n. nat_lt n 64 && nat_lt g.sender.set.dest.0 8) path ∙ ap (λ n. nat_lt 0 64 && nat_lt n 8) dest; group = omega (arith, group) };
+      acts = record { reads = ap (λ n. nat_lt n 64 && nat_lt g.sender.set.dest.0 8) path ∙ ap (λ n. nat_lt 0 64 && nat_lt n 8) dest; group = omega (arith, group, one) };
       dest = dest;
       group = group;
       since = omega (arith, s.sends.since);

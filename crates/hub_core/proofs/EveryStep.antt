@@ -13,7 +13,7 @@ use Rattle.hub_core.specs.Core.{Takes as TakesStep, Refuses, Does, Frees}
 use Rattle.hub_core.specs.Groups.{group_of, place_of, sizes_of, journal_of, changes_in, free_in}
 use Rattle.hub_core.specs.Journal.{replay, IsOverflow}
 use Rattle.hub_core.specs.Joint.{IsOverflowIn}
-use Rattle.hub_core.specs.View.{View, Change, Taken, Freed, Taking, Refusal, Session, Event, reading_new, grow, empty_view}
+use Rattle.hub_core.specs.View.{View, Change, Taken, Freed, Taking, Refusal, Session, Reading, Event, reading_new, grow, empty_view}
 use Rattle.hub_core.specs.View.{Took, Refused, Entered, Asked, Put, Published, Joining, Missed, Saw, Read, Closed, Parted}
 
 pub record Lawful (groups : List (List ℕ)) (v : View) : Type 0 where
@@ -22,34 +22,23 @@ pub record Lawful (groups : List (List ℕ)) (v : View) : Type 0 where
   pub streamed : Streamed v
   pub owned : Owned groups v.changes v.held v
 
--- the overflows stay as one more change comes
-overflows-stay : (groups : List (List ℕ)) (v w : View) (c : Change) → Journals groups v.changes → IsNext groups v.changes c → w.changes ≡ v.changes ++ c ∷ [] → w.refused ≡ v.refused →
-    All (IsOverflowIn groups v) v.refused → All (IsOverflowIn groups w) w.refused
-overflows-stay groups v w c journals next changes refused all =
-    All-weaker (IsOverflowIn groups (record v { changes = v.changes ++ c ∷ [] })) (IsOverflowIn groups w) (λ r is. record {
-      there = is.there;
-      its = subst (λ (l : List Change). IsOverflow (sizes_of groups r.group) (journal_of groups r.group l) r) (sym changes) is.its;
-    }) w.refused (subst (All (IsOverflowIn groups (record v { changes = v.changes ++ c ∷ [] }))) (sym refused)
-    (All-weaker (IsOverflowIn groups v) (IsOverflowIn groups (record v { changes = v.changes ++ c ∷ [] })) (λ r is. record {
-      there = is.there;
-      its = overflow-stays groups v.changes c journals next r.group r is.its;
-    }) v.refused all))
+-- the overflows of a view, where those of each group stay
+overflows-on : (groups : List (List ℕ)) (v w : View) → ((g : ℕ) (r : Refusal) → IsOverflow (sizes_of groups g) (journal_of groups g v.changes) r → IsOverflow (sizes_of groups g) (journal_of groups g w.changes) r) →
+    All (IsOverflowIn groups v) v.refused → All (IsOverflowIn groups w) v.refused
+overflows-on groups v w on all = All-weaker (IsOverflowIn groups v) (IsOverflowIn groups w) (λ r is. record { there = is.there; its = on r.group r is.its }) v.refused all
 
--- the same changes and overflows
-overflows-same : (groups : List (List ℕ)) (v w : View) → w.changes ≡ v.changes → w.refused ≡ v.refused → All (IsOverflowIn groups v) v.refused → All (IsOverflowIn groups w) w.refused
-overflows-same groups v w changes refused all =
-    All-weaker (IsOverflowIn groups v) (IsOverflowIn groups w) (λ r is. record {
-      there = is.there;
-      its = subst (λ (l : List Change). IsOverflow (sizes_of groups r.group) (journal_of groups r.group l) r) (sym changes) is.its;
-    }) w.refused (subst (All (IsOverflowIn groups v)) (sym refused) all)
+-- one more change comes, or none
+overflows-stay : (groups : List (List ℕ)) (v w : View) (c : Change) → Journals groups v.changes → IsNext groups v.changes c → w.changes ≡ v.changes ++ c ∷ [] → w.refused ≡ v.refused → All (IsOverflowIn groups v) v.refused → All (IsOverflowIn groups w) w.refused
+overflows-stay groups v w c journals next changes refused all = subst (All (IsOverflowIn groups w)) (sym refused)
+    (overflows-on groups v w (λ g r is. subst (λ (l : List Change). IsOverflow (sizes_of groups g) (journal_of groups g l) r) (sym changes) (overflow-stays groups v.changes c journals next g r is)) all)
 
--- one more overflow
-overflows-more : (groups : List (List ℕ)) (v w : View) (r : Refusal) → w.changes ≡ v.changes → w.refused ≡ v.refused ++ r ∷ [] → All (IsOverflowIn groups v) v.refused → IsOverflowIn groups v r → All (IsOverflowIn groups w) w.refused
-overflows-more groups v w r changes refused all is =
-    subst (All (IsOverflowIn groups w)) (sym refused) (All-push (IsOverflowIn groups w) v.refused r (All-weaker (IsOverflowIn groups v) (IsOverflowIn groups w) on v.refused all) (on r is))
-  where
-    on : (x : Refusal) → IsOverflowIn groups v x → IsOverflowIn groups w x
-    on x its = record { there = its.there; its = subst (λ (l : List Change). IsOverflow (sizes_of groups x.group) (journal_of groups x.group l) x) (sym changes) its.its }
+overflows-same : (groups : List (List ℕ)) (v w : View) → w.changes ≡ v.changes → All (IsOverflowIn groups v) v.refused → All (IsOverflowIn groups w) v.refused
+overflows-same groups v w changes all = overflows-on groups v w (λ g r is. subst (λ (l : List Change). IsOverflow (sizes_of groups g) (journal_of groups g l) r) (sym changes) is) all
+
+-- the streams of a view are those of its sessions and readings
+same-streamed : (v w : View) → w.sessions ≡ v.sessions → w.readings ≡ v.readings → Streamed v → Streamed w
+same-streamed v w sessions readings so = subst (λ (x : (ℕ → List Session) × (ℕ → ℕ → List Reading)). Streamed (record w { sessions = x.0; readings = x.1 })) (λ i. (sym sessions i, sym readings i))
+    (record { streams = record { written = so.streams.written; joined = so.streams.joined }; own = so.own; most = so.most; roomy = so.roomy; none = so.none })
 
 -- at the opening there is nothing
 begins : (groups : List (List ℕ)) → Lawful groups empty_view
@@ -79,7 +68,7 @@ begins groups = record {
 goes : (groups : List (List ℕ)) (v : View) (w : View) → Lawful groups v → Streamed w → w.changes ≡ v.changes → w.held ≡ v.held → w.refused ≡ v.refused → GoOn v w → Lawful groups w
 goes groups v w so streamed changes held refused on = record {
   journals = subst (Journals groups) (sym changes) so.journals;
-  overflows = overflows-same groups v w changes refused so.overflows;
+  overflows = subst (All (IsOverflowIn groups w)) (sym refused) (overflows-same groups v w changes so.overflows);
   streamed = streamed;
   owned = subst (λ (x : List Change × (ℕ → Option Taking)). Owned groups x.0 x.1 w) (λ i. (sym changes i, sym held i)) (owned-on groups v.changes v.held v w on so.owned);
 }
@@ -91,7 +80,7 @@ does groups v (Took group number buf size need) may so = absurd may
 does groups v (Refused group number free need) may so = absurd may
 does groups v (Entered path seq buf number size len readers) may so = record {
   journals = so.journals;
-  overflows = overflows-same groups v (grow (Entered path seq buf number size len readers) v) refl refl so.overflows;
+  overflows = overflows-same groups v (grow (Entered path seq buf number size len readers) v) refl so.overflows;
   streamed = session-entered path seq buf number size len readers v may so.streamed;
   owned = entered groups v.changes v.held v (grow (Entered path seq buf number size len readers) v) path buf number size len readers may.0 refl refl so.owned;
 }
@@ -129,7 +118,7 @@ unfolding grow
 takes groups v group number buf size need may so = record {
   journals = journals-pushed groups v.changes c so.journals next;
   overflows = overflows-stay groups v (grow (Took group number buf size need) v) c so.journals next refl refl so.overflows;
-  streamed = record { streams = record { written = so.streamed.streams.written; joined = so.streamed.streams.joined }; own = so.streamed.own; most = so.streamed.most; roomy = so.streamed.roomy; none = so.streamed.none };
+  streamed = same-streamed v (grow (Took group number buf size need) v) refl refl so.streamed;
   owned = owned-on groups _ _ v (grow (Took group number buf size need) v) (on-same v (grow (Took group number buf size need) v) refl refl)
       (took groups v.changes v.held v number buf size need so.journals next (subst (λ (g : ℕ). slice_get (sizes_of groups g) (place_of groups buf) ≡ Some size) (sym may.its) may.size_is) so.owned);
 }
@@ -147,8 +136,8 @@ refuses : (groups : List (List ℕ)) (v : View) (group number free need : ℕ) �
 unfolding grow
 refuses groups v group number free need may so = record {
   journals = so.journals;
-  overflows = overflows-more groups v (grow (Refused group number free need) v) new refl refl so.overflows (record { there = may.there; its = is });
-  streamed = record { streams = record { written = so.streamed.streams.written; joined = so.streamed.streams.joined }; own = so.streamed.own; most = so.streamed.most; roomy = so.streamed.roomy; none = so.streamed.none };
+  overflows = All-push (IsOverflowIn groups (grow (Refused group number free need) v)) v.refused new (overflows-same groups v (grow (Refused group number free need) v) refl so.overflows) (record { there = may.there; its = is });
+  streamed = same-streamed v (grow (Refused group number free need) v) refl refl so.streamed;
   owned = owned-on groups v.changes v.held v (grow (Refused group number free need) v) (on-same v (grow (Refused group number free need) v) refl refl) so.owned;
 }
   where
@@ -163,7 +152,7 @@ frees : (groups : List (List ℕ)) (v : View) (number buf : ℕ) → MayFree gro
 frees groups v number buf may so = record {
   journals = journals-pushed groups v.changes c so.journals next;
   overflows = overflows-stay groups v (after (Frees number buf) v) c so.journals next refl refl so.overflows;
-  streamed = record { streams = record { written = so.streamed.streams.written; joined = so.streamed.streams.joined }; own = so.streamed.own; most = so.streamed.most; roomy = so.streamed.roomy; none = so.streamed.none };
+  streamed = same-streamed v (after (Frees number buf) v) refl refl so.streamed;
   owned = owned-on groups _ _ v (after (Frees number buf) v) (on-same v (after (Frees number buf) v) refl refl)
       (freed groups v.changes v.held v number buf may.path may.seq may.session so.journals next may.known may.its may.over may.last so.owned);
 }

@@ -3,6 +3,7 @@ mod Bits
 mod Cut
 mod EveryStep
 mod Grouped
+pub mod HubGroups
 mod Leaving
 mod Ledger
 mod Looks

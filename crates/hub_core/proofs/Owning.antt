@@ -3,13 +3,14 @@ use Rattle.std.proofs.Common.{◌≡◌, ◌≢◌, ℕ, ◌<◌, ◌≤◌, ◌
 use Rattle.std.proofs.lemmas.Bool.{cases_lt}
 use Rattle.std.proofs.lemmas.Bool.Decides.{eqb_tells}
 use Rattle.std.proofs.lemmas.Option.{slice_get_past}
-use Rattle.std.specs.Prelude.{◌==◌, slice_get, option_map, if◌then◌else◌, IsBitSet}
+use Rattle.std.specs.Prelude.{slice_get, option_map, if◌then◌else◌}
+use Rattle.gw_base.proofs.Lists.{same-some, none-some}
 use Rattle.hub_core.proofs.Grouped.{Journals, IsNext, same-buffer, found-old, found-back, found-new, found-below, buffer-old, buffer-back}
 use Rattle.hub_core.proofs.Numbered.{taken-clear}
 use Rattle.hub_core.proofs.Places.{mapped, session-now, session-pushed, reading-now, reading-pushed}
 use Rattle.hub_core.specs.Joint.{IsSessionOf}
-use Rattle.hub_core.specs.Groups.{group_of, place_of, sizes_of, journal_of}
-use Rattle.hub_core.specs.Journal.{numbered, replay, changed_buf, ChangesBuf, IsNextChange}
+use Rattle.hub_core.specs.Groups.{group_of, place_of, sizes_of, in_group, journal_of}
+use Rattle.hub_core.specs.Journal.{number_of, numbered, changed_buf, ChangesBuf, IsNextChange}
 use Rattle.hub_core.specs.Joint.{HasLeft, IsOver}
 use Rattle.hub_core.specs.View.{View, Change, Taken, Freed, Taking, Session, Reading, at_one, at_two, change_at, session_at, reading_at, session_new}
 
@@ -43,208 +44,189 @@ pub record Owned (groups : List (List ℕ)) (changes : List Change) (held : ℕ 
       numbered (journal_of groups group changes) next ≡ Some (Freed next place)
   pub turn : (path seq : ℕ) (s : Session) → session_at v path seq ≡ Some s → IsLast groups changes s.buf s.number ⊎ (IsOver v path seq s × IsFreedAfter groups changes s.buf s.number)
 
-same-found : {A : Type 0} (found : Option A) (x y : A) → found ≡ Some x → found ≡ Some y → x ≡ y
-same-found found x y one two = let both : Some x ≡ Some y = sym one ∙ two in cc
-
 -- a take is a change of its buffer
 its-change : (groups : List (List ℕ)) (changes : List Change) (buf number size : ℕ) → Takes groups changes buf number size → ChangesBuf (journal_of groups (group_of groups buf) changes) (place_of groups buf) number
 its-change groups changes buf number size takes = (Taken number (place_of groups buf) takes.need, takes.take, refl)
 
-moved-change : (groups : List (List ℕ)) (changes : List Change) (g h p q later : ℕ) → g ≡ h → p ≡ q → ChangesBuf (journal_of groups g changes) p later → ChangesBuf (journal_of groups h changes) q later
-moved-change groups changes g h p q later a b = subst (λ (x : ℕ × ℕ). ChangesBuf (journal_of groups x.0 changes) x.1 later) (λ i. (a i, b i))
-
 module _ (groups : List (List ℕ)) (changes : List Change) (c : Change) (journals : Journals groups changes) (may : IsNext groups changes c) where
-  more : (buf number size : ℕ) → Takes groups changes buf number size → Takes groups (changes ++ c ∷ []) buf number size
+  abbrev group : ℕ
+  group = group_of groups (changed_buf c)
+
+  abbrev place : ℕ
+  place = place_of groups (changed_buf c)
+
+  abbrev after : List Change
+  after = changes ++ c ∷ []
+
+  more : (buf number size : ℕ) → Takes groups changes buf number size → Takes groups after buf number size
   more buf number size takes = record { need = takes.need; take = found-old groups changes c journals may (group_of groups buf) number (Taken number (place_of groups buf) takes.need) takes.take; size_is = takes.size_is }
 
-  freed-still : (buf number : ℕ) → IsFreedAfter groups changes buf number → IsFreedAfter groups (changes ++ c ∷ []) buf number
-  freed-still buf number freed = (freed.0, freed.1, found-old groups changes c journals may (group_of groups buf) freed.0 (Freed freed.0 (place_of groups buf)) freed.2)
+  -- a take of the buffer that is its last change is of a session that is over, and the change is its free
+  pub record Ends (v : View) (number : ℕ) : Type 0 where
+    pub freed : (change : ℕ) × (buf : ℕ) × (c ≡ Freed change buf)
+    pub path : ℕ
+    pub seq : ℕ
+    pub session : Session
+    pub known : session_at v path seq ≡ Some session
+    pub its : IsSessionOf groups group number session
+    pub over : IsOver v path seq session
 
-  next-before : (g number place next : ℕ) → IsNextChange (journal_of groups g (changes ++ c ∷ [])) place number next → ChangesBuf (journal_of groups g changes) place next → IsNextChange (journal_of groups g changes) place number next
-  next-before g number place next is was = record { changes_buf = was; after = is.after; first = λ other is-other. is.first other (buffer-old groups changes c journals may g place other is-other) }
+  pub pushed : (held : ℕ → Option Taking) (v : View) → Owned groups changes held v →
+      ((number need : ℕ) → numbered (journal_of groups group changes) number ≡ Some (Taken number place need) → ((l : ℕ) → ChangesBuf (journal_of groups group changes) place l → l ≤ number) → Ends v number) → Owned groups after held v
+  pushed held v owned ends = record {
+    taken = λ path seq s at. more s.buf s.number s.size (owned.taken path seq s at);
+    own = owned.own;
+    held_is = λ b t e. more b t.number t.size (owned.held_is b t e);
+    held_last = λ b t e later changed. elim (buffer-back groups changes c journals may (group_of groups b) (place_of groups b) later changed) [
+      | inl before ↦ owned.held_last b t e later before
+      | inr now ↦
+          let end = at-last (group_of groups b) (place_of groups b) t.number (owned.held_is b t e).need now.0 now.1 (owned.held_is b t e).take (owned.held_last b t e) in
+          absurd (owned.held_unused b t e end.path end.seq end.session end.known (end.its.0 ∙ now.0, end.its.1))
+    ];
+    held_unused = owned.held_unused;
+    unused = λ g n p need later take none changed. elim (found-back groups changes c journals may g n (Taken n p need) take) [
+      | inl old ↦ elim (buffer-back groups changes c journals may g p later changed) [
+        | inl before ↦ owned.unused g n p need later old none before
+        | inr now ↦
+            let end = at-last g p n need now.0 now.1 old (λ l before. owned.unused g n p need l old none before) in
+            absurd (none end.path end.seq end.session end.known (end.its.0 ∙ now.0, end.its.1))
+      ]
+      | inr new ↦ elim (buffer-back groups changes c journals may g p later changed) [
+        | inl before ↦ (let low = found-below groups changes c journals may g later before.0 new.0 before.1 in omega (arith, low, new.1))
+        | inr now ↦ omega (arith, now.2, new.1)
+      ]
+    ];
+    next = λ g n p need next take is. elim (found-back groups changes c journals may g n (Taken n p need) take) [
+      | inl old ↦ elim (buffer-back groups changes c journals may g p next is.changes_buf) [
+        | inl before ↦
+            found-old groups changes c journals may g next (Freed next p)
+            (owned.next g n p need next old (record { changes_buf = before; after = is.after; first = λ other is-other. is.first other (buffer-old groups changes c journals may g p other is-other) }))
+        | inr now ↦ free-there g p next now.0 now.1 now.2 (at-last g p n need now.0 now.1 old (λ l before. elim (cases_lt n l) [
+          | inl past ↦
+              let first = is.first l (buffer-old groups changes c journals may g p l before) past in
+              let low = found-below groups changes c journals may g l before.0 now.0 before.1 in
+              absurd (omega (arith, first, low, now.2))
+          | inr not ↦ not
+        ])).freed
+      ]
+      | inr new ↦ elim (buffer-back groups changes c journals may g p next is.changes_buf) [
+        | inl before ↦ absurd (let low = found-below groups changes c journals may g next before.0 new.0 before.1 in omega (arith, low, new.1, is.after))
+        | inr now ↦ absurd (omega (arith, now.2, new.1, is.after))
+      ]
+    ];
+    turn = λ p k t at. elim (owned.turn p k t at) [
+      | inl last ↦ either p k t at last (both-same group (group_of groups t.buf) place (place_of groups t.buf))
+      | inr gone ↦ inr (gone.0, (gone.1.0, gone.1.1, found-old groups changes c journals may (group_of groups t.buf) gone.1.0 (Freed gone.1.0 (place_of groups t.buf)) gone.1.2))
+    ];
+  }
+    where
+      at-last : (g p number need : ℕ) → group ≡ g → place ≡ p → numbered (journal_of groups g changes) number ≡ Some (Taken number p need) → ((l : ℕ) → ChangesBuf (journal_of groups g changes) p l → l ≤ number) → Ends v number
+      at-last g p number need a b take last = ends number need (subst (λ (x : ℕ × ℕ). numbered (journal_of groups x.0 changes) number ≡ Some (Taken number x.1 need)) (λ i. (sym a i, sym b i)) take)
+          (λ l is. last l (subst (λ (x : ℕ × ℕ). ChangesBuf (journal_of groups x.0 changes) x.1 l) (λ i. (a i, b i)) is))
+
+      free-there : (g p later : ℕ) → group ≡ g → place ≡ p → later ≡ number_of c → (change : ℕ) × (buf : ℕ) × (c ≡ Freed change buf) → numbered (journal_of groups g after) later ≡ Some (Freed later p)
+      free-there g p later a b is free =
+          let form : in_group groups c ≡ Freed free.0 (place_of groups free.1) = ap (in_group groups) free.2 in
+          let its : free.0 ≡ later = sym (ap number_of free.2) ∙ sym is in
+          let there : place_of groups free.1 ≡ p = sym (ap (λ (d : Change). place_of groups (changed_buf d)) free.2) ∙ b in
+          ap (numbered (journal_of groups g after)) is ∙ found-new groups changes c journals may g a ∙ ap Some form ∙ (λ i. Some (Freed (its i) (there i)))
+
+      either : (p k : ℕ) (t : Session) → session_at v p k ≡ Some t → IsLast groups changes t.buf t.number → ((group ≡ group_of groups t.buf) × (place ≡ place_of groups t.buf)) ⊎ (group ≡ group_of groups t.buf → place ≡ place_of groups t.buf → ⊥) →
+          IsLast groups after t.buf t.number ⊎ (IsOver v p k t × IsFreedAfter groups after t.buf t.number)
+      either p k t at last (inl same) =
+          let takes = owned.taken p k t at in
+          let end = at-last (group_of groups t.buf) (place_of groups t.buf) t.number takes.need same.0 same.1 takes.take last in
+          let one = owned.own p k end.path end.seq t end.session at end.known (end.its.0 ∙ same.0, end.its.1) in
+          let is : end.session ≡ t = same-some (ap (λ (x : ℕ × ℕ). session_at v x.0 x.1) (λ i. (one.0 i, one.1 i)) ∙ end.known) at in
+          inr (
+            subst (λ (x : ℕ × ℕ × Session). IsOver v x.0 x.1 x.2) (λ i. (sym one.0 i, sym one.1 i, is i)) end.over,
+            (number_of c, found-below groups changes c journals may (group_of groups t.buf) t.number _ same.0 takes.take, free-there (group_of groups t.buf) (place_of groups t.buf) (number_of c) same.0 same.1 refl end.freed),
+          )
+      either p k t at last (inr other) = inl (λ later changed. elim (buffer-back groups changes c journals may (group_of groups t.buf) (place_of groups t.buf) later changed) [
+        | inl before ↦ last later before
+        | inr now ↦ absurd (other now.0 now.1)
+      ])
+
+      both-same : (a b d e : ℕ) → ((a ≡ b) × (d ≡ e)) ⊎ (a ≡ b → d ≡ e → ⊥)
+      both-same a b d e = elim (eqb_tells a b) [
+        | inl one ↦ elim (eqb_tells d e) [ inl two ↦ inl (one.1, two.1) | inr other ↦ inr (λ x y. other.1 y) ]
+        | inr other ↦ inr (λ x y. other.1 x)
+      ]
 
 -- after a take of a free buffer
 pub took : (groups : List (List ℕ)) (changes : List Change) (held : ℕ → Option Taking) (v : View) (number buf size need : ℕ) → (journals : Journals groups changes) → (may : IsNext groups changes (Taken number buf need)) →
     slice_get (sizes_of groups (group_of groups buf)) (place_of groups buf) ≡ Some size → Owned groups changes held v → Owned groups (changes ++ Taken number buf need ∷ []) (at_one buf (Some (record { number = number; size = size })) held) v
-took groups changes held v number buf size need journals may size-is owned = record {
-  taken = λ path seq s at. more groups changes c journals may s.buf s.number s.size (owned.taken path seq s at);
-  own = owned.own;
-  held_is = λ b t e. elim (eqb_tells b buf) [
-    | inl same ↦ subst (λ (x : ℕ × Taking). Takes groups after x.0 x.1.number x.1.size) (λ i. (sym same.1 i, is t b same.0 e i)) new
-    | inr other ↦ more groups changes c journals may b t.number t.size (owned.held_is b t (was t b other.0 e))
-  ];
-  held_last = λ b t e later changed. elim (buffer-back groups changes c journals may (group_of groups b) (place_of groups b) later changed) [
-    | inl before ↦ elim (eqb_tells b buf) [
-      | inl same ↦
-          let low = found-below groups changes c journals may (group_of groups b) later before.0 (ap (group_of groups) (sym same.1)) before.1 in
-          omega (arith, low, ap (λ (x : Taking). x.number) (is t b same.0 e))
-      | inr other ↦ owned.held_last b t (was t b other.0 e) later before
-    ]
-    | inr now ↦ elim (eqb_tells b buf) [
-      | inl same ↦ omega (arith, now.2, ap (λ (x : Taking). x.number) (is t b same.0 e))
-      | inr other ↦ absurd (other.1 (sym (same-buffer groups buf b now.0 now.1)))
-    ]
-  ];
-  held_unused = λ b t e path seq s at its. elim (eqb_tells b buf) [
-    | inl same ↦
-        let takes = owned.taken path seq s at in
-        let low = found-below groups changes c journals may (group_of groups s.buf) s.number (Taken s.number (place_of groups s.buf) takes.need) (ap (group_of groups) (sym same.1) ∙ sym its.0) takes.take in
-        omega (arith, low, its.1, ap (λ (x : Taking). x.number) (is t b same.0 e))
-    | inr other ↦ owned.held_unused b t (was t b other.0 e) path seq s at its
-  ];
-  unused = λ g n place need' later take none changed. elim (found-back groups changes c journals may g n (Taken n place need') take) [
-    | inl old ↦ elim (buffer-back groups changes c journals may g place later changed) [
-      | inl before ↦ owned.unused g n place need' later old none before
-      | inr now ↦ absurd (not-free g n place need' now.0 now.1 old (λ l before. owned.unused g n place need' l old none before))
-    ]
-    | inr new' ↦ elim (buffer-back groups changes c journals may g place later changed) [
-      | inl before ↦ (let low = found-below groups changes c journals may g later before.0 new'.0 before.1 in omega (arith, low, new'.1))
-      | inr now ↦ omega (arith, now.2, new'.1)
-    ]
-  ];
-  next = λ g n place need' after-it take is-next. elim (found-back groups changes c journals may g n (Taken n place need') take) [
-    | inl old ↦ elim (buffer-back groups changes c journals may g place after-it is-next.changes_buf) [
-      | inl before ↦ found-old groups changes c journals may g after-it (Freed after-it place) (owned.next g n place need' after-it old (next-before groups changes c journals may g n place after-it is-next before))
-      | inr now ↦ absurd (not-free g n place need' now.0 now.1 old (λ l before. elim (cases_lt n l) [
-        | inl later' ↦
-            let first = is-next.first l (buffer-old groups changes c journals may g place l before) later' in
-            let low = found-below groups changes c journals may g l before.0 now.0 before.1 in
-            absurd (omega (arith, first, low, now.2))
-        | inr not ↦ not
-      ]))
-    ]
-    | inr new' ↦ elim (buffer-back groups changes c journals may g place after-it is-next.changes_buf) [
-      | inl before ↦ absurd (let low = found-below groups changes c journals may g after-it before.0 new'.0 before.1 in omega (arith, low, new'.1, is-next.after))
-      | inr now ↦ absurd (omega (arith, now.2, new'.1, is-next.after))
-    ]
-  ];
-  turn = λ path seq s at. elim (owned.turn path seq s at) [
-    | inl last ↦ inl (λ later changed. elim (buffer-back groups changes c journals may (group_of groups s.buf) (place_of groups s.buf) later changed) [
-      | inl before ↦ last later before
-      | inr now ↦ absurd (let takes = owned.taken path seq s at in not-free (group_of groups s.buf) s.number (place_of groups s.buf) takes.need now.0 now.1 takes.take last)
-    ])
-    | inr over ↦ inr (over.0, freed-still groups changes c journals may s.buf s.number over.1)
-  ];
-}
+took groups changes held v number buf size need journals may size-is owned =
+    let before : Owned groups after held v = pushed groups changes c journals may held v owned (λ n need' take last. absurd (taken-clear (sizes_of groups g) (journal_of groups g changes) n (place_of groups buf) need' (journals.order g) (journals.lawful g) take last may.lawful.fits.is_free)) in
+    record {
+      taken = before.taken;
+      own = before.own;
+      held_is = λ b t e. elim (either b t e) [
+        | inl new ↦ subst (λ (x : ℕ × Taking). Takes groups after x.0 x.1.number x.1.size) (λ i. (sym new.0 i, new.1 i)) (record { need = need; take = found-new groups changes c journals may g refl; size_is = size-is })
+        | inr old ↦ before.held_is b t old.1
+      ];
+      held_last = λ b t e later changed. elim (either b t e) [
+        | inl new ↦ elim (buffer-back groups changes c journals may (group_of groups b) (place_of groups b) later changed) [
+          | inl was ↦ (let low = found-below groups changes c journals may (group_of groups b) later was.0 (ap (group_of groups) (sym new.0)) was.1 in omega (arith, low, ap (λ (x : Taking). x.number) new.1))
+          | inr now ↦ omega (arith, now.2, ap (λ (x : Taking). x.number) new.1)
+        ]
+        | inr old ↦ before.held_last b t old.1 later changed
+      ];
+      held_unused = λ b t e path seq s at its. elim (either b t e) [
+        | inl new ↦
+            let low = found-below groups changes c journals may (group_of groups s.buf) s.number _ (ap (group_of groups) (sym new.0) ∙ sym its.0) (owned.taken path seq s at).take in
+            omega (arith, low, its.1, ap (λ (x : Taking). x.number) new.1)
+        | inr old ↦ before.held_unused b t old.1 path seq s at its
+      ];
+      unused = before.unused;
+      next = before.next;
+      turn = before.turn;
+    }
   where
     c : Change
     c = Taken number buf need
 
+    g : ℕ
+    g = group_of groups buf
+
     after : List Change
     after = changes ++ c ∷ []
 
-    new : Takes groups after buf number size
-    new = record { need = need; take = found-new groups changes c journals may (group_of groups buf) refl; size_is = size-is }
-
-    is : (t : Taking) (b : ℕ) → (b == buf) ≡ true → at_one buf (Some (record { number = number; size = size })) held b ≡ Some t → record { number = number; size = size } ≡ t
-    is t b same e =
-        let both : Some (record { number = number; size = size }) ≡ Some t = sym (ap (λ (x : Bool). if x then Some (record { number = number; size = size }) else held b) same) ∙ e in cc
-
-    was : (t : Taking) (b : ℕ) → (b == buf) ≡ false → at_one buf (Some (record { number = number; size = size })) held b ≡ Some t → held b ≡ Some t
-    was t b other e = sym (ap (λ (x : Bool). if x then Some (record { number = number; size = size }) else held b) other) ∙ e
-
-    not-free : (g n place need' : ℕ) → group_of groups buf ≡ g → place_of groups buf ≡ place → numbered (journal_of groups g changes) n ≡ Some (Taken n place need') → ((l : ℕ) → ChangesBuf (journal_of groups g changes) place l → l ≤ n) → ⊥
-    not-free g n place need' a b old last = taken-clear (sizes_of groups g) (journal_of groups g changes) n place need' (journals.order g) (journals.lawful g) old last
-        (subst (λ (x : ℕ × ℕ). IsBitSet (replay (sizes_of groups x.0) (journal_of groups x.0 changes) (length (journal_of groups x.0 changes))) x.1) (λ i. (a i, b i)) may.lawful.fits.is_free)
+    either : (b : ℕ) (t : Taking) → at_one buf (Some (record { number = number; size = size })) held b ≡ Some t → ((b ≡ buf) × (record { number = number; size = size } ≡ t)) ⊎ ((b ≢ buf) × (held b ≡ Some t))
+    either b t e = elim (eqb_tells b buf) [
+      | inl same ↦ inl (same.1, same-some (ap (λ (x : Bool). if x then Some (record { number = number; size = size }) else held b) same.0) e)
+      | inr other ↦ inr (other.1, sym (ap (λ (x : Bool). if x then Some (record { number = number; size = size }) else held b) other.0) ∙ e)
+    ]
 
 -- after the free of a buffer whose session is over
 pub freed : (groups : List (List ℕ)) (changes : List Change) (held : ℕ → Option Taking) (v : View) (number buf path seq : ℕ) (s : Session) → (journals : Journals groups changes) → (may : IsNext groups changes (Freed number buf)) →
     session_at v path seq ≡ Some s → s.buf ≡ buf → IsOver v path seq s → IsLast groups changes buf s.number → Owned groups changes held v → Owned groups (changes ++ Freed number buf ∷ []) held v
-freed groups changes held v number buf path seq s journals may known its over last owned = record {
-  taken = λ p k t at. more groups changes c journals may t.buf t.number t.size (owned.taken p k t at);
-  own = owned.own;
-  held_is = λ b t e. more groups changes c journals may b t.number t.size (owned.held_is b t e);
-  held_last = λ b t e later changed. elim (buffer-back groups changes c journals may (group_of groups b) (place_of groups b) later changed) [
-    | inl before ↦ owned.held_last b t e later before
-    | inr now ↦
-        let takes = owned.held_is b t e in
-        let low : t.number ≤ s.number = last t.number (moved-change groups changes _ _ _ _ t.number (sym now.0) (sym now.1) (its-change groups changes b t.number t.size takes)) in
-        let high : s.number ≤ t.number = owned.held_last b t e s.number (moved-change groups changes _ _ _ _ s.number now.0 now.1 mine) in
-        absurd (owned.held_unused b t e path seq s known (ap (group_of groups) its ∙ now.0, omega (arith, low, high)))
-  ];
-  held_unused = owned.held_unused;
-  unused = λ g n place need later take none changed. elim (found-back groups changes c journals may g n (Taken n place need) take) [
-    | inl old ↦ elim (buffer-back groups changes c journals may g place later changed) [
-      | inl before ↦ owned.unused g n place need later old none before
-      | inr now ↦
-          let low : n ≤ s.number = last n (moved-change groups changes _ _ _ _ n (sym now.0) (sym now.1) (Taken n place need, old, refl)) in
-          let high : s.number ≤ n = owned.unused g n place need s.number old none (moved-change groups changes _ _ _ _ s.number now.0 now.1 mine) in
-          absurd (none path seq s known (ap (group_of groups) its ∙ now.0, omega (arith, low, high)))
-    ]
-    | inr new ↦ absurd (let no = new.2 in cc)
-  ];
-  next = λ g n place need after-it take is-next. elim (found-back groups changes c journals may g n (Taken n place need) take) [
-    | inl old ↦ elim (buffer-back groups changes c journals may g place after-it is-next.changes_buf) [
-      | inl before ↦ found-old groups changes c journals may g after-it (Freed after-it place) (owned.next g n place need after-it old (next-before groups changes c journals may g n place after-it is-next before))
-      | inr now ↦ found-there g place after-it now.0 now.1 now.2
-    ]
-    | inr new ↦ absurd (let no = new.2 in cc)
-  ];
-  turn = λ p k t at. elim (owned.turn p k t at) [
-    | inl last-too ↦ either p k t at last-too (both-same (group_of groups buf) (group_of groups t.buf) (place_of groups buf) (place_of groups t.buf))
-    | inr gone ↦ inr (gone.0, freed-still groups changes c journals may t.buf t.number gone.1)
-  ];
-}
-  where
-    c : Change
-    c = Freed number buf
-
-    mine : ChangesBuf (journal_of groups (group_of groups buf) changes) (place_of groups buf) s.number
-    mine = subst (λ (b : ℕ). ChangesBuf (journal_of groups (group_of groups b) changes) (place_of groups b) s.number) its (its-change groups changes s.buf s.number s.size (owned.taken path seq s known))
-
-    found-there : (g place later : ℕ) → group_of groups buf ≡ g → place_of groups buf ≡ place → later ≡ number → numbered (journal_of groups g (changes ++ c ∷ [])) later ≡ Some (Freed later place)
-    found-there g place later a b is = ap (numbered (journal_of groups g (changes ++ c ∷ []))) is ∙ found-new groups changes c journals may g a ∙ ap (λ (x : ℕ × ℕ). Some (Freed x.0 x.1)) (λ i. (sym is i, b i))
-
-    same-too : (p k : ℕ) (t : Session) → session_at v p k ≡ Some t → IsLast groups changes t.buf t.number → group_of groups buf ≡ group_of groups t.buf → place_of groups buf ≡ place_of groups t.buf → IsOver v p k t
-    same-too p k t at last-too a b =
-        let takes = owned.taken p k t at in
-        let low : t.number ≤ s.number = last t.number (moved-change groups changes _ _ _ _ t.number (sym a) (sym b) (its-change groups changes t.buf t.number t.size takes)) in
-        let high : s.number ≤ t.number = last-too s.number (moved-change groups changes _ _ _ _ s.number a b mine) in
-        let one = owned.own path seq p k s t known at (sym a ∙ ap (group_of groups) (sym its), omega (arith, low, high)) in
-        let there : session_at v p k ≡ Some s = ap (λ (x : ℕ × ℕ). session_at v x.0 x.1) (λ i. (sym one.0 i, sym one.1 i)) ∙ known in
-        let is : s ≡ t = same-found (session_at v p k) s t there at in
-        subst (λ (x : ℕ × ℕ × Session). IsOver v x.0 x.1 x.2) (λ i. (one.0 i, one.1 i, is i)) over
-
-    either : (p k : ℕ) (t : Session) → session_at v p k ≡ Some t → IsLast groups changes t.buf t.number → ((group_of groups buf ≡ group_of groups t.buf) × (place_of groups buf ≡ place_of groups t.buf)) ⊎ (group_of groups buf ≡ group_of groups t.buf → place_of groups buf ≡ place_of groups t.buf → ⊥) →
-        IsLast groups (changes ++ c ∷ []) t.buf t.number ⊎ (IsOver v p k t × IsFreedAfter groups (changes ++ c ∷ []) t.buf t.number)
-    either p k t at last-too (inl same) =
-        inr (
-          same-too p k t at last-too same.0 same.1,
-          (
-            number,
-            found-below groups changes c journals may (group_of groups t.buf) t.number (Taken t.number (place_of groups t.buf) (owned.taken p k t at).need) same.0 (owned.taken p k t at).take,
-            found-there (group_of groups t.buf) (place_of groups t.buf) number same.0 same.1 refl,
-          ),
-        )
-    either p k t at last-too (inr other) = inl (λ later changed. elim (buffer-back groups changes c journals may (group_of groups t.buf) (place_of groups t.buf) later changed) [
-      | inl before ↦ last-too later before
-      | inr now ↦ absurd (other now.0 now.1)
-    ])
-
-    both-same : (a b d e : ℕ) → ((a ≡ b) × (d ≡ e)) ⊎ (a ≡ b → d ≡ e → ⊥)
-    both-same a b d e = elim (eqb_tells a b) [
-      | inl one ↦ elim (eqb_tells d e) [ inl two ↦ inl (one.1, two.1) | inr other ↦ inr (λ x y. other.1 y) ]
-      | inr other ↦ inr (λ x y. other.1 x)
-    ]
+freed groups changes held v number buf path seq s journals may known its over last owned =
+    pushed groups changes (Freed number buf) journals may held v owned (λ n need take newest.
+    let mine : ChangesBuf (journal_of groups (group_of groups buf) changes) (place_of groups buf) s.number =
+    subst (λ (b : ℕ). ChangesBuf (journal_of groups (group_of groups b) changes) (place_of groups b) s.number) its (its-change groups changes s.buf s.number s.size (owned.taken path seq s known)) in
+    let low = last n (Taken n (place_of groups buf) need, take, refl) in
+    let high = newest s.number mine in
+    record { freed = (number, buf, refl); path = path; seq = seq; session = s; known = known; its = (ap (group_of groups) its, omega (arith, low, high)); over = over })
 
 -- after a session is entered in a buffer that was held
 pub entered : (groups : List (List ℕ)) (changes : List Change) (held : ℕ → Option Taking) (v w : View) (path buf number size len readers : ℕ) → held buf ≡ Some (record { number = number; size = size }) →
     w.sessions ≡ at_one path (v.sessions path ++ session_new buf number size len readers ∷ []) v.sessions → w.readings ≡ v.readings → Owned groups changes held v → Owned groups changes (at_one buf None held) w
 entered groups changes held v w path buf number size len readers known sessions readings owned = record {
   taken = λ p k s at. elim (now p k) [
-    | inl new ↦ subst (λ (x : Session). Takes groups changes x.buf x.number x.size) (same-found _ fresh s new.2 at) takes
+    | inl new ↦ subst (λ (x : Session). Takes groups changes x.buf x.number x.size) (same-some new.2 at) takes
     | inr same ↦ owned.taken p k s (sym same ∙ at)
   ];
   own = λ p k q j s t at there its. elim (now p k) [
     | inl new ↦ elim (now q j) [
       | inl too ↦ (new.0 ∙ sym too.0, new.1 ∙ sym too.1)
       | inr same ↦
-          let is : fresh ≡ s = same-found _ fresh s new.2 at in
+          let is : fresh ≡ s = same-some new.2 at in
           absurd (owned.held_unused buf (record { number = number; size = size }) known q j t (sym same ∙ there) (its.0 ∙ ap (λ (x : Session). group_of groups x.buf) (sym is), its.1 ∙ ap (λ (x : Session). x.number) (sym is)))
     ]
     | inr same ↦ elim (now q j) [
       | inl too ↦
-          let is : fresh ≡ t = same-found _ fresh t too.2 there in
+          let is : fresh ≡ t = same-some too.2 there in
           absurd (owned.held_unused buf (record { number = number; size = size }) known p k s (sym same ∙ at) (sym its.0 ∙ ap (λ (x : Session). group_of groups x.buf) (sym is), sym its.1 ∙ ap (λ (x : Session). x.number) (sym is)))
       | inr too ↦ owned.own p k q j s t (sym same ∙ at) (sym too ∙ there) its
     ]
@@ -253,20 +235,20 @@ entered groups changes held v w path buf number size len readers known sessions 
   held_last = λ b t e. owned.held_last b t (was b t e).1;
   held_unused = λ b t e p k s at its. elim (now p k) [
     | inl new ↦
-        let is : fresh ≡ s = same-found _ fresh s new.2 at in
+        let is : fresh ≡ s = same-some new.2 at in
         let other = owned.held_is b t (was b t e).1 in
         let group : group_of groups buf ≡ group_of groups b = ap (λ (x : Session). group_of groups x.buf) is ∙ its.0 in
         let number' : number ≡ t.number = ap (λ (x : Session). x.number) is ∙ its.1 in
         let mine : numbered (journal_of groups (group_of groups b) changes) t.number ≡ Some (Taken number (place_of groups buf) takes.need) =
         ap (λ (x : ℕ × ℕ). numbered (journal_of groups x.0 changes) x.1) (λ i. (sym group i, sym number' i)) ∙ takes.take in
-        let one : Taken number (place_of groups buf) takes.need ≡ Taken t.number (place_of groups b) other.need = same-found _ _ _ mine other.take in
+        let one : Taken number (place_of groups buf) takes.need ≡ Taken t.number (place_of groups b) other.need = same-some mine other.take in
         (was b t e).0 (sym (same-buffer groups buf b group (ap changed_buf one)))
     | inr same ↦ owned.held_unused b t (was b t e).1 p k s (sym same ∙ at) its
   ];
   unused = λ g n place need later take none changed. owned.unused g n place need later take (λ p k s at its. none p k s (still p k s at) its) changed;
   next = owned.next;
   turn = λ p k s at. elim (now p k) [
-    | inl new ↦ inl (subst (λ (x : Session). IsLast groups changes x.buf x.number) (same-found _ fresh s new.2 at) (owned.held_last buf (record { number = number; size = size }) known))
+    | inl new ↦ inl (subst (λ (x : Session). IsLast groups changes x.buf x.number) (same-some new.2 at) (owned.held_last buf (record { number = number; size = size }) known))
     | inr same ↦ elim (owned.turn p k s (sym same ∙ at)) [
       | inl last ↦ inl last
       | inr over ↦ inr (record { writer = over.0.writer; dests = λ d below. left p d k (over.0.dests d below) }, over.1)
@@ -350,33 +332,28 @@ on-session path seq f v w sessions readings same = record {
   left = λ p d k gone. (gone.0, ap (λ (g : ℕ → ℕ → List Reading). slice_get (g p d) k) readings ∙ gone.1, gone.2);
 }
 
-pub on-reading : (path dest seq : ℕ) (f : Reading → Reading) (r : Reading) (v w : View) → w.readings ≡ at_two path dest (change_at seq f (v.readings path dest)) v.readings → w.sessions ≡ v.sessions →
-    reading_at v path dest seq ≡ Some r → r.stands ≡ true → GoOn v w
-on-reading path dest seq f r v w readings sessions there stands = record {
+stays-on : (v w : View) → w.sessions ≡ v.sessions → ((p d k : ℕ) → HasLeft v p d k → HasLeft w p d k) → GoOn v w
+stays-on v w sessions left = record {
   back = λ p k t at. (t, ap (λ (g : ℕ → List Session). slice_get (g p) k) (sym sessions) ∙ at, same-take t);
   forth = λ p k s at. (s, ap (λ (g : ℕ → List Session). slice_get (g p) k) sessions ∙ at, same-take s);
-  left = λ p d k gone. elim (reading-now path dest seq f v w readings p d k) [
-    | inl hit ↦
-        let was : reading_at v p d k ≡ Some r = ap (λ (x : ℕ × ℕ × ℕ). reading_at v x.0 x.1 x.2) (λ i. (hit.0 i, hit.1 i, hit.2 i)) ∙ there in
-        absurd (true≢false (sym stands ∙ ap (λ (x : Reading). x.stands) (same-found _ r gone.0 was gone.1) ∙ gone.2))
-    | inr is ↦ (gone.0, is ∙ gone.1, gone.2)
-  ];
+  left = left;
 }
 
+pub on-reading : (path dest seq : ℕ) (f : Reading → Reading) (r : Reading) (v w : View) → w.readings ≡ at_two path dest (change_at seq f (v.readings path dest)) v.readings → w.sessions ≡ v.sessions →
+    reading_at v path dest seq ≡ Some r → r.stands ≡ true → GoOn v w
+on-reading path dest seq f r v w readings sessions there stands = stays-on v w sessions (λ p d k gone. elim (reading-now path dest seq f v w readings p d k) [
+  | inl hit ↦
+      let was : reading_at v p d k ≡ Some r = ap (λ (x : ℕ × ℕ × ℕ). reading_at v x.0 x.1 x.2) (λ i. (hit.0 i, hit.1 i, hit.2 i)) ∙ there in
+      absurd (true≢false (sym stands ∙ ap (λ (x : Reading). x.stands) (same-some was gone.1) ∙ gone.2))
+  | inr is ↦ (gone.0, is ∙ gone.1, gone.2)
+])
+
 pub on-joining : (path dest : ℕ) (r : Reading) (v w : View) → w.readings ≡ at_two path dest (v.readings path dest ++ r ∷ []) v.readings → w.sessions ≡ v.sessions → GoOn v w
-on-joining path dest r v w readings sessions = record {
-  back = λ p k t at. (t, ap (λ (g : ℕ → List Session). slice_get (g p) k) (sym sessions) ∙ at, same-take t);
-  forth = λ p k s at. (s, ap (λ (g : ℕ → List Session). slice_get (g p) k) sessions ∙ at, same-take s);
-  left = λ p d k gone. elim (reading-pushed path dest r v w readings p d k) [
-    | inl new ↦ absurd (let none : Some gone.0 ≡ None = sym gone.1 ∙ ap (λ (x : ℕ × ℕ × ℕ). reading_at v x.0 x.1 x.2) (λ i. (new.0 i, new.1 i, new.2 i)) ∙ slice_get_past (v.readings path dest) (length (v.readings path dest)) (omega arith) in cc)
-    | inr is ↦ (gone.0, is ∙ gone.1, gone.2)
-  ];
-}
+on-joining path dest r v w readings sessions = stays-on v w sessions (λ p d k gone. elim (reading-pushed path dest r v w readings p d k) [
+  | inl new ↦ absurd (none-some (ap (λ (x : ℕ × ℕ × ℕ). reading_at v x.0 x.1 x.2) (λ i. (new.0 i, new.1 i, new.2 i)) ∙ slice_get_past (v.readings path dest) (length (v.readings path dest)) (omega arith)) gone.1)
+  | inr is ↦ (gone.0, is ∙ gone.1, gone.2)
+])
 
 -- nothing of the parties is changed
 pub on-same : (v w : View) → w.sessions ≡ v.sessions → w.readings ≡ v.readings → GoOn v w
-on-same v w sessions readings = record {
-  back = λ p k t at. (t, ap (λ (g : ℕ → List Session). slice_get (g p) k) (sym sessions) ∙ at, same-take t);
-  forth = λ p k s at. (s, ap (λ (g : ℕ → List Session). slice_get (g p) k) sessions ∙ at, same-take s);
-  left = λ p d k gone. (gone.0, ap (λ (g : ℕ → ℕ → List Reading). slice_get (g p d) k) readings ∙ gone.1, gone.2);
-}
+on-same v w sessions readings = stays-on v w sessions (λ p d k gone. (gone.0, ap (λ (g : ℕ → ℕ → List Reading). slice_get (g p d) k) readings ∙ gone.1, gone.2))

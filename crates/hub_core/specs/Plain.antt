@@ -47,7 +47,7 @@ StartAt sizes bufs starts = (buf : ℕ) → buf < bufs → slice_get starts buf 
 
 -- how many buffers each group has, the sizes of all buffers, and where all the rest lies
 pub record AreLaid (counts sizes starts words : List ℕ) (places : List Place) : Type 0 where
-  pub groups : length counts ≤ 4
+  pub groups : (1 ≤ length counts) × (length counts ≤ 4)
   pub buffers : All (λ count. (1 ≤ count) × (count ≤ 32)) counts
   pub all : sum counts ≡ length sizes
   pub each : All (λ size. (1 ≤ size) × (size ≤ 8192)) sizes

@@ -1,5 +1,5 @@
 use Rattle.std.proofs.Common.{◌≡◌, arith}
-use Rattle.hub_core.proofs.Hubs.{hub-groups, count-at, count-read, group-within}
+use Rattle.hub_core.proofs.HubGroups.{hub-groups, count-at, count-read, group-within}
 use Rattle.hub_core.specs.Groups.{first_of}
 use Rattle.hub_core.proofs.plain.PlainHub.buffers_of.Goals as goal
 

@@ -1,5 +1,6 @@
 use Rattle.std.proofs.Common.{◌∙◌, ap, arith}
-use Rattle.hub_core.proofs.Hubs.{hub-joint, hub-order, hub-word, pool-at, pool-few, pool-read}
+use Rattle.hub_core.proofs.HubGroups.{hub-order, hub-word, pool-at, pool-few, pool-read}
+use Rattle.hub_core.proofs.Hubs.{hub-joint}
 use Rattle.hub_core.proofs.plain.PlainHub.word.Goals as goal
 use Rattle.hub_core.specs.declared.pool.Pool.{Pool}
 

@@ -1,7 +1,8 @@
 use Rattle.std.proofs.Common.{ℕ, ◌+◌, List, length, ap, sym, subst, refl, arith, ◌∙◌}
 use Rattle.std.specs.Prelude.{slice_set, sum, IsBitSet}
 use Rattle.hub_core.proofs.Growing.{by-left}
-use Rattle.hub_core.proofs.Hubs.{laid-place, stays-same, party-at, party-there, party-row, party-below as below-all, party-clear, found-in, pool-at, pool-few, pool-read, pool-freed}
+use Rattle.hub_core.proofs.HubGroups.{found-in, pool-at, pool-few, pool-read, pool-freed}
+use Rattle.hub_core.proofs.Hubs.{laid-place, stays-same, party-at, party-there, party-row, party-below as below-all, party-clear}
 use Rattle.hub_core.proofs.Leaving.{party-below, after-left, after-left-last, left-over, left-others}
 use Rattle.hub_core.proofs.plain.PlainHubPort.leave.Goals as goal
 use Rattle.hub_core.specs.Alone.{IsLeavingOf}

@@ -4,7 +4,8 @@ use Rattle.std.proofs.lemmas.Option.{get_or_from_slice_get, slice_get_within}
 use Rattle.std.specs.Prelude.{nat_lt, slice_get}
 use Rattle.hub_core.proofs.Fresh.{missed-fresh}
 use Rattle.hub_core.proofs.Growing.{by-joining, reads-joining}
-use Rattle.hub_core.proofs.Hubs.{hub-few, place-found, none-found, stays-missed, stays-same}
+use Rattle.hub_core.proofs.HubGroups.{hub-few, place-found, none-found}
+use Rattle.hub_core.proofs.Hubs.{stays-missed, stays-same}
 use Rattle.hub_core.proofs.Ledger.{streams}
 use Rattle.hub_core.proofs.Looks.{next-none, found, next-apart, next-for}
 use Rattle.hub_core.proofs.Scans.{position-read}

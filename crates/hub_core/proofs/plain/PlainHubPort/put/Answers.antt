@@ -1,7 +1,8 @@
 use Rattle.std.proofs.Common.{ℕ, ◌+◌, ◌%◌, ◌≤◌, ◌∙◌, List, All, ap, sym, subst, arith, rules}
 use Rattle.std.specs.Prelude.{slice_set, sum}
 use Rattle.hub_core.proofs.Growing.{writes-put, by-put}
-use Rattle.hub_core.proofs.Hubs.{hub-sizes, laid-word, stays-put, party-place, start-at, word-at, writer-size, writer-start}
+use Rattle.hub_core.proofs.HubGroups.{hub-sizes}
+use Rattle.hub_core.proofs.Hubs.{laid-word, stays-put, party-place, start-at, word-at, writer-size, writer-start}
 use Rattle.hub_core.proofs.Led.{put-may}
 use Rattle.hub_core.proofs.Looks.{cells-few}
 use Rattle.hub_core.proofs.Rows.{occupied}

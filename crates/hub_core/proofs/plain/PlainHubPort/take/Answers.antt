@@ -3,7 +3,8 @@ use Rattle.std.proofs.lemmas.Option.{slice_get_read, get_or_from_slice_get}
 use Rattle.std.specs.Prelude.{slice_get, slice_set}
 use Rattle.gw_base.specs.Fit.{IsSmallest, NoneFits}
 use Rattle.hub_core.proofs.Growing.{by-took, by-refused}
-use Rattle.hub_core.proofs.Hubs.{laid-place, sizes-read, group-few, hub-few, pool-at, pool-few, pool-read, hub-word, buffer-from, buffer-of, take-may, pool-taken, stays-took}
+use Rattle.hub_core.proofs.HubGroups.{sizes-read, group-few, hub-few, pool-at, pool-few, pool-read, hub-word, buffer-from, buffer-of, take-may, pool-taken}
+use Rattle.hub_core.proofs.Hubs.{laid-place, stays-took}
 use Rattle.hub_core.proofs.Ledger.{led-refused}
 use Rattle.hub_core.proofs.Shown.{after-refused}
 use Rattle.hub_core.proofs.Taking.{after-took, held-took}

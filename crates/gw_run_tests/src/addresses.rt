@@ -66,10 +66,7 @@ pool 1 2 00000001
 ",
             EMPTY,
         ],
-        [
-            b"(0000000001.001000) can0 708#52300000CCCCCCCC\n",
-            EMPTY,
-        ],
+        [b"(0000000001.001000) can0 708#52300000CCCCCCCC\n", EMPTY],
         b"report 1
 clock 1000000 1000
 session 0 0 23 0 5 1000 0/0/1 rx-timeout cf

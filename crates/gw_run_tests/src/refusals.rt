@@ -160,10 +160,7 @@ const REFUSED_LOGS: [LogRow; 18] = [
     // With an address byte each frame carries a byte less, so that four cells hold fewer bytes.
     (
         ADDRESSED_SOURCE,
-        [
-            b"(0000000001.000000) can0 700#5110180001020304\n",
-            EMPTY,
-        ],
+        [b"(0000000001.000000) can0 700#5110180001020304\n", EMPTY],
         9,
         FIRST_OF_CAN0,
     ),

@@ -409,11 +409,7 @@ pool 1 2 00000001
 ];
 
 /// Fails unless the row's run has its results, over files that hand out seven bytes a call.
-pub(crate) fn try_row<R: Threads + Sync>(
-    rt: &R,
-    alloc: Global,
-    row: Row,
-) -> Result<(), Fail> {
+pub(crate) fn try_row<R: Threads + Sync>(rt: &R, alloc: Global, row: Row) -> Result<(), Fail> {
     let (change, logs, [controls, frames], report, said) = row;
     let configuration = changed(alloc, change)?;
     let mut depot = depot_with(alloc, configuration.as_str(), logs)?;

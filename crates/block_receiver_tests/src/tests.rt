@@ -5,13 +5,13 @@ ghost use Rattle.hub_core.specs.Calls.{Means};
 ghost use Rattle.block_receiver.specs.Set.{IsRxSet};
 ghost use Rattle.block_receiver.specs.declared.set.RxSet.{RxSet};
 
+use block_receiver::*;
 use can_frame::{CanId, Frame, FrameFault};
 use gw_base::{BufNo, ChanNo, GroupNo, PathNo, Tick};
 use hub_core::{OpenedAt, PlainHub, Port, RxLimit, RxWait, SessionRecord, SessionResult};
 use std::alloc::Global;
 use std::process::Abort;
 use std::test::Fail;
-use block_receiver::*;
 use tp_unit::{BoxAct, Unit, read_unit};
 
 /// A channel with normal addressing, and a path to one destination.

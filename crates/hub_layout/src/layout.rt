@@ -16,8 +16,11 @@ const WORDS_BESIDE: u32 = 11;
 
 /// The places of a buffer's length, count and first position, and of its first cell, from its card on.
 const LENGTH: usize = 1;
+
 const COUNT: usize = 2;
+
 const POSITIONS: usize = 3;
+
 const CELLS: usize = 11;
 
 /// The first word of each buffer, where the groups' pool words come first, and the number of all words.

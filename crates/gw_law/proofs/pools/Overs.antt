@@ -157,18 +157,18 @@ all-used a d windows v group is number place need there =
     let from = grouped-from a.plan.groups group v.changes number place need there in
     let buf : ℕ = from.1 in
     elim (all-at (IsMadeBy d received_in sent_in) v.changes from.0 (Taken number buf need) is.joined.only from.2) [
-  | inl by ↦
-      let of : Receives a d v by.1.0 by.0 = receives a d windows v by.0 by.1.0 is by.1.1 in
-      let leaves : RxLeaves by.0 = rx-leaves by.0 of.is.run_is in
-      let own : List Session = (own_view (calls_by (received_in by.0))).sessions by.0.set.path.0 in
-      let used = all-at (IsUsed (takes_of own)) (own_view (calls_by (received_in by.0))).changes by.2.0 (Taken number buf need) leaves.written.used by.2.1 in
-      let s = mapped-at take_of used.0 own (number, buf) used.1 in
-      (by.0.set.path.0, used.0, s.0, ap (λ l. slice_get l used.0) of.sessions ∙ s.1, ap (λ p. p.0) s.2, ap (λ p. group_of a.plan.groups p.1) s.2 ∙ from.3)
-  | inr by ↦
-      let one = zip-back (IsSenderRun a) a.plan.senders d.senders by.1.0 by.0 is.senders by.1.1 in
-      let leaves : TxLeaves by.0 = tx-leaves by.0 one.2.run_is in
-      let none : (own_view (calls_by (sent_in by.0))).sessions by.0.set.path.0 ≡ [] = no-items _ leaves.written.count in
-      let used = all-at (IsUsed (takes_of ((own_view (calls_by (sent_in by.0))).sessions by.0.set.path.0))) (own_view (calls_by (sent_in by.0))).changes by.2.0 (Taken number buf need) leaves.written.used by.2.1 in
-      let no : slice_get [] used.0 ≡ Some (number, buf) = ap (λ (l : List Session). slice_get (takes_of l) used.0) (sym none) ∙ used.1 in
-      absurd cc
+      | inl by ↦
+          let of : Receives a d v by.1.0 by.0 = receives a d windows v by.0 by.1.0 is by.1.1 in
+          let leaves : RxLeaves by.0 = rx-leaves by.0 of.is.run_is in
+          let own : List Session = (own_view (calls_by (received_in by.0))).sessions by.0.set.path.0 in
+          let used = all-at (IsUsed (takes_of own)) (own_view (calls_by (received_in by.0))).changes by.2.0 (Taken number buf need) leaves.written.used by.2.1 in
+          let s = mapped-at take_of used.0 own (number, buf) used.1 in
+          (by.0.set.path.0, used.0, s.0, ap (λ l. slice_get l used.0) of.sessions ∙ s.1, ap (λ p. p.0) s.2, ap (λ p. group_of a.plan.groups p.1) s.2 ∙ from.3)
+      | inr by ↦
+          let one = zip-back (IsSenderRun a) a.plan.senders d.senders by.1.0 by.0 is.senders by.1.1 in
+          let leaves : TxLeaves by.0 = tx-leaves by.0 one.2.run_is in
+          let none : (own_view (calls_by (sent_in by.0))).sessions by.0.set.path.0 ≡ [] = no-items _ leaves.written.count in
+          let used = all-at (IsUsed (takes_of ((own_view (calls_by (sent_in by.0))).sessions by.0.set.path.0))) (own_view (calls_by (sent_in by.0))).changes by.2.0 (Taken number buf need) leaves.written.used by.2.1 in
+          let no : slice_get [] used.0 ≡ Some (number, buf) = ap (λ (l : List Session). slice_get (takes_of l) used.0) (sym none) ∙ used.1 in
+          absurd cc
     ]

@@ -104,7 +104,7 @@ module _ (groups : List (List ℕ)) (group : ℕ) where
     own-take : (chan other_chan place other : ℕ) (opened reopened : OpenedAt) → opened.change ≡ reopened.change → HasSession v sources chan place opened → HasSession v sources other_chan other reopened → (chan ≡ other_chan) × (place ≡ other)
     own-take chan other_chan place other opened reopened same one two =
         let equal = run.joint.owned.own one.source.set.path.0 opened.seq two.source.set.path.0 reopened.seq one.known.session two.known.session one.known.there two.known.there
-            (two.its ∙ sym one.its, two.known.number ∙ sym same ∙ sym one.known.number) in
+        (two.its ∙ sym one.its, two.known.number ∙ sym same ∙ sym one.known.number) in
         let chans : chan ≡ other_chan = run.apart chan other_chan one.source two.source one.source_is two.source_is equal.0 in
         let both : Some two.source ≡ Some one.source = sym two.source_is ∙ ap (slice_get sources) (sym chans) ∙ one.source_is in
         let alike : two.source ≡ one.source = cc in
@@ -188,9 +188,11 @@ module _ (groups : List (List ℕ)) (group : ℕ) where
         let freed : numbered (changes_in groups group v) next.0 ≡ Some (Freed next.0 at) = run.joint.owned.next group s.number at take.0 next.0 take.1 next.1 in
         let place_is : at ≡ place_of groups opened.buf.0 = ap (place_of groups) one.buf in
         let P : ℕ → Type 0 = λ buf. IsNextChange (changes_in groups group v) buf s.number next.0 in
-        let Q : ℕ → Type 0 = λ number. IsNextChange (changes_in groups group v) (place_of groups opened.buf.0) number next.0 in
-        (next.0, next-move (changes_in groups group v) (place_of groups opened.buf.0) opened.change next.0 (subst Q one.number (subst P place_is next.1)),
-          numbered-map (changes_in groups group v) next.0 ∙ ap (option_map move_of) (freed ∙ ap (λ b. Some (Freed next.0 b)) place_is))
+        let Q : ℕ → Type 0 = λ number. IsNextChange (changes_in groups group v) (place_of groups opened.buf.0) number next.0 in (
+          next.0,
+          next-move (changes_in groups group v) (place_of groups opened.buf.0) opened.change next.0 (subst Q one.number (subst P place_is next.1)),
+          numbered-map (changes_in groups group v) next.0 ∙ ap (option_map move_of) (freed ∙ ap (λ b. Some (Freed next.0 b)) place_is),
+        )
 
 pub named_of : (sources : List Source) (groups : List (List ℕ)) (group count free : ℕ) (v : View) (moves : List Move) → IsPoolRun sources groups group count free v moves → AreAllUsed groups group v → AreNamed groups (map channel_of sources) moves
 named_of sources groups group count free v moves run used = let P : List Move → Type 0 = λ l. AreNamed groups (map channel_of sources) l in subst P (sym run.moves_are) (named-in groups group sources count free v moves run used)

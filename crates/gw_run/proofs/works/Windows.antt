@@ -114,18 +114,24 @@ module _ (o : SerialRun) (work : Work) (earlier : List Work) (tick_is : IsTick o
   sent-front-of = happened-front _ work.moments (moments_of earlier) sent
 
   rx-fresh : AreFreshAfter (o.sizes ∷ []) (view_of earlier) (calls_by (turns_of earlier)) (calls_by (turns_of (work ∷ earlier)))
-  rx-fresh = (calls_by work.turns, calls-append work.turns (turns_of earlier),
-      writes-fresh o.rx.path.0 o.rx.group.0 (floors_of (o.sizes ∷ []) (view_of earlier)) (calls_by work.turns) (view_of earlier) (own_view (calls_by (turns_of earlier)))
-      (sessions-own o.rx o.tx earlier received-front-of sent-front-of) (received-writes o.rx work.turns (turns_of earlier) received)
-      (turns-fresh (o.sizes ∷ []) (view_of earlier) work.turns put tick_is.looks))
+  rx-fresh = (
+    calls_by work.turns,
+    calls-append work.turns (turns_of earlier),
+    writes-fresh o.rx.path.0 o.rx.group.0 (floors_of (o.sizes ∷ []) (view_of earlier)) (calls_by work.turns) (view_of earlier) (own_view (calls_by (turns_of earlier)))
+        (sessions-own o.rx o.tx earlier received-front-of sent-front-of) (received-writes o.rx work.turns (turns_of earlier) received)
+        (turns-fresh (o.sizes ∷ []) (view_of earlier) work.turns put tick_is.looks),
+  )
 
   tx-fresh : AreFreshAfter (o.sizes ∷ []) (view_of earlier) (calls_by (moments_of earlier)) (calls_by (moments_of (work ∷ earlier)))
-  tx-fresh = (calls_by work.moments, calls-append work.moments (moments_of earlier),
-      reads-fresh o.tx.path.0 o.tx.dest.0 (floors_of (o.sizes ∷ []) (view_of earlier)) (calls_by work.moments) (view_between earlier work) (own_view (calls_by (moments_of earlier)))
-      (sent-reads o.tx work.moments (moments_of earlier) sent)
-      (are-fresh-lower (floors_of (o.sizes ∷ []) (view_of earlier)) (floors_of (o.sizes ∷ []) (view_between earlier work)) (view_between earlier work) (calls_by work.moments)
-      (rise-grows (o.sizes ∷ []) (calls_by work.turns) (view_of earlier) put)
-      (turns-fresh (o.sizes ∷ []) (view_between earlier work) work.moments (shows-grows (calls_by work.turns) (view_of earlier) put) tick_is.sees)))
+  tx-fresh = (
+    calls_by work.moments,
+    calls-append work.moments (moments_of earlier),
+    reads-fresh o.tx.path.0 o.tx.dest.0 (floors_of (o.sizes ∷ []) (view_of earlier)) (calls_by work.moments) (view_between earlier work) (own_view (calls_by (moments_of earlier)))
+        (sent-reads o.tx work.moments (moments_of earlier) sent)
+        (are-fresh-lower (floors_of (o.sizes ∷ []) (view_of earlier)) (floors_of (o.sizes ∷ []) (view_between earlier work)) (view_between earlier work) (calls_by work.moments)
+        (rise-grows (o.sizes ∷ []) (calls_by work.turns) (view_of earlier) put)
+        (turns-fresh (o.sizes ∷ []) (view_between earlier work) work.moments (shows-grows (calls_by work.turns) (view_of earlier) put) tick_is.sees)),
+  )
 
 shows-put : (works : List Work) → ShowsPut (view_of works)
 shows-put [] = λ path seq s there. absurd cc

@@ -27,5 +27,5 @@ returns-clause-few c =
     let same = ap (λ (p : Pool). length p.cells) c.self.view_is in
     let there = first-at groups cells (length cells) c.args.buf.0 (omega (arith, c.requires, same)) in
     let is = ap (λ (l : List ℕ). get_or l c.from.result 0) (c.deref.ensures.0 ∙ c.self.invariant.firsts_are) ∙ ap (λ (n : ℕ). get_or (first_words groups cells (length cells)) n 0) c.from.ensures
-        ∙ get_or_from_slice_get (first_words groups cells (length cells)) c.args.buf.0 (first_word groups cells c.args.buf.0) 0 there in
+    ∙ get_or_from_slice_get (first_words groups cells (length cells)) c.args.buf.0 (first_word groups cells c.args.buf.0) 0 there in
     omega (arith, is, most groups cells c.args.buf.0 c.self.invariant.few_groups c.self.invariant.few_buffers (omega (arith, c.requires, same)) c.self.invariant.few_cells)

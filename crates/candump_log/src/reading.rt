@@ -178,16 +178,16 @@ pub fn read_log<D: Depot, S: LogSource>(
     most: u32,
 ) -> Result<Log, LogStop>
     requires { most < 2 ^ 32 - 1 }
-    ensures told { D.told depot.new ≡ D.told depot.old }
-    ensures files { D.files depot.new ≡ D.files depot.old }
-    ensures read { IfOk result (IsLogIn (D.told depot.old) (D.files depot.old) (S.source source.now)) }
+    ensures told { (D.state depot.new).told ≡ (D.state depot.old).told }
+    ensures files { (D.state depot.new).files ≡ (D.state depot.old).files }
+    ensures read { IfOk result (IsLogIn (D.state depot.old).told (D.state depot.old).files (S.source source.now)) }
     ensures few { IfOk result (λ log. log.lines ≤ most) }
     ensures given { IfOk result (λ log. length log.frames ≤ log.lines) }
     ensures dated { IfOk result (λ log. AreDated log.frames) }
     ensures supported { IfOk result (λ log. All (λ s. IsSupported (S.source source.now) s.frame) log.frames) }
-    ensures stops { IfErr result (LogStops (D.told depot.old) (D.files depot.old) (S.source source.now) most) }
-    ensures later { D.faults depot.old ≤ D.faults depot.new }
-    ensures fault { FaultsReading (S.source source.now) (D.faults depot.old) (D.faults depot.new) (D.blame depot.new) result }
+    ensures stops { IfErr result (LogStops (D.state depot.old).told (D.state depot.old).files (S.source source.now) most) }
+    ensures later { (D.state depot.old).faults ≤ (D.state depot.new).faults }
+    ensures fault { FaultsReading (S.source source.now) (D.state depot.old).faults (D.state depot.new).faults (D.state depot.new).blame result }
 {
     let mut log = LogSoFar {
         most,

@@ -15,13 +15,6 @@ pub record HasCount {T E : Type 0} (before now : ℕ) (result : Result T E) : Ty
   pub later : before ≤ now
   pub failed : OnErr result (Rose before now)
 
--- a call fails only where the count of faults rises in it, and the blame is then this call's; a call that
--- doesn't fail leaves the blame
-pub record HasCause {T E : Type 0} (kind : CallKind) (name : List ℕ) (before now : ℕ) (old new : Blame) (result : Result T E) : Type 0 where
-  pub later : before ≤ now
-  pub failed : OnErr result (Rose before now × (new ≡ Some (kind, name)))
-  pub left : OnOk result (new ≡ old)
-
 -- how often a depot has failed, and its last failed call
 pub record Faults : Type 0 where
   pub count : ℕ

@@ -3,4 +3,5 @@ pub mod Files
 pub mod MemDepot
 pub mod MemFiles
 pub mod NeverFails
+pub mod Outside
 pub mod Plan

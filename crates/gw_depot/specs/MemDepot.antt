@@ -1,8 +1,10 @@
 -- What contracts see of a depot in memory: its files, its faults, and what a test has set.
+use Rattle.std.specs.Prelude.{true}
 use Rattle.gw_depot.specs.declared.mem_depot.MemDepot.{MemDepot}
 use Rattle.gw_depot.specs.Fault.{Faults}
 use Rattle.gw_depot.specs.Files.{Files}
 use Rattle.gw_depot.specs.MemFiles.{held}
+use Rattle.gw_depot.specs.Outside.{DepotState}
 use Rattle.gw_depot.specs.Plan.{Plan}
 
 -- what each name holds
@@ -12,6 +14,10 @@ files_of depot = held depot.files
 -- its count of faults and its last failed call
 abbrev pub faults_of : MemDepot → Faults
 faults_of depot = depot.faults
+
+-- what it is at: it tells its contents
+abbrev pub state_of : MemDepot → DepotState
+state_of depot = record { told = true; files = files_of depot; faults = (faults_of depot).count; blame = (faults_of depot).blame }
 
 -- which calls to come fail, and the most bytes that one takes
 abbrev pub plan_of : MemDepot → Plan

@@ -37,11 +37,11 @@ with_most plan bytes = record plan { most = bytes }
 
 -- what was said to a sink in memory, its count of faults, and how many puts are left up to the one that was set to
 -- fail, with it, or 0 where none was
-pub record SinkState : Type 0 where
+pub record MemSinkState : Type 0 where
   pub said : List ℕ
   pub faults : ℕ
   pub puts_left : ℕ
 
 -- nothing was said, and no put fails
-abbrev pub nothing_said : SinkState
+abbrev pub nothing_said : MemSinkState
 nothing_said = record { said = []; faults = 0; puts_left = 0 }

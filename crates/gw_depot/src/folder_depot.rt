@@ -46,13 +46,7 @@ impl<'a, R: Files<File = File>> FolderDepot<'a, R> {
 }
 
 impl<R: Files<File = File>> Depot for FolderDepot<'_, R> {
-    ghost told = { λ _. false };
-
-    ghost files = { λ _ _. None };
-
-    ghost faults = { λ depot. depot.count };
-
-    ghost blame = { λ depot. depot.blame };
+    ghost state = { λ depot. record { told = false; files = λ _. None; faults = depot.count; blame = depot.blame } };
 
     fn read(&mut self, name: &str, at: u64, into: &mut [u8]) -> Result<usize, Failed> {
         match self.files.read_at(self.rt, name, at, into) {

@@ -1,7 +1,8 @@
-ghost use Rattle.std.specs.Prelude.{◌≡◌, ◌-◌, ◌<◌, ◌≤◌, ◌↔◌, ◌⊎◌, ℕ, List, None, Some, length, take, min, true, option_copied, IfOk, OnOk, OnErr, IsErr, IsSome};
+ghost use Rattle.std.specs.Prelude.{◌≡◌, ◌-◌, ◌<◌, ◌≤◌, ◌↔◌, ◌⊎◌, ℕ, List, None, Some, length, take, min, option_copied, IfOk, OnOk, OnErr, IsErr, IsSome};
 ghost use Rattle.gw_depot.specs.declared.outside.CallKind.TheVariants.{Read, Create, Append};
-ghost use Rattle.gw_depot.specs.Fault.{HasCause, no_faults, with_fault};
+ghost use Rattle.gw_depot.specs.Fault.{no_faults, with_fault};
 ghost use Rattle.gw_depot.specs.Files.{IsName, ReadsFile, CreatesFile, AppendsFile, SetsFile, SameFiles};
+ghost use Rattle.gw_depot.specs.Outside.{HasCause};
 ghost use Rattle.gw_depot.specs.Plan.{no_plan, calls_left, after_call, with_failure, with_most};
 
 use crate::faults::Faults;
@@ -74,15 +75,9 @@ impl MemDepot {
 }
 
 impl Depot for MemDepot {
-    ghost use Rattle.gw_depot.specs.MemDepot.{files_of, faults_of, plan_of};
+    ghost use Rattle.gw_depot.specs.MemDepot.{files_of, faults_of, plan_of, state_of};
 
-    ghost told = { λ _. true };
-
-    ghost files = { λ depot. files_of depot };
-
-    ghost faults = { λ depot. (faults_of depot).count };
-
-    ghost blame = { λ depot. (faults_of depot).blame };
+    ghost state = { λ depot. state_of depot };
 
     fn read(&mut self, name: &str, at: u64, into: &mut [u8]) -> Result<usize, Failed>
         requires name { IsName name.now }
@@ -96,7 +91,7 @@ impl Depot for MemDepot {
         ensures fails { IsErr result ↔ ((calls_left (plan_of self.old) Read ≡ 1) ⊎ (files_of self.old name.now ≡ None)) }
         ensures ok { OnOk result (faults_of self.new ≡ faults_of self.old) }
         ensures err { OnErr result (faults_of self.new ≡ with_fault (faults_of self.old) Read name.now) }
-        ensures cause { HasCause Read name.now (faults_of self.old).count (faults_of self.new).count (faults_of self.old).blame (faults_of self.new).blame result }
+        ensures cause { HasCause Read name.now (state_of self.old) (state_of self.new) result }
         ensures plan { plan_of self.new ≡ after_call (plan_of self.old) Read }
     {
         if self.plan.fails_now(CallKind::Read) {
@@ -117,7 +112,7 @@ impl Depot for MemDepot {
         ensures fails { calls_left (plan_of self.old) Create ≡ 1 → IsErr result }
         ensures ok { OnOk result (faults_of self.new ≡ faults_of self.old) }
         ensures err { OnErr result (faults_of self.new ≡ with_fault (faults_of self.old) Create name.now) }
-        ensures cause { HasCause Create name.now (faults_of self.old).count (faults_of self.new).count (faults_of self.old).blame (faults_of self.new).blame result }
+        ensures cause { HasCause Create name.now (state_of self.old) (state_of self.new) result }
         ensures kept { OnErr result (SameFiles (files_of self.old) (files_of self.new)) }
         ensures plan { plan_of self.new ≡ after_call (plan_of self.old) Create }
     {
@@ -140,7 +135,7 @@ impl Depot for MemDepot {
         ensures fails { calls_left (plan_of self.old) Append ≡ 1 → IsErr result }
         ensures ok { OnOk result (faults_of self.new ≡ faults_of self.old) }
         ensures err { OnErr result (faults_of self.new ≡ with_fault (faults_of self.old) Append name.now) }
-        ensures cause { HasCause Append name.now (faults_of self.old).count (faults_of self.new).count (faults_of self.old).blame (faults_of self.new).blame result }
+        ensures cause { HasCause Append name.now (state_of self.old) (state_of self.new) result }
         ensures plan { plan_of self.new ≡ after_call (plan_of self.old) Append }
     {
         if self.plan.fails_now(CallKind::Append) {

@@ -20,9 +20,9 @@ pub struct MemSink {
 }
 
 impl Model for MemSink {
-    ghost use Rattle.gw_depot.specs.Plan.{SinkState};
+    ghost use Rattle.gw_depot.specs.Plan.{MemSinkState};
 
-    ghost Value = { SinkState };
+    ghost Value = { MemSinkState };
 
     ghost view = { λ a. record { said = a.said.items; faults = a.faults; puts_left = a.puts_left } };
 }
@@ -55,11 +55,7 @@ impl MemSink {
 }
 
 impl Sink for MemSink {
-    ghost told = { λ _. true };
-
-    ghost said = { λ sink. sink.said };
-
-    ghost faults = { λ sink. sink.faults };
+    ghost state = { λ sink. record { told = true; said = sink.said; faults = sink.faults } };
 
     /// Says the whole piece. It fails where it was set to, or where memory is wanting.
     fn put(&mut self, piece: &[u8]) -> Result<usize, Failed>

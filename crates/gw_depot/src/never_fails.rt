@@ -38,13 +38,7 @@ impl NeverFails {
 impl Depot for NeverFails {
     ghost use Rattle.gw_depot.specs.NeverFails.{reads_as};
 
-    ghost told = { λ _. false };
-
-    ghost files = { λ _ _. None };
-
-    ghost faults = { λ _. 0 };
-
-    ghost blame = { λ _. None };
+    ghost state = { λ _. record { told = false; files = λ _. None; faults = 0; blame = None } };
 
     fn read(&mut self, name: &str, at: u64, into: &mut [u8]) -> Result<usize, Failed>
         requires name { IsName name.now }

@@ -30,11 +30,7 @@ impl<'a, R: Print> OutSink<'a, R> {
 }
 
 impl<R: Print> Sink for OutSink<'_, R> {
-    ghost told = { λ _. false };
-
-    ghost said = { λ _. [] };
-
-    ghost faults = { λ sink. sink };
+    ghost state = { λ sink. record { told = false; said = []; faults = sink } };
 
     fn put(&mut self, piece: &[u8]) -> Result<usize, Failed> {
         match write_piece(&mut io::writer(self.rt), piece) {

@@ -1,7 +1,7 @@
 -- Why a command answers as it does.
 use Rattle.std.proofs.Common.{◌≡◌, ℕ, Bool, true, false, List, refl, subst, sym, inl, inr}
-use Rattle.gw_depot.specs.Fault.{Blame}
 use Rattle.gw_depot.specs.Files.{Files}
+use Rattle.gw_depot.specs.Outside.{DepotState, SinkState}
 use Rattle.gw_run.specs.declared.status.FileRole.TheVariants.{Say}
 use Rattle.gw_run.specs.declared.status.Status.{Status}
 use Rattle.gw_run.specs.declared.status.Status.TheVariants.{Ok, Accepted, Usage, ConfigRefused, LogRefused, Unbuilt, ReadFault, WriteFault, Memory, Limit}
@@ -27,33 +27,33 @@ summary_of P Memory done holds = let clash : false ≡ true = done in cc
 summary_of P (Limit which value) done holds = let clash : false ≡ true = done in cc
 
 -- what is answered of a status holds of it
-answers-of : (told : Bool) (before after : Files) (config report : List ℕ) (faults faults' : ℕ) (blame : Blame) (said said' : ℕ) (result : Status) →
-    (told ≡ true → IfDone result (Forwards before after config report)) → (told ≡ true → IsCause before config report result) →
-    (told ≡ true → LeavesFiles result before after config report) → IsFaultOf told before config report faults faults' blame said said' result →
-    Answers told before after config report faults faults' blame said said' result
-answers-of told before after config report faults faults' blame said said' result done cause files fault = record {
+answers-of : (old new : DepotState) (config report : List ℕ) (said said' : SinkState) (result : Status) →
+    (old.told ≡ true → IfDone result (Forwards old.files new.files config report)) → (old.told ≡ true → IsCause old.files config report result) →
+    (old.told ≡ true → LeavesFiles result old.files new.files config report) → IsFaultOf old new config report said said' result →
+    Answers old new config report said said' result
+answers-of old new config report said said' result done cause files fault = record {
   done = done;
   cause = cause;
-  exact = λ is. is_exact before after config report result (done is) (cause is) (files is);
-  complete = λ is. is_complete told before config report faults faults' blame said said' result (cause is) fault;
+  exact = λ is. is_exact old.files new.files config report result (done is) (cause is) (files is);
+  complete = λ is. is_complete old new config report said said' result (cause is) fault;
   files = files;
   fault = fault;
 }
 
 -- what was told of a status is answered for the status's reasons
-pub answers : (told : Bool) (before after : Files) (config report : List ℕ) (faults faults' : ℕ) (blame : Blame) (said said' : ℕ) (status result : Status) →
-    (told ≡ true → IfDone status (Forwards before after config report)) → (told ≡ true → IsCause before config report status) →
-    (told ≡ true → LeavesFiles status before after config report) → IsFault told before config report faults faults' blame status → AfterTelling status said said' result →
-    Answers told before after config report faults faults' blame said said' result
-answers told before after config report faults faults' blame said said' status result done cause files fault (inl same) =
-    subst (λ r. Answers told before after config report faults faults' blame said said' r) (sym same)
-    (answers-of told before after config report faults faults' blame said said' status done cause files (inl fault))
-answers told before after config report faults faults' blame said said' status result done cause files fault (inr (was, inl (same, rose))) =
-    subst (λ r. Answers told before after config report faults faults' blame said said' r) (sym same)
-    (answers-of told before after config report faults faults' blame said said' (WriteFault Say) (λ is. tt) (λ is. tt) (λ is. inr (refl, summary_of _ status was (done is))) (inr (refl, rose)))
-answers told before after config report faults faults' blame said said' status result done cause files fault (inr (was, inr same)) =
-    subst (λ r. Answers told before after config report faults faults' blame said said' r) (sym same)
-    (answers-of told before after config report faults faults' blame said said' Memory (λ is. tt) (λ is. tt) (λ is. inr (summary_of _ status was (done is))) (inl tt))
+pub answers : (old new : DepotState) (config report : List ℕ) (said said' : SinkState) (status result : Status) →
+    (old.told ≡ true → IfDone status (Forwards old.files new.files config report)) → (old.told ≡ true → IsCause old.files config report status) →
+    (old.told ≡ true → LeavesFiles status old.files new.files config report) → IsFault old.told old.files config report old.faults new.faults new.blame status → AfterTelling status said.faults said'.faults result →
+    Answers old new config report said said' result
+answers old new config report said said' status result done cause files fault (inl same) =
+    subst (λ r. Answers old new config report said said' r) (sym same)
+    (answers-of old new config report said said' status done cause files (inl fault))
+answers old new config report said said' status result done cause files fault (inr (was, inl (same, rose))) =
+    subst (λ r. Answers old new config report said said' r) (sym same)
+    (answers-of old new config report said said' (WriteFault Say) (λ is. tt) (λ is. tt) (λ is. inr (refl, summary_of _ status was (done is))) (inr (refl, rose)))
+answers old new config report said said' status result done cause files fault (inr (was, inr same)) =
+    subst (λ r. Answers old new config report said said' r) (sym same)
+    (answers-of old new config report said said' Memory (λ is. tt) (λ is. tt) (λ is. inr (summary_of _ status was (done is))) (inl tt))
 
 -- of a status that is answered, its name stands for the answer
 pub named-told : (told : Bool) (before : Files) (config report : List ℕ) (said said' : ℕ) (status result : Status) (name : List ℕ) →

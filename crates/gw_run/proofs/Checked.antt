@@ -1,7 +1,8 @@
 -- Why a check answers as it does.
-use Rattle.std.proofs.Common.{◌≡◌, ◌⊎◌, ℕ, Bool, true, false, None, List, refl, subst, sym, ap, inl, inr}
+use Rattle.std.proofs.Common.{◌≡◌, ◌⊎◌, ℕ, true, false, None, List, refl, subst, sym, ap, inl, inr}
 use Rattle.gw_depot.specs.Fault.{Blame}
 use Rattle.gw_depot.specs.Files.{Files}
+use Rattle.gw_depot.specs.Outside.{DepotState, SinkState}
 use Rattle.gw_run.specs.declared.status.FileRole.TheVariants.{Say}
 use Rattle.gw_run.specs.declared.status.Status.{Status}
 use Rattle.gw_run.specs.declared.status.Status.TheVariants.{Ok, Accepted, Usage, ConfigRefused, LogRefused, Unbuilt, ReadFault, WriteFault, Memory, Limit}
@@ -43,20 +44,20 @@ said_of before config status (inr short) there is = inr short
 said_of before config status (inl (found, finds, says)) there is = inl (subst (λ f. Says f status) (config-once before config None found there finds is) says)
 
 -- what is answered of a status holds of it
-answers-of : (told : Bool) (before after : Files) (config : List ℕ) (faults faults' : ℕ) (blame : Blame) (said said' : ℕ) (result : Status) →
-    after ≡ before → (told ≡ true → IsCheckCause before config result) → IsCheckFault config faults faults' blame said said' result →
-    AnswersCheck told before after config faults faults' blame said said' result
-answers-of told before after config faults faults' blame said said' result files cause fault = record {
+answers-of : (old new : DepotState) (config : List ℕ) (said said' : SinkState) (result : Status) →
+    new.files ≡ old.files → (old.told ≡ true → IsCheckCause old.files config result) → IsCheckFault config old.faults new.faults new.blame said.faults said'.faults result →
+    AnswersCheck old new config said said' result
+answers-of old new config said said' result files cause fault = record {
   cause = cause;
   exact = λ is.
-      let one = found_of before config faults faults' blame said said' result (cause is) fault in
+      let one = found_of old.files config old.faults new.faults new.blame said.faults said'.faults result (cause is) fault in
       record {
-        accepted = λ holds. elim (said_of before config result one (Good holds.0) holds.1) [
+        accepted = λ holds. elim (said_of old.files config result one (Good holds.0) holds.1) [
           | inl says ↦ elim says [ inl accepted ↦ inl accepted | inr unsaid ↦ inr (inl unsaid) ]
           | inr short ↦ inr (inr short)
         ];
-        refused = λ why holds. said_of before config result one (Bad why) holds;
-        limit = λ long. said_of before config result one Long long;
+        refused = λ why holds. said_of old.files config result one (Bad why) holds;
+        limit = λ long. said_of old.files config result one Long long;
       };
   files = files;
   fault = fault;
@@ -76,15 +77,15 @@ accepted_of before config Memory done cause = let clash : false ≡ true = done 
 accepted_of before config (Limit which value) done cause = let clash : false ≡ true = done in cc
 
 -- what was told of a status is answered for the status's reasons
-pub answers_check : (told : Bool) (before after : Files) (config : List ℕ) (faults faults' : ℕ) (blame : Blame) (said said' : ℕ) (status result : Status) →
-    after ≡ before → (told ≡ true → IsCheckCause before config status) → IsCheckFault config faults faults' blame said said' status → AfterTelling status said said' result →
-    AnswersCheck told before after config faults faults' blame said said' result
-answers_check told before after config faults faults' blame said said' status result files cause fault (inl same) =
-    subst (λ r. AnswersCheck told before after config faults faults' blame said said' r) (sym same)
-    (answers-of told before after config faults faults' blame said said' status files cause fault)
-answers_check told before after config faults faults' blame said said' status result files cause fault (inr (was, inl (same, rose))) =
-    subst (λ r. AnswersCheck told before after config faults faults' blame said said' r) (sym same)
-    (answers-of told before after config faults faults' blame said said' (WriteFault Say) files (λ is. accepted_of before config status was (cause is)) (refl, rose))
-answers_check told before after config faults faults' blame said said' status result files cause fault (inr (was, inr same)) =
-    subst (λ r. AnswersCheck told before after config faults faults' blame said said' r) (sym same)
-    (answers-of told before after config faults faults' blame said said' Memory files (λ is. tt) tt)
+pub answers_check : (old new : DepotState) (config : List ℕ) (said said' : SinkState) (status result : Status) →
+    new.files ≡ old.files → (old.told ≡ true → IsCheckCause old.files config status) → IsCheckFault config old.faults new.faults new.blame said.faults said'.faults status → AfterTelling status said.faults said'.faults result →
+    AnswersCheck old new config said said' result
+answers_check old new config said said' status result files cause fault (inl same) =
+    subst (λ r. AnswersCheck old new config said said' r) (sym same)
+    (answers-of old new config said said' status files cause fault)
+answers_check old new config said said' status result files cause fault (inr (was, inl (same, rose))) =
+    subst (λ r. AnswersCheck old new config said said' r) (sym same)
+    (answers-of old new config said said' (WriteFault Say) files (λ is. accepted_of old.files config status was (cause is)) (refl, rose))
+answers_check old new config said said' status result files cause fault (inr (was, inr same)) =
+    subst (λ r. AnswersCheck old new config said said' r) (sym same)
+    (answers-of old new config said said' Memory files (λ is. tt) tt)

@@ -3,6 +3,7 @@ use Rattle.std.proofs.Common.{◌≡◌, ◌≢◌, ℕ, ◌-◌, ◌≤◌, Boo
 use Rattle.gw_config.specs.Config.{Configuration}
 use Rattle.gw_depot.specs.Fault.{Blame, Rose}
 use Rattle.gw_depot.specs.Files.{Files}
+use Rattle.gw_depot.specs.Outside.{DepotState}
 use Rattle.gw_run.specs.declared.config.ConfigStop.{ConfigStop}
 use Rattle.gw_run.specs.declared.config.ConfigStop.TheVariants.{Fault as ReadFails, Memory as NoMemory, TooLong, Refused}
 use Rattle.candump_log.specs.declared.log.LineRefusal.{LineRefusal}
@@ -96,27 +97,27 @@ fault-earlier told files config report earlier before now blame (Limit which val
 
 -- ---- a configuration that isn't used
 
-pub stopped : (told : Bool) (before after : Files) (config report : List ℕ) (faults faults' : ℕ) (blame : Blame) (stop : ConfigStop) (status : Status) (name : List ℕ) → status ≡ stop_status stop → after ≡ before →
-    (told ≡ true → StopsConfig before config (Some report) stop) → FaultsOnConfig config faults faults' blame stop → IsDecided told before after config report faults faults' blame status name
-stopped told before after config report faults faults' blame ReadFails status name is same stops fails =
-    subst (λ s. IsDecided told before after config report faults faults' blame s name) (sym is)
+pub stopped : (old new : DepotState) (config report : List ℕ) (stop : ConfigStop) (status : Status) (name : List ℕ) → status ≡ stop_status stop → new.files ≡ old.files →
+    (old.told ≡ true → StopsConfig old.files config (Some report) stop) → FaultsOnConfig config old.faults new.faults new.blame stop → IsDecided old new config report status name
+stopped old new config report ReadFails status name is same stops fails =
+    subst (λ s. IsDecided old new config report s name) (sym is)
     (record { done = λ t. tt; shaped = λ e. cc; cause = λ t. tt; files = λ t. same; fault = inl (refl, fails.0, fails.1); named = tt })
-stopped told before after config report faults faults' blame NoMemory status name is same stops fails =
-    subst (λ s. IsDecided told before after config report faults faults' blame s name) (sym is)
+stopped old new config report NoMemory status name is same stops fails =
+    subst (λ s. IsDecided old new config report s name) (sym is)
     (record { done = λ t. tt; shaped = λ e. cc; cause = λ t. tt; files = λ t. inl same; fault = tt; named = tt })
-stopped told before after config report faults faults' blame TooLong status name is same stops fails =
-    subst (λ s. IsDecided told before after config report faults faults' blame s name) (sym is)
+stopped old new config report TooLong status name is same stops fails =
+    subst (λ s. IsDecided old new config report s name) (sym is)
     (record { done = λ t. tt; shaped = λ e. cc; cause = λ t. (refl, stops t); files = λ t. same; fault = tt; named = tt })
-stopped told before after config report faults faults' blame (Refused cause) status name is same stops fails =
-    subst (λ s. IsDecided told before after config report faults faults' blame s name) (sym is)
+stopped old new config report (Refused cause) status name is same stops fails =
+    subst (λ s. IsDecided old new config report s name) (sym is)
     (record { done = λ t. tt; shaped = λ e. cc; cause = stops; files = λ t. same; fault = tt; named = tt })
 
 -- ---- a configuration that isn't built
 
-pub not_built : (told : Bool) (before after : Files) (config report : List ℕ) (faults faults' : ℕ) (blame : Blame) (c : Configuration) (name : List ℕ) → after ≡ before →
-    (told ≡ true → ReadsConfig before config (Some report) c) → ((setup : Setup) → ¬ IsBuiltConfig c setup) →
-    IsDecided told before after config report faults faults' blame (Unbuilt WholeConfiguration) name
-not_built told before after config report faults faults' blame c name same reads not =
+pub not_built : (old new : DepotState) (config report : List ℕ) (c : Configuration) (name : List ℕ) → new.files ≡ old.files →
+    (old.told ≡ true → ReadsConfig old.files config (Some report) c) → ((setup : Setup) → ¬ IsBuiltConfig c setup) →
+    IsDecided old new config report (Unbuilt WholeConfiguration) name
+not_built old new config report c name same reads not =
     record { done = λ t. tt; shaped = λ e. cc; cause = λ t. (c, reads t, not); files = λ t. same; fault = tt; named = tt }
 
 -- ---- what is carried out
@@ -138,17 +139,17 @@ named-in told before config report setup (Limit which value) name is named = tt
 pub configured : (told : Bool) (before : Files) (config report : List ℕ) (c : Configuration) (setup : Setup) → (told ≡ true → ReadsConfig before config (Some report) c) → IsBuiltConfig c setup → IsSetup told before config report setup
 configured told before config report c setup reads built t = record { c = c; reads = reads t; built = built }
 
-pub carried : (told : Bool) (before after : Files) (config report : List ℕ) (faults mid faults' : ℕ) (blame : Blame) (setup : Setup) (status : Status) (name : List ℕ) → IsSetup told before config report setup → faults ≤ mid →
-    (told ≡ true → IsConfigured before config report setup → IfDone status (Forwards before after config report)) → status ≢ Usage →
-    (told ≡ true → IsConfigured before config report setup → IsCause before config report status) →
-    (told ≡ true → IsConfigured before config report setup → LeavesFiles status before after config report) →
-    (IsSetup told before config report setup → IsFault told before config report mid faults' blame status) → IsNameIn setup status name →
-    IsDecided told before after config report faults faults' blame status name
-carried told before after config report faults mid faults' blame setup status name is later done shaped cause files fault named = record {
+pub carried : (old new : DepotState) (config report : List ℕ) (mid : ℕ) (setup : Setup) (status : Status) (name : List ℕ) → IsSetup old.told old.files config report setup → old.faults ≤ mid →
+    (old.told ≡ true → IsConfigured old.files config report setup → IfDone status (Forwards old.files new.files config report)) → status ≢ Usage →
+    (old.told ≡ true → IsConfigured old.files config report setup → IsCause old.files config report status) →
+    (old.told ≡ true → IsConfigured old.files config report setup → LeavesFiles status old.files new.files config report) →
+    (IsSetup old.told old.files config report setup → IsFault old.told old.files config report mid new.faults new.blame status) → IsNameIn setup status name →
+    IsDecided old new config report status name
+carried old new config report mid setup status name is later done shaped cause files fault named = record {
   done = λ t. done t (is t);
   shaped = shaped;
   cause = λ t. cause t (is t);
   files = λ t. files t (is t);
-  fault = fault-earlier told before config report faults mid faults' blame status later (fault is);
-  named = named-in told before config report setup status name is named;
+  fault = fault-earlier old.told old.files config report old.faults mid new.faults new.blame status later (fault is);
+  named = named-in old.told old.files config report setup status name is named;
 }

@@ -4,6 +4,7 @@ use Rattle.candump_line.specs.declared.fault.LineFault.{LineFault}
 use Rattle.gw_base.specs.declared.numbers.BusNo.{BusNo}
 use Rattle.gw_depot.specs.Fault.{Blame, Rose}
 use Rattle.gw_depot.specs.Files.{Files}
+use Rattle.gw_depot.specs.Outside.{DepotState, SinkState}
 use Rattle.candump_log.specs.declared.log.LineRefusal.{LineRefusal}
 use Rattle.candump_log.specs.declared.log.LineRefusal.TheVariants.{Unsupported as LineNotBuilt, Bad as BadLine}
 use Rattle.candump_log.specs.declared.log.Stamped.{Stamped}
@@ -298,24 +299,24 @@ write-rose setup report faults faults' blame (Out bus) failed = failed.0
 write-rose setup report faults faults' blame Report failed = failed.0
 write-rose setup report faults faults' blame Say failed = absurd failed
 
-pub is_complete : (told : Bool) (before : Files) (config report : List ℕ) (faults faults' : ℕ) (blame : Blame) (said said' : ℕ) (result : Status) →
-    IsCause before config report result → IsFaultOf told before config report faults faults' blame said said' result → IsComplete before config report faults faults' said said' result
-is_complete told before config report faults faults' blame said said' (Ok summary) cause fault setup source destination start built no_fault all_said = inl refl
-is_complete told before config report faults faults' blame said said' Accepted cause fault setup source destination start built no_fault all_said = absurd cause
-is_complete told before config report faults faults' blame said said' (ConfigRefused why) cause fault setup source destination start built no_fault all_said =
-    absurd (not_refused before config report setup source destination start (ConfigRefused why) built (Bad why, cause, refl) (λ late. late) (λ e. cc))
-is_complete told before config report faults faults' blame said said' Usage cause fault setup source destination start built no_fault all_said = absurd cause
-is_complete told before config report faults faults' blame said said' (LogRefused bus number why) cause fault setup source destination start built no_fault all_said =
-    absurd (not_refused before config report setup source destination start (LogRefused bus number why) built (log-decides before config report bus number why cause) (λ late. late) (λ e. cc))
-is_complete told before config report faults faults' blame said said' (Unbuilt form) cause fault setup source destination start built no_fault all_said =
-    absurd (not_refused before config report setup source destination start (Unbuilt form) built (unbuilt-decides before config report form cause) (λ late. late) (λ e. cc))
-is_complete told before config report faults faults' blame said said' (ReadFault role) cause (inl (inl failed)) setup source destination start built no_fault all_said = absurd (no_fault failed.1)
-is_complete told before config report faults faults' blame said said' (ReadFault role) cause (inl (inr (of, is, failed))) setup source destination start built no_fault all_said =
-    absurd (no_fault (read-rose of faults faults' blame role failed))
-is_complete told before config report faults faults' blame said said' (ReadFault role) cause (inr unsaid) setup source destination start built no_fault all_said = absurd (all_said unsaid.1)
-is_complete told before config report faults faults' blame said said' (WriteFault role) cause (inl (of, is, failed)) setup source destination start built no_fault all_said =
-    absurd (no_fault (write-rose of report faults faults' blame role failed))
-is_complete told before config report faults faults' blame said said' (WriteFault role) cause (inr unsaid) setup source destination start built no_fault all_said = absurd (all_said unsaid.1)
-is_complete told before config report faults faults' blame said said' Memory cause fault setup source destination start built no_fault all_said = inr refl
-is_complete told before config report faults faults' blame said said' (Limit which value) cause fault setup source destination start built no_fault all_said =
-    absurd (not_refused before config report setup source destination start (Limit which value) built (limit-decides before config report which value cause) (λ late. late) (λ e. cc))
+pub is_complete : (old new : DepotState) (config report : List ℕ) (said said' : SinkState) (result : Status) →
+    IsCause old.files config report result → IsFaultOf old new config report said said' result → IsComplete old new config report said said' result
+is_complete old new config report said said' (Ok summary) cause fault setup source destination start built no_fault all_said = inl refl
+is_complete old new config report said said' Accepted cause fault setup source destination start built no_fault all_said = absurd cause
+is_complete old new config report said said' (ConfigRefused why) cause fault setup source destination start built no_fault all_said =
+    absurd (not_refused old.files config report setup source destination start (ConfigRefused why) built (Bad why, cause, refl) (λ late. late) (λ e. cc))
+is_complete old new config report said said' Usage cause fault setup source destination start built no_fault all_said = absurd cause
+is_complete old new config report said said' (LogRefused bus number why) cause fault setup source destination start built no_fault all_said =
+    absurd (not_refused old.files config report setup source destination start (LogRefused bus number why) built (log-decides old.files config report bus number why cause) (λ late. late) (λ e. cc))
+is_complete old new config report said said' (Unbuilt form) cause fault setup source destination start built no_fault all_said =
+    absurd (not_refused old.files config report setup source destination start (Unbuilt form) built (unbuilt-decides old.files config report form cause) (λ late. late) (λ e. cc))
+is_complete old new config report said said' (ReadFault role) cause (inl (inl failed)) setup source destination start built no_fault all_said = absurd (no_fault failed.1)
+is_complete old new config report said said' (ReadFault role) cause (inl (inr (of, is, failed))) setup source destination start built no_fault all_said =
+    absurd (no_fault (read-rose of old.faults new.faults new.blame role failed))
+is_complete old new config report said said' (ReadFault role) cause (inr unsaid) setup source destination start built no_fault all_said = absurd (all_said unsaid.1)
+is_complete old new config report said said' (WriteFault role) cause (inl (of, is, failed)) setup source destination start built no_fault all_said =
+    absurd (no_fault (write-rose of report old.faults new.faults new.blame role failed))
+is_complete old new config report said said' (WriteFault role) cause (inr unsaid) setup source destination start built no_fault all_said = absurd (all_said unsaid.1)
+is_complete old new config report said said' Memory cause fault setup source destination start built no_fault all_said = inr refl
+is_complete old new config report said said' (Limit which value) cause fault setup source destination start built no_fault all_said =
+    absurd (not_refused old.files config report setup source destination start (Limit which value) built (limit-decides old.files config report which value cause) (λ late. late) (λ e. cc))

@@ -1,9 +1,10 @@
 -- What the check of a configuration answers, and why.
-use Rattle.std.specs.Prelude.{◌≡◌, ◌⊎◌, ℕ, Bool, true, List, None, Some}
+use Rattle.std.specs.Prelude.{◌≡◌, ◌⊎◌, ℕ, true, List, None, Some}
 use Rattle.gw_config.specs.Config.{Configuration}
 use Rattle.gw_depot.specs.declared.outside.CallKind.TheVariants.{Read}
 use Rattle.gw_depot.specs.Fault.{Blame, Rose}
 use Rattle.gw_depot.specs.Files.{Files}
+use Rattle.gw_depot.specs.Outside.{DepotState, SinkState}
 use Rattle.gw_run.specs.declared.status.ConfigCause.{ConfigCause}
 use Rattle.gw_run.specs.declared.status.FileRole.TheVariants.{Config, Say}
 use Rattle.gw_run.specs.declared.status.Status.{Status}
@@ -52,8 +53,8 @@ pub record IsCheckExact (before : Files) (config : List ℕ) (result : Status) :
   pub limit : IsTooLong before config 65_536 → (result ≡ Limit ConfigBytes 65_537) ⊎ IsCutShort result
 
 -- what the check of a configuration answers and why; it changes no file
-pub record AnswersCheck (told : Bool) (before after : Files) (config : List ℕ) (faults faults' : ℕ) (blame : Blame) (said said' : ℕ) (result : Status) : Type 0 where
-  pub cause : told ≡ true → IsCheckCause before config result
-  pub exact : told ≡ true → IsCheckExact before config result
-  pub files : after ≡ before
-  pub fault : IsCheckFault config faults faults' blame said said' result
+pub record AnswersCheck (old new : DepotState) (config : List ℕ) (said said' : SinkState) (result : Status) : Type 0 where
+  pub cause : old.told ≡ true → IsCheckCause old.files config result
+  pub exact : old.told ≡ true → IsCheckExact old.files config result
+  pub files : new.files ≡ old.files
+  pub fault : IsCheckFault config old.faults new.faults new.blame said.faults said'.faults result

@@ -1,7 +1,6 @@
 -- How a run ended, and what was told of it.
-use Rattle.std.specs.Prelude.{◌≡◌, ◌≢◌, ℕ, Bool, true, List}
-use Rattle.gw_depot.specs.Fault.{Blame}
-use Rattle.gw_depot.specs.Files.{Files}
+use Rattle.std.specs.Prelude.{◌≡◌, ◌≢◌, ℕ, true, List}
+use Rattle.gw_depot.specs.Outside.{DepotState, SinkState}
 use Rattle.gw_run.specs.declared.status.Form.TheVariants.{Configuration, Line}
 use Rattle.gw_run.specs.declared.status.Status.{Status}
 use Rattle.gw_run.specs.declared.status.Status.TheVariants.{Ok, Accepted, Usage, ConfigRefused, LogRefused, Unbuilt, ReadFault, WriteFault, Memory, Limit}
@@ -12,21 +11,21 @@ use Rattle.gw_run.specs.Say.{AfterTelling, TellsLine}
 use Rattle.gw_run.specs.Setup.{Setup}
 
 -- what the status of a run says of the depot, and whose name is said with it
-pub record IsDecided (told : Bool) (before after : Files) (config report : List ℕ) (faults faults' : ℕ) (blame : Blame) (status : Status) (name : List ℕ) : Type 0 where
-  pub done : told ≡ true → IfDone status (Forwards before after config report)
+pub record IsDecided (old new : DepotState) (config report : List ℕ) (status : Status) (name : List ℕ) : Type 0 where
+  pub done : old.told ≡ true → IfDone status (Forwards old.files new.files config report)
   pub shaped : status ≢ Usage
-  pub cause : told ≡ true → IsCause before config report status
-  pub files : told ≡ true → LeavesFiles status before after config report
-  pub fault : IsFault told before config report faults faults' blame status
-  pub named : IsNamed told before config report status name
+  pub cause : old.told ≡ true → IsCause old.files config report status
+  pub files : old.told ≡ true → LeavesFiles status old.files new.files config report
+  pub fault : IsFault old.told old.files config report old.faults new.faults new.blame status
+  pub named : IsNamed old.told old.files config report status name
 
 -- a run ended so, and this was told of it
-pub record IsToldOf (told : Bool) (before after : Files) (config report : List ℕ) (faults faults' : ℕ) (blame : Blame) (told_said : Bool) (old new : List ℕ) (said said' : ℕ) (result : Status) : Type 0 where
+pub record IsToldOf (old new : DepotState) (config report : List ℕ) (said said' : SinkState) (result : Status) : Type 0 where
   pub status : Status
   pub name : List ℕ
-  pub decided : IsDecided told before after config report faults faults' blame status name
-  pub stands : AfterTelling status said said' result
-  pub line : told_said ≡ true → TellsLine name status old new said said' result
+  pub decided : IsDecided old new config report status name
+  pub stands : AfterTelling status said.faults said'.faults result
+  pub line : said.told ≡ true → TellsLine name status said said' result
 
 -- a name that goes with a status: of a line that isn't taken its bus's
 abbrev pub IsNameIn : Setup → Status → (name : List ℕ) → Type 0

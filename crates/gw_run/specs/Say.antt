@@ -1,6 +1,7 @@
 -- What a sink was told of a status (this project's own).
 use Rattle.std.specs.Prelude.{◌≡◌, ◌⊎◌, ℕ, true, List, [], ◌∷◌, ◌++◌, take, Result, OnOk}
 use Rattle.gw_depot.specs.Fault.{Rose}
+use Rattle.gw_depot.specs.Outside.{SinkState}
 use Rattle.gw_run.specs.declared.status.FileRole.TheVariants.{Say}
 use Rattle.gw_run.specs.declared.status.Status.{Status}
 use Rattle.gw_run.specs.declared.status.Status.TheVariants.{WriteFault, Memory}
@@ -22,12 +23,13 @@ AfterTelling status before now result =
 
 -- the status's line was said, and after Ok it always was; or nothing, for want of memory; or a beginning of it, where a
 -- put failed
-pub record TellsLine (name : List ℕ) (status : Status) (old new : List ℕ) (before now : ℕ) (result : Status) : Type 0 where
-  pub done : is_done result ≡ true → new ≡ old ++ line_of name status
-  pub said : (new ≡ old ++ line_of name status) ⊎ ((new ≡ old) ⊎ (Rose before now × ((count : ℕ) × (new ≡ old ++ take count (line_of name status)))))
+pub record TellsLine (name : List ℕ) (status : Status) (old new : SinkState) (result : Status) : Type 0 where
+  pub done : is_done result ≡ true → new.said ≡ old.said ++ line_of name status
+  pub said : (new.said ≡ old.said ++ line_of name status)
+      ⊎ ((new.said ≡ old.said) ⊎ (Rose old.faults new.faults × ((count : ℕ) × (new.said ≡ old.said ++ take count (line_of name status)))))
 
 -- what was told of the answer, or of the Ok that couldn't be said
-pub record SaysAnswer (name old new : List ℕ) (before now : ℕ) (result : Status) : Type 0 where
+pub record TellsAnswer (name : List ℕ) (old new : SinkState) (result : Status) : Type 0 where
   pub status : Status
-  pub stands : AfterTelling status before now result
-  pub line : TellsLine name status old new before now result
+  pub stands : AfterTelling status old.faults new.faults result
+  pub line : TellsLine name status old new result

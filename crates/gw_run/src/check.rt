@@ -12,9 +12,9 @@ use std::alloc::Global;
 pub(crate) fn check<D: Depot>(alloc: Global, config: &str, depot: &mut D) -> Status
     requires { IsName config.now }
     ensures shaped { result ≢ Status.Usage }
-    ensures files { D.files depot.new ≡ D.files depot.old }
-    ensures cause { D.told depot.old ≡ true → IsCheckCause (D.files depot.old) config.now result }
-    ensures fault { (said said' : ℕ) → IsCheckFault config.now (D.faults depot.old) (D.faults depot.new) (D.blame depot.new) said said' result }
+    ensures files { (D.state depot.new).files ≡ (D.state depot.old).files }
+    ensures cause { (D.state depot.old).told ≡ true → IsCheckCause (D.state depot.old).files config.now result }
+    ensures fault { (said said' : ℕ) → IsCheckFault config.now (D.state depot.old).faults (D.state depot.new).faults (D.state depot.new).blame said said' result }
 {
     let files = NamedFiles {
         config,

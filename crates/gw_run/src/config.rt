@@ -111,13 +111,13 @@ pub(crate) fn read_checked<D: Depot>(
     depot: &mut D,
 ) -> Result<Checked, ConfigStop>
     requires { IsName files.now.config.now }
-    ensures told { D.told depot.new ≡ D.told depot.old }
-    ensures files { D.files depot.new ≡ D.files depot.old }
-    ensures read { D.told depot.old ≡ true → IfOk result (ReadsConfig (D.files depot.old) files.now.config.now (option_map (λ r. r.now) files.now.report)) }
+    ensures told { (D.state depot.new).told ≡ (D.state depot.old).told }
+    ensures files { (D.state depot.new).files ≡ (D.state depot.old).files }
+    ensures read { (D.state depot.old).told ≡ true → IfOk result (ReadsConfig (D.state depot.old).files files.now.config.now (option_map (λ r. r.now) files.now.report)) }
     ensures apart { IfOk result (λ checked. files_repeat files.now.config.now (option_map (λ r. r.now) files.now.report) checked ≡ None) }
-    ensures stopped { D.told depot.old ≡ true → IfErr result (StopsConfig (D.files depot.old) files.now.config.now (option_map (λ r. r.now) files.now.report)) }
-    ensures later { D.faults depot.old ≤ D.faults depot.new }
-    ensures fault { IfErr result (FaultsOnConfig files.now.config.now (D.faults depot.old) (D.faults depot.new) (D.blame depot.new)) }
+    ensures stopped { (D.state depot.old).told ≡ true → IfErr result (StopsConfig (D.state depot.old).files files.now.config.now (option_map (λ r. r.now) files.now.report)) }
+    ensures later { (D.state depot.old).faults ≤ (D.state depot.new).faults }
+    ensures fault { IfErr result (FaultsOnConfig files.now.config.now (D.state depot.old).faults (D.state depot.new).faults (D.state depot.new).blame) }
 {
     let text = match read_whole(alloc, depot, files.config, MOST_CONFIG_BYTES) {
         Ok(text) => text,

@@ -1,7 +1,7 @@
 //! Whole files over a depot that reads and appends in pieces.
 ghost use Rattle.std.specs.Prelude.{◌≡◌, ◌<◌, ◌≤◌, true, IfErr, IfOk, IsSome, MatchBool, Some};
 ghost use Rattle.gw_depot.specs.declared.outside.CallKind.TheVariants.{Read, Append};
-ghost use Rattle.gw_depot.specs.Fault.{HasCause};
+ghost use Rattle.gw_depot.specs.Outside.{HasCause};
 ghost use Rattle.gw_depot.specs.Files.{IsName};
 ghost use Rattle.gw_run.specs.Whole.{AppendsAll, FaultsOn, HoldsShort, StopsReading};
 
@@ -36,12 +36,12 @@ pub(crate) fn read_whole<D: Depot>(
     most: usize,
 ) -> Result<Bytes, ReadStop>
     requires { IsName name.now }
-    ensures told { D.told depot.new ≡ D.told depot.old }
-    ensures files { D.files depot.new ≡ D.files depot.old }
-    ensures whole { D.told depot.old ≡ true → IfOk result (HoldsShort (D.files depot.old) name.now most) }
-    ensures stopped { D.told depot.old ≡ true → IfErr result (StopsReading (D.files depot.old) name.now most) }
-    ensures later { D.faults depot.old ≤ D.faults depot.new }
-    ensures fault { IfErr result (FaultsOn name.now (D.faults depot.old) (D.faults depot.new) (D.blame depot.new)) }
+    ensures told { (D.state depot.new).told ≡ (D.state depot.old).told }
+    ensures files { (D.state depot.new).files ≡ (D.state depot.old).files }
+    ensures whole { (D.state depot.old).told ≡ true → IfOk result (HoldsShort (D.state depot.old).files name.now most) }
+    ensures stopped { (D.state depot.old).told ≡ true → IfErr result (StopsReading (D.state depot.old).files name.now most) }
+    ensures later { (D.state depot.old).faults ≤ (D.state depot.new).faults }
+    ensures fault { IfErr result (FaultsOn name.now (D.state depot.old).faults (D.state depot.new).faults (D.state depot.new).blame) }
 {
     let mut piece = [0u8; PIECE];
     let mut bytes = Bytes::new(alloc);
@@ -65,10 +65,10 @@ pub(crate) fn read_whole<D: Depot>(
 /// Appends all the bytes to a file that is there. After a fault some of them were appended.
 pub(crate) fn append_all<D: Depot>(depot: &mut D, name: &str, bytes: &[u8]) -> Result<(), Failed>
     requires name { IsName name.now }
-    requires there { D.told depot.old ≡ true → IsSome (D.files depot.old name.now) }
-    ensures told { D.told depot.new ≡ D.told depot.old }
-    ensures appended { D.told depot.old ≡ true → AppendsAll (D.files depot.old) (D.files depot.new) name.now bytes.now result }
-    ensures cause { HasCause Append name.now (D.faults depot.old) (D.faults depot.new) (D.blame depot.old) (D.blame depot.new) result }
+    requires there { (D.state depot.old).told ≡ true → IsSome ((D.state depot.old).files name.now) }
+    ensures told { (D.state depot.new).told ≡ (D.state depot.old).told }
+    ensures appended { (D.state depot.old).told ≡ true → AppendsAll (D.state depot.old).files (D.state depot.new).files name.now bytes.now result }
+    ensures cause { HasCause Append name.now (D.state depot.old) (D.state depot.new) result }
 {
     let mut done = 0;
     while done < bytes.len() {

@@ -51,11 +51,11 @@ fn carry_out<D: Depot>(alloc: Global, setup: &Setup<'_>, report: &str, depot: &m
     requires name { IsName report.now }
     requires source { report.now ≢ setup.now.source.out }
     requires destination { report.now ≢ setup.now.destination.out }
-    ensures done { (config : List ℕ) → D.told depot.old ≡ true → IsConfigured (D.files depot.old) config report.now setup.now → IfDone result (Forwards (D.files depot.old) (D.files depot.new) config report.now) }
+    ensures done { (config : List ℕ) → (D.state depot.old).told ≡ true → IsConfigured (D.state depot.old).files config report.now setup.now → IfDone result (Forwards (D.state depot.old).files (D.state depot.new).files config report.now) }
     ensures shaped { result ≢ Status.Usage }
-    ensures cause { (config : List ℕ) → D.told depot.old ≡ true → IsConfigured (D.files depot.old) config report.now setup.now → IsCause (D.files depot.old) config report.now result }
-    ensures files { (config : List ℕ) → D.told depot.old ≡ true → IsConfigured (D.files depot.old) config report.now setup.now → LeavesFiles result (D.files depot.old) (D.files depot.new) config report.now }
-    ensures fault { (config : List ℕ) → IsSetup (D.told depot.old) (D.files depot.old) config report.now setup.now → IsFault (D.told depot.old) (D.files depot.old) config report.now (D.faults depot.old) (D.faults depot.new) (D.blame depot.new) result }
+    ensures cause { (config : List ℕ) → (D.state depot.old).told ≡ true → IsConfigured (D.state depot.old).files config report.now setup.now → IsCause (D.state depot.old).files config report.now result }
+    ensures files { (config : List ℕ) → (D.state depot.old).told ≡ true → IsConfigured (D.state depot.old).files config report.now setup.now → LeavesFiles result (D.state depot.old).files (D.state depot.new).files config report.now }
+    ensures fault { (config : List ℕ) → IsSetup (D.state depot.old).told (D.state depot.old).files config report.now setup.now → IsFault (D.state depot.old).told (D.state depot.old).files config report.now (D.state depot.old).faults (D.state depot.new).faults (D.state depot.new).blame result }
 {
     let source = match read_log(alloc, depot, setup.source(), MOST_LINES) {
         Ok(source) => source,
@@ -122,8 +122,8 @@ pub(crate) fn forward<D: Depot, K: Sink>(
     say: &mut K,
 ) -> Status
     requires { IsName files.now.config.now × IsName files.now.report.now }
-    ensures told { K.told say.new ≡ K.told say.old }
-    ensures answer { IsToldOf (D.told depot.old) (D.files depot.old) (D.files depot.new) files.now.config.now files.now.report.now (D.faults depot.old) (D.faults depot.new) (D.blame depot.new) (K.told say.old) (K.said say.old) (K.said say.new) (K.faults say.old) (K.faults say.new) result }
+    ensures told { (K.state say.new).told ≡ (K.state say.old).told }
+    ensures answer { IsToldOf (D.state depot.old) (D.state depot.new) files.now.config.now files.now.report.now (K.state say.old) (K.state say.new) result }
 {
     let named = NamedFiles {
         config: files.config,

@@ -15,12 +15,12 @@ fn write_outputs<D: Depot>(
     controls: &[u8],
     frames: &[u8],
 ) -> Result<(), FileRole>
-    ensures told { D.told depot.new ≡ D.told depot.old }
-    ensures made { D.told depot.old ≡ true → OnOk result (HasOutputs (D.files depot.old) (D.files depot.new) setup.now controls.now frames.now) }
-    ensures begun { D.told depot.old ≡ true → OnErr result (OutputsBegun (D.files depot.old) (D.files depot.new) setup.now controls.now frames.now) }
+    ensures told { (D.state depot.new).told ≡ (D.state depot.old).told }
+    ensures made { (D.state depot.old).told ≡ true → OnOk result (HasOutputs (D.state depot.old).files (D.state depot.new).files setup.now controls.now frames.now) }
+    ensures begun { (D.state depot.old).told ≡ true → OnErr result (OutputsBegun (D.state depot.old).files (D.state depot.new).files setup.now controls.now frames.now) }
     ensures file { IfErr result (λ role. role ≢ FileRole.Say) }
-    ensures later { D.faults depot.old ≤ D.faults depot.new }
-    ensures cause { IfErr result (λ role. (report : List ℕ) → WriteFailed setup.now report (D.faults depot.old) (D.faults depot.new) (D.blame depot.new) role) }
+    ensures later { (D.state depot.old).faults ≤ (D.state depot.new).faults }
+    ensures cause { IfErr result (λ role. (report : List ℕ) → WriteFailed setup.now report (D.state depot.old).faults (D.state depot.new).faults (D.state depot.new).blame role) }
 {
     let source = setup.source().out();
     let destination = setup.destination().out();
@@ -51,12 +51,12 @@ pub(crate) fn write_results<D: Depot>(
     requires name { IsName report.now }
     requires source { report.now ≢ setup.now.source.out }
     requires destination { report.now ≢ setup.now.destination.out }
-    ensures told { D.told depot.new ≡ D.told depot.old }
-    ensures results { D.told depot.old ≡ true → OnOk result (HasResults (D.files depot.old) (D.files depot.new) setup.now controls.now frames.now report.now text.now) }
+    ensures told { (D.state depot.new).told ≡ (D.state depot.old).told }
+    ensures results { (D.state depot.old).told ≡ true → OnOk result (HasResults (D.state depot.old).files (D.state depot.new).files setup.now controls.now frames.now report.now text.now) }
     ensures file { IfErr result (λ role. role ≢ FileRole.Say) }
-    ensures begun { D.told depot.old ≡ true → OnErr result (HasBegun (D.files depot.old) (D.files depot.new) setup.now controls.now frames.now report.now text.now) }
-    ensures later { D.faults depot.old ≤ D.faults depot.new }
-    ensures cause { IfErr result (WriteFailed setup.now report.now (D.faults depot.old) (D.faults depot.new) (D.blame depot.new)) }
+    ensures begun { (D.state depot.old).told ≡ true → OnErr result (HasBegun (D.state depot.old).files (D.state depot.new).files setup.now controls.now frames.now report.now text.now) }
+    ensures later { (D.state depot.old).faults ≤ (D.state depot.new).faults }
+    ensures cause { IfErr result (WriteFailed setup.now report.now (D.state depot.old).faults (D.state depot.new).faults (D.state depot.new).blame) }
 {
     if let Err(role) = write_outputs(depot, setup, controls, frames) {
         return Err(role);

@@ -10,9 +10,9 @@ use std::alloc::Global;
 
 /// Says all the bytes. After a fault some of them were said.
 pub(crate) fn say_all<K: Sink>(say: &mut K, bytes: &[u8]) -> Result<(), Failed>
-    ensures told { K.told say.new ≡ K.told say.old }
-    ensures said { K.told say.old ≡ true → SaysAll (K.said say.old) (K.said say.new) bytes.now result }
-    ensures cause { HasCount (K.faults say.old) (K.faults say.new) result }
+    ensures told { (K.state say.new).told ≡ (K.state say.old).told }
+    ensures said { (K.state say.old).told ≡ true → SaysAll (K.state say.old).said (K.state say.new).said bytes.now result }
+    ensures cause { HasCount (K.state say.old).faults (K.state say.new).faults result }
 {
     let mut done = 0;
     while done < bytes.len() {
@@ -31,9 +31,9 @@ fn unless_done(status: Status, unsaid: Status) -> Status
 /// Says the status's text, with the name of the bus that it speaks of, and a line feed. An `Ok` that can't be said becomes a fault, or `Memory` where the text
 /// finds no memory; every other status stays.
 pub(crate) fn tell<K: Sink>(alloc: Global, status: Status, name: &str, say: &mut K) -> Status
-    ensures told { K.told say.new ≡ K.told say.old }
-    ensures answer { AfterTelling status (K.faults say.old) (K.faults say.new) result }
-    ensures said { K.told say.old ≡ true → TellsLine name.now status (K.said say.old) (K.said say.new) (K.faults say.old) (K.faults say.new) result }
+    ensures told { (K.state say.new).told ≡ (K.state say.old).told }
+    ensures answer { AfterTelling status (K.state say.old).faults (K.state say.new).faults result }
+    ensures said { (K.state say.old).told ≡ true → TellsLine name.now status (K.state say.old) (K.state say.new) result }
 {
     let said = Said { status, name };
     let Ok(line) = format!(in alloc; "{said}\n") else {

@@ -1,10 +1,8 @@
 //! The top call: words in, files read and written, a status out.
-ghost use Rattle.std.specs.Prelude.{◌≡◌, ◌≢◌, ◌⊎◌, ◌↔◌, List, ℕ, true, map};
+ghost use Rattle.std.specs.Prelude.{◌≡◌, ◌↔◌, List, ℕ, map};
 ghost use Rattle.std.specs.String.{string_bytes};
-ghost use Rattle.gw_run.specs.Answered.{Answers};
-ghost use Rattle.gw_run.specs.Causes.{IsNamed};
+ghost use Rattle.gw_run.specs.Answered.{Answers, SaysAnswer};
 ghost use Rattle.gw_run.specs.Checked.{AnswersCheck};
-ghost use Rattle.gw_run.specs.Say.{SaysAnswer};
 ghost use Rattle.gw_run.specs.Words.{AreShapeless, IsCheck, IsRun};
 
 use crate::check::check;
@@ -20,9 +18,10 @@ use std::thread::Threads;
 /// Does the command that the words ask for, says one line of how it ended, and answers the status.
 ///
 /// `run CONFIG REPORT` forwards the messages in the logs that the configuration names, writes an output for each
-/// bus and then the report. A configuration that differs from the base one in more than names, files, identifiers of 11
-/// bits, the period, the linger and the timers isn't built yet, nor are first frames of the source of more
-/// than 27 bytes, and flow controls of the destination other than those that let everything come at once.
+/// bus and then the report. A configuration that differs from the base one in more than names, files, identifiers,
+/// addressing, `functional`, `pad` and `fill`, the period, the linger and the timers isn't built yet, nor are first frames of the
+/// source of more than 27 bytes, or 23 with an address byte, and flow controls of the destination other than those that let
+/// everything come at once.
 /// A log is lines of candump's format; the first one with a fault is told as `LogRefused`, before any output is created.
 /// `check CONFIG` reads a configuration and checks it, also one whose runs aren't built. It answers `Accepted`, or
 /// `ConfigRefused` with the first fault of the text or else the first conflict. No file is created or changed.
@@ -37,12 +36,11 @@ pub fn run<R: Threads + Sync, D: Depot, K: Sink, G: Gate + Sync>(
 ) -> Status
     ensures usage { (result ≡ Status.Usage) ↔ AreShapeless (map string_bytes words.now) }
     ensures idle { result ≡ Status.Usage → depot.new ≡ depot.old }
-    ensures said { K.told say.old ≡ true → (name : List ℕ) × SaysAnswer name (K.said say.old) (K.said say.new) (K.faults say.old) (K.faults say.new) result
-        × ((config report : List ℕ) → IsRun (map string_bytes words.now) config report → IsNamed (D.told depot.old) (D.files depot.old) config report result name) }
-    ensures answers { result ≢ Status.Usage → ((config : List ℕ) × (report : List ℕ) × IsRun (map string_bytes words.now) config report
-        × Answers (D.told depot.old) (D.files depot.old) (D.files depot.new) config report (D.faults depot.old) (D.faults depot.new) (D.blame depot.new) (K.faults say.old) (K.faults say.new) result)
-        ⊎ ((config : List ℕ) × IsCheck (map string_bytes words.now) config
-        × AnswersCheck (D.told depot.old) (D.files depot.old) (D.files depot.new) config (D.faults depot.old) (D.faults depot.new) (D.blame depot.new) (K.faults say.old) (K.faults say.new) result) }
+    ensures said { SaysAnswer (map string_bytes words.now) (D.state depot.old) (K.state say.old) (K.state say.new) result }
+    ensures answers { (config report : List ℕ) → IsRun (map string_bytes words.now) config report →
+        Answers (D.state depot.old) (D.state depot.new) config report (K.state say.old) (K.state say.new) result }
+    ensures checks { (config : List ℕ) → IsCheck (map string_bytes words.now) config →
+        AnswersCheck (D.state depot.old) (D.state depot.new) config (K.state say.old) (K.state say.new) result }
 {
     match read_words(words) {
         None => tell(alloc, Status::Usage, "", say),

@@ -8,7 +8,7 @@ pub returns-in-Err-clause-answer : goal.returns-in-Err-clause-answer
 returns-in-Err-clause-answer g c = record {
   status = c.status.result;
   name = _;
-  decided = stopped _ _ _ _ _ _ _ _ c.in-Err.stop _ _ c.status.ensures c.in-Err.ensures.files c.in-Err.ensures.stopped c.in-Err.ensures.fault;
+  decided = stopped _ _ _ _ c.in-Err.stop _ _ c.status.ensures c.in-Err.ensures.files c.in-Err.ensures.stopped c.in-Err.ensures.fault;
   stands = c.tell.ensures.answer;
   line = c.tell.ensures.said;
 }
@@ -17,7 +17,7 @@ pub returns-in_default-clause-answer : goal.returns-in_default-clause-answer
 returns-in_default-clause-answer g c = record {
   status = _;
   name = _;
-  decided = not_built _ _ _ _ _ _ _ _ c.in-Ok.checked _ c.in-Ok.ensures.files c.in-Ok.ensures.read (λ setup is. c.in_default.ensures setup (subst (λ v. IsBuiltConfig v setup) (sym c.config.ensures.same) is));
+  decided = not_built _ _ _ _ c.in-Ok.checked _ c.in-Ok.ensures.files c.in-Ok.ensures.read (λ setup is. c.in_default.ensures setup (subst (λ v. IsBuiltConfig v setup) (sym c.config.ensures.same) is));
   stands = c.tell-in_default.ensures.answer;
   line = c.tell-in_default.ensures.said;
 }
@@ -29,7 +29,7 @@ returns-clause-answer g c =
     record {
       status = c.carry_out-status.result;
       name = _;
-      decided = carried (g.D.Depot.told c.args.depot.now) (g.D.Depot.files c.args.depot.now) _ config c.args.files.now.report.now _ _ _ _ c.in-Some.setup _ _
+      decided = carried (g.D.Depot.state c.args.depot.now) _ config c.args.files.now.report.now _ c.in-Some.setup _ _
           (configured _ _ _ _ c.in-Ok.checked _ c.in-Ok.ensures.read (rw c.config.ensures.same at c.in-Some.ensures)) c.in-Ok.ensures.later
           (λ t. rw c.in-Ok.ensures.files at did.done config (c.in-Ok.ensures.told ∙ t)) did.shaped
           (λ t. rw c.in-Ok.ensures.files at did.cause config (c.in-Ok.ensures.told ∙ t))

@@ -1,4 +1,5 @@
-//! The receiver of one channel: its messages come in frames and are put into sessions that are shared.
+//! A receiver of one channel whose flow controls let come what its session has room for: its messages come in frames and are put
+//! into sessions that are shared.
 #![tactic(auto)]
 
 mod acts;

@@ -1,3 +1,4 @@
+//! The receiver: how it is made, and which event takes it to which function.
 ghost use Rattle.std.specs.Prelude.{◌≤◌};
 ghost use Rattle.block_receiver.specs.Set.{IsRxSet};
 

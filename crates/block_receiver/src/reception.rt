@@ -1,3 +1,4 @@
+//! What a receiver is at: idle, or a reception with what it awaits.
 ghost use Rattle.std.specs.Prelude.{◌≡◌, ◌≢◌, ◌+◌, ◌-◌, ◌%◌, ◌<◌, ◌≤◌, true, IsTrue, Some, ◌↔◌};
 ghost use Rattle.block_receiver.specs.Grant.{full_part, grant_in};
 ghost use Rattle.block_receiver.specs.Table.{awaited_after, awaited_since, ended, due, limit_of, one_less, revoking};

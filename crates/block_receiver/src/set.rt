@@ -1,3 +1,4 @@
+//! How a receiver is configured, and what can happen to it.
 use gw_base::{ChanNo, GroupNo, PathNo};
 use tp_unit::Unit;
 

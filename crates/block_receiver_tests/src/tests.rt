@@ -1,3 +1,4 @@
+//! Receptions in blocks over a plain hub, step by step.
 ghost use Rattle.std.specs.Prelude.{◌≡◌, ◌<◌, ◌≤◌, ℕ, true, [], IfOk, length};
 ghost use Rattle.block_receiver.specs.Port.{CanTake, IsServed};
 ghost use Rattle.block_receiver.specs.State.{event_of};

@@ -1,5 +1,1 @@
-pub mod causes
-pub mod controls
-pub mod records
-pub mod runs
-pub mod sessions
+pub mod receptions

@@ -1,7 +1,6 @@
 -- The flow controls.
 pub mod FlowControls
 pub mod FlowSteps
-pub mod Offers
 pub mod Owed
 pub mod OwedLater
 pub mod Places

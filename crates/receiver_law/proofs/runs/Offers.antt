@@ -1,7 +1,7 @@
--- Which flow controls a receiver's steps offer: they go on with no block size, or there is no room; both fit every shape.
-use Rattle.std.proofs.Common.{◌≡◌, inl, inr, true, refl, subst}
+-- Which flow controls a receiver's steps offer: frames may come, none may come yet, or there is no room; each fits every shape.
+use Rattle.std.proofs.Common.{◌≡◌, true, refl, subst}
 use Rattle.tp_receiver.specs.declared.set.RxSet.{RxSet}
-use Rattle.tp_receiver.specs.Effects.{IsControl, IsControlAct}
+use Rattle.tp_receiver.specs.Effects.{AsksToWait, Continues, IsControl, IsControlAct, TellsOverflow}
 use Rattle.tp_receiver.specs.State.{RxDid, RxEvent, RxState}
 use Rattle.tp_receiver.specs.Table.{RxStep}
 use Rattle.tp_receiver.proofs.OwnSteps.{own-step}
@@ -11,8 +11,9 @@ use Rattle.tp_unit.specs.Unit.{Meaning, Offers}
 
 -- such a flow control can be written in every shape
 pub control-fits : (set : RxSet) (shape : Shape) (meaning : Meaning) → IsControl set meaning → fits_shape shape meaning ≡ true
-control-fits set shape meaning (inl is) = rw is refl
-control-fits set shape meaning (inr is) = rw is refl
+control-fits set shape meaning (Continues frames block is) = rw is refl
+control-fits set shape meaning (AsksToWait is) = rw is refl
+control-fits set shape meaning (TellsOverflow is) = rw is refl
 
 -- so can what a step offers
 pub offered-fits-shape : (set : RxSet) (shape : Shape) (old : RxState) (event : RxEvent) (m : RxDid) (meaning : Meaning) → RxStep set old event m → m.act ≡ Offers meaning → fits_shape shape meaning ≡ true

@@ -1,6 +1,6 @@
 -- Why records of a source and of a destination end, where the other one's part decides it (ISO 15765-2, timers; the causes are this project's own).
 use Rattle.std.specs.Prelude.{◌≡◌, ◌≢◌, ℕ, ◌+◌, ◌<◌, ◌≤◌, min, nat_lt, false, Some, List, filter, length, map, slice_get}
-use Rattle.tp_receiver.specs.Table.{cells_of}
+use Rattle.flow_plan.specs.Cells.{cells_for}
 use Rattle.std.specs.List.{AllByRecursion, AllZip}
 use Rattle.hub_core.specs.declared.record.DestRecord.{DestRecord}
 use Rattle.hub_core.specs.declared.record.DestResult.{DestResult}
@@ -51,7 +51,7 @@ AreUnread r = AllByRecursion (λ (session : SessionRecord). session.result ≡ N
 -- are the fewest that hold its bytes, which says all where the threshold is one cell
 pub data Lacks (r : Route) (session : SessionRecord) (sent : ℕ) : Type 0 where
   LacksNext : session.bytes < sent + part_after r.leg.tx.shape session.len sent → Lacks r session sent
-  LacksStart : sent ≡ 0 → session.bytes ≢ session.len → (r.leg.tx.store ≡ false → cells_of session.bytes < r.leg.tx.threshold) → Lacks r session sent
+  LacksStart : sent ≡ 0 → session.bytes ≢ session.len → (r.leg.tx.store ≡ false → cells_for session.bytes < r.leg.tx.threshold) → Lacks r session sent
 
 -- the source ended below a window from then on, before its unit was whole, and without what comes next
 pub record HasLostSource (r : Route) (told : DestRecord) : Type 0 where

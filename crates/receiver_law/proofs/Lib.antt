@@ -1,1 +1,4 @@
 pub mod receptions
+pub mod records
+pub mod runs
+pub mod sessions

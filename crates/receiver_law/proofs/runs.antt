@@ -1,5 +1,3 @@
 -- A run, and what each machine did in it.
-pub mod RxLaws
-pub mod RxRuns
-pub mod RxTicks
+pub mod Offers
 pub mod RxWritten

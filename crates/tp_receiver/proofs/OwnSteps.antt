@@ -20,13 +20,13 @@ use Rattle.tp_receiver.proofs.Made.{made}
 
 -- what holds of an effect
 record IsOwn (set : RxSet) (tick : ℕ) (calls : List Event) (act : BoxMeaning) (records : List SessionRecord) : Type 0 where
-  writes : AllByRecursion (OfWriter set.path.0) calls
+  writes : AllByRecursion (OfWriter set.path.0 set.group.0) calls
   ends : AllByRecursion (IsMadeNow set tick) records
   control : IsControlAct set act
 
-put : (path seq count : ℕ) (cells : List ℕ) → AllByRecursion (OfWriter path) (map (λ cell. Put path seq cell) cells ++ Published path seq count ∷ [])
-put path seq count [] = (refl, tt)
-put path seq count (cell ∷ cells) = (refl, put path seq count cells)
+put : (path group seq count : ℕ) (cells : List ℕ) → AllByRecursion (OfWriter path group) (map (λ cell. Put path seq cell) cells ++ Published path seq count ∷ [])
+put path group seq count [] = (refl, tt)
+put path group seq count (cell ∷ cells) = (refl, put path group seq count cells)
 
 refuses : (set : RxSet) (meaning : Meaning) → IsControlAct set (refusal_act meaning)
 refuses set (SingleFrame bytes) = tt
@@ -55,15 +55,15 @@ forgets : (set : RxSet) (event : RxEvent) (tick : ℕ) (old : RxStage) (act : Bo
 forgets set event tick old act (HasLeft told is) = rw is tt
 forgets set event tick old act (LayTooLong since told lies late is) = rw is tt
 
-opens : (set : RxSet) (seq size len : ℕ) (bytes : List ℕ) (opened : OpenedAt) (calls : List Event) → OpensSession set seq size len bytes opened calls → AllByRecursion (OfWriter set.path.0) calls
-opens set seq size len bytes opened calls row = rw row.calls_are (tt, (refl, put set.path.0 seq _ row.cells))
+opens : (set : RxSet) (seq size len : ℕ) (bytes : List ℕ) (opened : OpenedAt) (calls : List Event) → OpensSession set seq size len bytes opened calls → AllByRecursion (OfWriter set.path.0 set.group.0) calls
+opens set seq size len bytes opened calls row = rw row.calls_are (refl, (refl, put set.path.0 set.group.0 seq _ row.cells))
 
 -- each effect
 own-effect : (set : RxSet) (event : RxEvent) (tick : ℕ) (old : RxStage) (done : RxDone) → RxEffect set event tick old done → IsOwn set tick done.calls done.act done.records
-own-effect set event tick old done (Refuses e) = record { writes = rw e.calls (tt, tt); ends = rw e.records ((refl, refl), tt); control = rw e.act (refuses set e.meaning) }
+own-effect set event tick old done (Refuses e) = record { writes = rw e.calls (refl, tt); ends = rw e.records ((refl, refl), tt); control = rw e.act (refuses set e.meaning) }
 own-effect set event tick old done (Opens e) = record { writes = opens set _ _ _ _ e.opened done.calls e.opens; ends = rw e.records tt; control = rw e.act tt }
 own-effect set event tick old done (Looks e) = record { writes = rw e.calls (refl, tt); ends = rw e.records tt; control = rw e.act tt }
-own-effect set event tick old done (Puts e) = record { writes = rw e.calls (put set.path.0 e.busy.opened.seq _ e.cells); ends = rw e.records tt; control = rw e.act tt }
+own-effect set event tick old done (Puts e) = record { writes = rw e.calls (put set.path.0 set.group.0 e.busy.opened.seq _ e.cells); ends = rw e.records tt; control = rw e.act tt }
 own-effect set event tick old done (Waits e) = record { writes = rw e.calls tt; ends = rw e.records tt; control = waits set event tick old e.busy done.act e.wait e.left e.waits e.refusing e.because }
 own-effect set event tick old done (Forgets e) = record { writes = rw e.calls tt; ends = rw e.records tt; control = forgets set event tick old done.act e.because }
 own-effect set event tick old done (Ends e) = record { writes = rw e.calls (refl, tt); ends = rw e.records ((refl, refl), tt); control = rw e.act (revokes set e.busy.wait) }
@@ -79,7 +79,7 @@ own-effects set event tick old last (done ∷ rest) are =
     let one : IsOwn set tick done.calls done.act done.records = own-effect set event tick old done are.0 in
     let more : IsOwn set tick (calls_of rest) (act_of rest) (records_of rest) = own-effects set event tick done.new last rest are.1 in
     record {
-      writes = all-join (OfWriter set.path.0) done.calls (calls_of rest) one.writes more.writes;
+      writes = all-join (OfWriter set.path.0 set.group.0) done.calls (calls_of rest) one.writes more.writes;
       ends = all-join (IsMadeNow set tick) done.records (records_of rest) one.ends more.ends;
       control = later-control set done.act (act_of rest) one.control more.control;
     }
@@ -90,7 +90,7 @@ own-step set old event m row =
     let so : IsMade set event (first_stage old) m = made set old event m row in
     let all : IsOwn set m.tick (calls_of so.effects) (act_of so.effects) (records_of so.effects) = own-effects set event m.tick (first_stage old) so.last so.effects so.are in
     record {
-      writes = subst (λ (c : List Event). AllByRecursion (OfWriter set.path.0) c) (sym so.calls) all.writes;
+      writes = subst (λ (c : List Event). AllByRecursion (OfWriter set.path.0 set.group.0) c) (sym so.calls) all.writes;
       ends = subst (λ (r : List SessionRecord). AllByRecursion (IsMadeNow set m.tick) r) (sym so.records) all.ends;
       control = subst (IsControlAct set) (sym so.act) all.control;
     }

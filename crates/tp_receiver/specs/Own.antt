@@ -9,20 +9,20 @@ use Rattle.tp_receiver.specs.State.{RxDid}
 use Rattle.tp_receiver.specs.declared.set.RxSet.{RxSet}
 use Rattle.tp_unit.specs.Unit.{BoxMeaning, Keeps, Offers, Revokes, Meaning}
 
--- a call of a path's writer, or its use of the pool
-abbrev pub OfWriter : ℕ → Event → Type 0
-OfWriter path (Took group number buf size need) = Unit {0}
-OfWriter path (Refused group number free need) = Unit {0}
-OfWriter path (Entered p seq buf number size len readers) = p ≡ path
-OfWriter path (Asked p seq cells readers) = p ≡ path
-OfWriter path (Put p seq cell) = p ≡ path
-OfWriter path (Published p seq bytes) = p ≡ path
-OfWriter path (Joining p dest seq buf len) = ⊥
-OfWriter path (Missed group p dest seq) = ⊥
-OfWriter path (Saw p dest seq cells bytes writer) = ⊥
-OfWriter path (Read p dest seq cell) = ⊥
-OfWriter path (Closed p seq freed) = p ≡ path
-OfWriter path (Parted p dest seq freed) = ⊥
+-- a call of a path's writer, or its use of its group's buffers
+abbrev pub OfWriter : (path group : ℕ) → Event → Type 0
+OfWriter path its (Took group number buf size need) = group ≡ its
+OfWriter path its (Refused group number free need) = group ≡ its
+OfWriter path its (Entered p seq buf number size len readers) = p ≡ path
+OfWriter path its (Asked p seq cells readers) = p ≡ path
+OfWriter path its (Put p seq cell) = p ≡ path
+OfWriter path its (Published p seq bytes) = p ≡ path
+OfWriter path its (Joining p dest seq buf len) = ⊥
+OfWriter path its (Missed group p dest seq) = ⊥
+OfWriter path its (Saw p dest seq cells bytes writer) = ⊥
+OfWriter path its (Read p dest seq cell) = ⊥
+OfWriter path its (Closed p seq freed) = p ≡ path
+OfWriter path its (Parted p dest seq freed) = ⊥
 
 -- a block size that is configured: one frame at least and no more than the limit, or any where none is set
 pub record IsBlock (set : RxSet) (frames : ℕ) : Type 0 where
@@ -45,8 +45,8 @@ IsControlAct set Revokes = Unit {0}
 abbrev pub IsMadeNow : RxSet → ℕ → SessionRecord → Type 0
 IsMadeNow set tick told = (told.chan ≡ set.chan) × (told.end.0 ≡ tick)
 
--- whatever a step does: its calls are the path's writer's own, its records are its channel's and end in its tick, and it offers its own flow controls alone
+-- whatever a step does: its calls are the path's writer's own, over its group's buffers, its records are its channel's and end in its tick, and it offers its own flow controls alone
 pub record IsOwnStep (set : RxSet) (m : RxDid) : Type 0 where
-  pub writes : AllByRecursion (OfWriter set.path.0) m.calls
+  pub writes : AllByRecursion (OfWriter set.path.0 set.group.0) m.calls
   pub ends : AllByRecursion (IsMadeNow set m.tick) m.records
   pub control : IsControlAct set m.act

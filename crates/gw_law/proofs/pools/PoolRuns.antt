@@ -186,7 +186,7 @@ pool-run a d windows v group there is = record {
 
 -- what is told of a source channel is what its receiver's run tells
 abbrev channel : SourceChannel → Channel
-channel c = record { attempts = attempts_in c.rx.functional c.seen; records = c.sessions }
+channel c = record { set = c.rx; attempts = attempts_in c.rx.functional c.seen; records = c.sessions }
 
 channels-same : (a : Account) (group : ℕ) (rs : List Receiving) (runs : List RxRun) → AllZip (IsReceiverRun a) rs runs → map channel_of (map source (filter (is_of group) runs)) ≡ map (channel_in a) (filter (λ (r : Receiving). r.set.group.0 == group) rs)
 channels-same a group [] [] are = refl

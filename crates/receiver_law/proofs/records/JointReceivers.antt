@@ -17,7 +17,7 @@ use Rattle.hub_core.specs.declared.record.SessionRecord.{SessionRecord}
 use Rattle.hub_core.specs.declared.record.SessionResult.{SessionResult}
 use Rattle.hub_core.specs.declared.record.SessionResult.TheVariants.{NoReaders}
 use Rattle.tp_receiver.specs.declared.set.RxSet.{RxSet}
-use Rattle.tp_receiver.specs.Effects.{Ends, EndsAt, Looks, Opens, Puts, Refuses, RxDone, RxEffect, RxStage, Waits}
+use Rattle.tp_receiver.specs.Effects.{Ends, EndsAt, Forgets, Looks, Opens, Puts, Refuses, RxDone, RxEffect, RxStage, Waits}
 use Rattle.tp_receiver.specs.Runs.{HasReceived}
 use Rattle.tp_receiver.specs.State.{Reception, RxEvent, RxState, RxTurn, rx_new}
 use Rattle.tp_receiver.specs.Table.{Opens as OpensSession, begun, puts}
@@ -108,14 +108,14 @@ grow-entered : (path seq buf number size len readers : ℕ) (v : View) → (grow
 unfolding grow
 grow-entered path seq buf number size len readers v = at_one-same path _ v.sessions
 
-opens-so : (set : RxSet) (next seq len size tick : ℕ) (bytes : List ℕ) (opened : OpenedAt) (opening : List Event) (v : View) (records : List SessionRecord) → OpensSession set seq len bytes opened opening → KnownIn set v records seq None →
+opens-so : (set : RxSet) (next seq len size tick : ℕ) (bytes : List ℕ) (opened : OpenedAt) (opening : List Event) (v : View) (records : List SessionRecord) → OpensSession set seq size len bytes opened opening → KnownIn set v records seq None →
     KnownIn set (grows opening v) records (seq + 1) (Some (begun next len size (length bytes) tick opened))
 opens-so set next seq len size tick bytes opened opening v records row known =
     let path : ℕ = set.path.0 in
-    let w : View = grow (Entered path seq opened.buf.0 opened.change row.size len set.readers) (grow (Took set.group.0 opened.change opened.buf.0 row.size row.need) v) in
-    let sessions : w.sessions path ≡ v.sessions path ++ session_new opened.buf.0 opened.change row.size len set.readers ∷ [] =
-    grow-entered path seq opened.buf.0 opened.change row.size len set.readers (grow (Took set.group.0 opened.change opened.buf.0 row.size row.need) v) ∙ ap (λ l. l ++ session_new opened.buf.0 opened.change row.size len set.readers ∷ []) (grow-took set.group.0 path opened.change opened.buf.0 row.size row.need v) in
-    let one : Known set (w.sessions path) records (seq + 1) (Some (record { at = seq; len = len; bytes = 0 })) = rw sessions (known-entered set (v.sessions path) records seq opened.buf.0 opened.change row.size len known) in
+    let w : View = grow (Entered path seq opened.buf.0 opened.change row.buffer len set.readers) (grow (Took set.group.0 opened.change opened.buf.0 row.buffer row.need) v) in
+    let sessions : w.sessions path ≡ v.sessions path ++ session_new opened.buf.0 opened.change row.buffer len set.readers ∷ [] =
+    grow-entered path seq opened.buf.0 opened.change row.buffer len set.readers (grow (Took set.group.0 opened.change opened.buf.0 row.buffer row.need) v) ∙ ap (λ l. l ++ session_new opened.buf.0 opened.change row.buffer len set.readers ∷ []) (grow-took set.group.0 path opened.change opened.buf.0 row.buffer row.need v) in
+    let one : Known set (w.sessions path) records (seq + 1) (Some (record { at = seq; len = len; bytes = 0 })) = rw sessions (known-entered set (v.sessions path) records seq opened.buf.0 opened.change row.buffer len known) in
     let two : Known set ((grows (puts path seq row.cells) w).sessions path) records (seq + 1) (Some (record { at = seq; len = len; bytes = length bytes })) = known-puts set w records (seq + 1) (length bytes) (record { at = seq; len = len; bytes = 0 }) bytes row.cells (omega arith) row.packed one in
     rw (row.calls_are, row.seq_is) two
 
@@ -162,7 +162,7 @@ none-read set event old busy result sessions was at looked s there is = let gone
 known-effect : (set : RxSet) (event : RxEvent) (tick : ℕ) (old : RxStage) (done : RxDone) (v : View) (records : List SessionRecord) → RxEffect set event tick old done → KnownAt set v records old → KnownAt set (grows done.calls v) (records ++ done.records) done.new
 known-effect set event tick old done v records (Refuses e) so =
     let known : KnownIn set v records old.state.seq None = subst (KnownIn set v records old.state.seq) e.of.idle so.known in
-    rw (e.calls, e.records, e.new) (record { known = rw (grow-refused set.group.0 set.path.0 e.number e.free _ v) (known-refused set (v.sessions set.path.0) records old.state.seq None _ refl known); looked = unlooked None _ })
+    rw (e.calls, e.records, e.new, e.of.idle) (record { known = rw (grow-refused set.group.0 set.path.0 e.number e.free _ v) (known-refused set (v.sessions set.path.0) records old.state.seq None _ refl known); looked = unlooked None _ })
 known-effect set event tick old done v records (Opens e) so =
     let known : KnownIn set v records old.state.seq None = subst (KnownIn set v records old.state.seq) e.of.idle so.known in
     rw (e.records, e.new, append-nil) (record { known = opens-so set old.state.next old.state.seq _ e.size tick _ e.opened done.calls v records e.opens known; looked = unlooked _ _ })
@@ -178,6 +178,7 @@ known-effect set event tick old done v records (Puts e) so =
 known-effect set event tick old done v records (Waits e) so =
     let known : KnownIn set v records old.state.seq (Some e.busy) = subst (KnownIn set v records old.state.seq) e.was so.known in
     rw (e.calls, e.records, e.new, append-nil) (record { known = known; looked = unlooked _ _ })
+known-effect set event tick old done v records (Forgets e) so = rw (e.calls, e.records, e.new, append-nil) (record { known = so.known; looked = so.looked })
 known-effect set event tick old done v records (Ends e) so =
     let known : KnownIn set v records old.state.seq (Some e.busy) = subst (KnownIn set v records old.state.seq) e.was so.known in
     rw (e.calls, e.records, e.new) (record {

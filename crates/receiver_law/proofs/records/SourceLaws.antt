@@ -12,7 +12,7 @@ use Rattle.tp_attempts.specs.Seen.{Seen, bytes_of, is_start, len_of}
 use Rattle.tp_attempts.specs.Walk.{look_at, walk_of}
 use Rattle.tp_attempts.proofs.Walks.{look-long, look-short}
 use Rattle.tp_receiver.specs.declared.set.RxSet.{RxSet}
-use Rattle.tp_receiver.specs.Effects.{Ends, EndsAt, HasConsecutive, IsPassed, IsUnused, Looks, Opens, Puts, Refuses, RxDone, RxEffect, RxStage, Waits, used_after}
+use Rattle.tp_receiver.specs.Effects.{Ends, EndsAt, Forgets, HasConsecutive, IsPassed, IsUnused, Looks, Opens, Puts, Refuses, RxDone, RxEffect, RxStage, Waits, used_after}
 use Rattle.tp_receiver.specs.Runs.{HasReceived, cells_in, put_in, frames_in}
 use Rattle.tp_receiver.specs.State.{Reception, RxState, RxEvent, RxDid, Came, Timer, FcLeft, RunEnd, RxTurn, rx_new}
 use Rattle.tp_receiver.specs.Table.{RxStep, ended, refused}
@@ -42,7 +42,7 @@ holds-later set next seq None calls before now seen records later so = idle-late
 holds-later set next seq (Some busy) calls before now seen records later so = (busy-later set next seq busy calls calls before now seen records later (λ number. refl) so.0, so.1)
 
 -- what is waited for doesn't matter
-busy-waits : (set : RxSet) (next seq : ℕ) (busy other : Reception) (calls : List Event) (now : ℕ) (seen : List Seen) (records : List SessionRecord) → other ≡ record busy { wait = other.wait; since = other.since } → IsBusy set next seq busy calls now seen records → IsBusy set next seq other calls now seen records
+busy-waits : (set : RxSet) (next seq : ℕ) (busy other : Reception) (calls : List Event) (now : ℕ) (seen : List Seen) (records : List SessionRecord) → other ≡ record busy { wait = other.wait; since = other.since; left = other.left; waits = other.waits } → IsBusy set next seq busy calls now seen records → IsBusy set next seq other calls now seen records
 busy-waits set next seq busy other calls now seen records is so =
     let P : Reception → Type 0 = λ b. IsBusy set next seq b calls now seen records in
     subst P (sym is) (record {
@@ -116,7 +116,8 @@ ends-so set tick event seen old busy calls more records Restarted so none at par
     closes-so set tick event seen _ _ busy old.used calls more records Restarted so none refl (not-whole Restarted busy (λ is. cc) (more-of old.used busy (λ used. part used (λ is. cc)) so.1)) (λ want got is. cc)
 ends-so set tick event seen old busy calls more records (NoRoom room need) so none at part =
     closes-so set tick event seen _ _ busy old.used calls more records (NoRoom room need) so none refl (not-whole (NoRoom room need) busy (λ is. cc) (more-of old.used busy (λ used. part used (λ is. cc)) so.1)) (λ want got is. cc)
-ends-so set tick event seen old busy calls more records WaitOver so none at part = absurd at
+ends-so set tick event seen old busy calls more records WaitOver so none at part =
+    closes-so set tick event seen _ _ busy old.used calls more records WaitOver so none refl (not-whole WaitOver busy (λ is. cc) (more-of old.used busy (λ used. part used (λ is. cc)) so.1)) (λ want got is. cc)
 ends-so set tick event seen old busy calls more records NoReaders so none at part =
     closes-so set tick event seen _ _ busy old.used calls more records NoReaders so none refl (not-whole NoReaders busy (λ is. cc) (more-of old.used busy (λ used. part used (λ is. cc)) so.1)) (λ want got is. cc)
 ends-so set tick event seen old busy calls more records Cancelled so none at part = absurd at
@@ -129,7 +130,7 @@ holds-effect : (set : RxSet) (event : RxEvent) (tick : ℕ) (seen : List Seen) (
 holds-effect set event tick seen old done calls records (Refuses e) so =
     let frame : Seen = record { at = tick; size = e.size; meaning = e.meaning } in
     let idle : IsIdle set old.state.next old.state.seq calls tick seen records = idle-at set tick event seen _ _ old.state.busy old.used calls records e.of.idle e.of.unused so in
-    rw (e.calls, e.records, e.new, e.of.came)
+    rw (e.calls, e.records, e.new, e.of.came, e.of.idle)
     (idle-later set _ _ calls _ tick tick (seen ++ frame ∷ []) (records ++ refused set old.state.next (len_of e.meaning) tick e.number e.free _ ∷ []) (omega arith) (same-by set.path.0 calls _ (λ number. refl))
     (overflows set old.state.next old.state.seq (len_of e.meaning) e.number e.free _ calls seen records frame e.of.start refl idle))
 holds-effect set event tick seen old done calls records (Opens e) so =
@@ -149,7 +150,8 @@ holds-effect set event tick seen old done calls records (Puts e) so =
     )
 holds-effect set event tick seen old done calls records (Waits e) so =
     let known = busy-at set tick event seen _ _ old.state.busy e.busy old.used calls records e.was so in
-    rw (e.calls, e.records, e.new, append-nil, append-nil) (busy-waits set _ _ e.busy (record e.busy { wait = e.wait; since = tick }) calls tick (seen_so seen tick event old.used) records refl known.0, known.1)
+    rw (e.calls, e.records, e.new, append-nil, append-nil) (busy-waits set _ _ e.busy (record e.busy { wait = e.wait; since = tick; left = e.left; waits = e.waits }) calls tick (seen_so seen tick event old.used) records refl known.0, known.1)
+holds-effect set event tick seen old done calls records (Forgets e) so = rw (e.calls, e.records, e.new, append-nil, append-nil) so
 holds-effect set event tick seen old done calls records (Ends e) so =
     let known = busy-at set tick event seen _ _ old.state.busy e.busy old.used calls records e.was so in
     rw (e.records, e.new) (ends-so set tick event seen old e.busy calls done.calls records e.result known (λ number. ap (cells_in set.path.0 number) e.calls) e.at e.part)

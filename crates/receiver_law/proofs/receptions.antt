@@ -7,3 +7,12 @@ pub mod Grants
 pub mod Passing
 pub mod Leaving
 pub mod Settled
+pub mod SoFar
+pub mod Ends
+pub mod Asked
+pub mod Walks
+pub mod Consecutive
+pub mod Starting
+pub mod Ticks
+pub mod Timing
+pub mod Gone

@@ -53,7 +53,7 @@ waits-so Wait now none = (omega (arith, none), omega arith)
 waits-so Refuse now none = tt
 
 -- what is so of a reception, with a frame more
-under-more : (full : ℕ → Bool) (set : RxSet) (tick more : ℕ) (busy : Reception) (attempt next : Cut Seen) (start piece : Piece) (frames : List Piece) (controls : List ControlLeft) → piece.at ≡ tick → (walk_of set.a next).pieces ≡ (walk_of set.a attempt).pieces ++ piece ∷ [] →
+pub under-more : (full : ℕ → Bool) (set : RxSet) (tick more : ℕ) (busy : Reception) (attempt next : Cut Seen) (start piece : Piece) (frames : List Piece) (controls : List ControlLeft) → piece.at ≡ tick → (walk_of set.a next).pieces ≡ (walk_of set.a attempt).pieces ++ piece ∷ [] →
     IsUnder full set tick busy attempt start frames controls → IsUnder full set tick (gone_on busy more tick) next start (frames ++ piece ∷ []) controls
 under-more full set tick more busy attempt next start piece frames controls at is so = record {
   pieces = is ∙ ap (λ (p : List Piece). p ++ piece ∷ []) so.pieces;
@@ -71,8 +71,8 @@ max-last : (left tick at : ℕ) → left < tick → at ≡ tick → tick ≡ max
 max-last left tick at below is = omega (arith, below, is)
 
 waits-for-more : (full : ℕ → Bool) (set : RxSet) (tick more : ℕ) (lies : Option Meaning) (busy : Reception) (start piece : Piece) (frames : List Piece) (controls : List ControlLeft) (wait : RxWait) → busy.wait ≡ wait → piece.at ≡ tick → 1 ≤ set.n_cr → busy.left ≢ Some 1 →
-    AllByRecursion (λ (control : ControlLeft). control.tick < tick) controls → WaitsFor full set tick tick lies busy start frames controls wait → WaitsFor full set tick tick lies (gone_on busy more tick) start (frames ++ piece ∷ []) controls wait
-waits-for-more full set tick more lies busy start piece frames controls Box is at some other all so =
+    ComeBy tick frames → AllByRecursion (λ (control : ControlLeft). control.tick < tick) controls → WaitsFor full set tick tick lies busy start frames controls wait → WaitsFor full set tick tick lies (gone_on busy more tick) start (frames ++ piece ∷ []) controls wait
+waits-for-more full set tick more lies busy start piece frames controls Box is at some other early all so =
     let none : waits_in tick (frames ++ piece ∷ []) controls ≡ 0 = waits-end tick frames piece controls at all in
     rw is (record {
       kind = so.kind;
@@ -87,7 +87,7 @@ waits-for-more full set tick more lies busy start piece frames controls Box is a
       waits = waits-so so.kind (waits_in tick (frames ++ piece ∷ []) controls) none;
       in_time = so.in_time;
     })
-waits-for-more full set tick more lies busy start piece frames controls Room is at some other all so =
+waits-for-more full set tick more lies busy start piece frames controls Room is at some other early all so =
     let none : waits_in tick (frames ++ piece ∷ []) controls ≡ 0 = waits-end tick frames piece controls at all in
     rw is (record {
       earlier = so.earlier;
@@ -98,7 +98,7 @@ waits-for-more full set tick more lies busy start piece frames controls Room is 
       lies_is = so.lies_is;
       in_time = so.in_time;
     })
-waits-for-more full set tick more lies busy start piece frames controls Cf is at some other all so =
+waits-for-more full set tick more lies busy start piece frames controls Cf is at some other early all so =
     let below : so.left < tick = (subst (AllByRecursion (λ (control : ControlLeft). control.tick < tick)) so.newest all).0 in
     rw is (record {
       left = so.left;
@@ -111,6 +111,7 @@ waits-for-more full set tick more lies busy start piece frames controls Cf is at
       lets = lets-on so.from so.left tick busy.waits (Continue so.block) busy.left frames piece at (omega (arith, so.from_by, below)) other so.lets;
       lies_is = so.lies_is;
       since_is = max-last so.left tick (last_place start.at (frames ++ piece ∷ [])) below (last_place-more start.at frames piece ∙ at);
+      up_to = all-push (λ (p : Piece). p.at ≤ tick) frames piece early (omega (arith, at));
       in_time = omega (arith, some);
     })
 
@@ -121,7 +122,7 @@ going-more full set tick more lies busy attempt next piece controls at some othe
   start = so.start;
   frames = so.frames ++ piece ∷ [];
   under = under-more full set tick more busy attempt next so.start piece so.frames controls at is so.under;
-  waits_for = waits-for-more full set tick more lies busy so.start piece so.frames controls busy.wait refl at some other (all-left full set so.frames busy.begin tick controls so.under.answers) so.waits_for;
+  waits_for = waits-for-more full set tick more lies busy so.start piece so.frames controls busy.wait refl at some other so.under.early (all-left full set so.frames busy.begin tick controls so.under.answers) so.waits_for;
 }
 
 -- the last frame of a block

@@ -66,6 +66,7 @@ pub record IsForFrame (full : ℕ → Bool) (set : RxSet) (tick due : ℕ) (lies
   pub lets : LetsYet from left (Continue block) busy.left busy.waits frames
   pub lies_is : lies ≡ None
   pub since_is : busy.since ≡ max left (last_place start.at frames)
+  pub up_to : ComeBy busy.since frames
   pub in_time : due ≤ busy.since + set.n_cr
 
 -- room is awaited, since the newest flow control left that asked to wait

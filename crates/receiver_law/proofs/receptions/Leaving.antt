@@ -65,6 +65,7 @@ frame-waits full set tick block lies busy start frames controls some by begun ea
   lets = lets;
   lies_is = refl;
   since_is = let last : last_place start.at frames ≤ tick = last-by tick start.at frames begun early in greatest tick (last_place start.at frames) last;
+  up_to = early;
   in_time = omega (arith, some);
 }
   where

@@ -56,6 +56,7 @@ waits-in-time full set tick lies busy start frames controls Cf early so = record
   lets = so.lets;
   lies_is = so.lies_is;
   since_is = so.since_is;
+  up_to = so.up_to;
   in_time = omega (arith, early);
 }
 
@@ -127,7 +128,7 @@ room-passes full set tick lies busy attempt start frames controls under room =
     not-owed is = omega (arith, is, room.in_time)
 
 -- of a block that goes on fewer frames came since its flow control left
-fewer-came : (from left block tick : ℕ) (on_left : Option ℕ) (frames : List Piece) → ComeBy tick frames → IsBlockOn from left block on_left frames → counted (left + 1) tick frames < block
+pub fewer-came : (from left block tick : ℕ) (on_left : Option ℕ) (frames : List Piece) → ComeBy tick frames → IsBlockOn from left block on_left frames → counted (left + 1) tick frames < block
 fewer-came from left block tick on_left frames early on =
     let none : counted (left + 1) tick on.before ≡ 0 = counted-below tick left on.before on.early in
     let some : counted (left + 1) tick on.after ≤ length on.after = at-most (left + 1) tick on.after in
@@ -175,6 +176,7 @@ frame-passes full set tick lies busy attempt start frames controls under awaits 
         lets = awaits.lets;
         lies_is = awaits.lies_is;
         since_is = awaits.since_is;
+        up_to = awaits.up_to;
         in_time = awaits.in_time;
       },
     )

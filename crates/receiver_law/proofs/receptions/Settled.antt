@@ -35,6 +35,7 @@ pub record RefusalSo (full : ℕ → Bool) (set : RxSet) (tick : ℕ) (starts : 
   pub kinds : AllByRecursion (λ (control : ControlLeft). control.kind ≡ Refuse) controls
   pub within : AllByRecursion (λ (control : ControlLeft). (told.begin.0 ≤ control.tick) × (control.tick < told.begin.0 + set.n_ar)) controls
   pub once : length controls ≤ 1
+  pub by : AllByRecursion (λ (control : ControlLeft). control.tick ≤ tick) controls
   pub owed : (at : ℕ) → told.begin.0 ≤ at → at < told.begin.0 + set.n_ar → at < tick → NoneStarts starts told.n at → last_by at controls ≡ None → full at ≡ true
 
 -- what a result comes of, where no frame comes any more below a tick
@@ -125,6 +126,7 @@ settled-later full set tick over later starts others attempt one le so = record 
     kinds = is.kinds;
     within = is.within;
     once = is.once;
+    by = is.by;
     owed = λ at from to below none. is.owed at from to below (none-front starts others one.told.n at none);
   };
   cause = cause-later full set over later starts others attempt one one.told.result le so.cause;
@@ -143,6 +145,7 @@ settled-on full set tick over starts attempt one owed so = record {
     kinds = is.kinds;
     within = is.within;
     once = is.once;
+    by = all-weaker (λ (control : ControlLeft). control.tick ≤ tick) (λ (control : ControlLeft). control.tick ≤ tick + 1) one.controls (λ control by. omega (arith, by)) is.by;
     owed = λ at from to below none gone. elim (cases_lt at tick) [
       | inl before ↦ is.owed at from to before none gone
       | inr after ↦

@@ -34,7 +34,7 @@ can-tell g t tick turns moments view event s by can =
     record {
       acts = record { writes = ap (λ n. nat_lt n 64) path; most = omega (arith, readers); group = omega (arith, group, one) };
       knows = subst P (sym s.pool.view_is) s.receives.knows;
-      waits = waits-later g.receiver.state t tick by s.receives.waits;
+      waits = waits-later g.receiver t tick by s.receives.waits;
       can = can;
     }
 

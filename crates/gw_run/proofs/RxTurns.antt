@@ -21,7 +21,7 @@ use Rattle.tp_sender.specs.declared.set.TxSet.{TxSet}
 use Rattle.tp_unit.specs.Unit.{Meaning}
 use Rattle.tp_unit.specs.declared.shape.Shape.{Shape}
 use Rattle.tp_receiver.specs.Runs.{control_at, control_once}
-use Rattle.receiver_law.proofs.controls.Offers.{offered-fits-shape}
+use Rattle.receiver_law.proofs.runs.Offers.{offered-fits-shape}
 use Rattle.gw_run.specs.Standing.{FitsIn, RxStands, Stands, TxStands, lying, view_in}
 use Rattle.gw_run.specs.Telling.{RxStepped, TellsReceiver}
 use Rattle.gw_run.specs.declared.gateway.Gateway.{Gateway}

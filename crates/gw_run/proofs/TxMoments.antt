@@ -73,7 +73,7 @@ receiver-stays rx shape t tick turns view later receiver lies controls sessions 
   knows = knows-same view later receiver same s.knows;
   number = s.number;
   now = omega (arith, s.now);
-  waits = waits-later receiver.state t tick by s.waits;
+  waits = waits-later receiver t tick by s.waits;
   lies_is = s.lies_is;
   fits = s.fits;
   controls_are = s.controls_are;

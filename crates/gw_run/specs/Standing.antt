@@ -66,7 +66,7 @@ pub record RxStands (rx : RxSet) (shape : Shape) (tick : ℕ) (turns : List RxTu
   pub knows : Knows view receiver
   pub number : receiver.next_n ≤ length (came_by frames_in turns)
   pub now : now_of turns ≤ tick
-  pub waits : WaitsBy receiver.state tick
+  pub waits : WaitsBy receiver tick
   pub lies_is : lies ≡ control_after turns
   pub fits : FitsIn shape lies
   pub controls_are : controls ≡ controls_by shape turns

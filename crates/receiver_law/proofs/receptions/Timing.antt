@@ -47,7 +47,7 @@ module _ (full : ℕ → Bool) (set : RxSet) (shape : Shape) where
   quiet tick old state m lies seen records written at new act told so =
       finish full set shape (m.tick + 1) m state Keeps lies seen records [] written new act told (subst (λ (r : List SessionRecord). SoFar full set shape m.tick (m.tick + 1) state lies seen r written) (sym (append-nil records)) so)
 
-  idle-over : (tick : ℕ) (refusing : Option ℕ) (lies : Option Meaning) (seen : List Seen) (records : List SessionRecord) (written : List Written) → (so : IdleSo full set shape tick tick refusing lies seen records written) → BoxSo set tick (tick + 1) refusing lies so.parts →
+  pub idle-over : (tick : ℕ) (refusing : Option ℕ) (lies : Option Meaning) (seen : List Seen) (records : List SessionRecord) (written : List Written) → (so : IdleSo full set shape tick tick refusing lies seen records written) → BoxSo set tick (tick + 1) refusing lies so.parts →
       IdleSo full set shape tick (tick + 1) refusing lies seen records written
   idle-over tick refusing lies seen records written so box = record {
     parts = so.parts;

@@ -1,5 +1,6 @@
 pub mod Channel
 pub mod FlowControls
+pub mod Laws
 pub mod Parts
 pub mod ReceptionCauses
 pub mod Receptions

@@ -1,13 +1,13 @@
 -- The flow controls of a session, as frames come, ticks pass and further ones leave.
-use Rattle.std.proofs.Common.{◌≡◌, ◌⊎◌, inl, inr, ℕ, ◌+◌, ◌<◌, ◌≤◌, Bool, true, false, Option, Some, None, List, [], ◌∷◌, ◌++◌, length, refl, ap, sym, ◌∙◌, subst, arith}
+use Rattle.std.proofs.Common.{◌≡◌, inl, inr, ℕ, ◌+◌, ◌<◌, ◌≤◌, Bool, true, Option, Some, None, List, [], ◌∷◌, ◌++◌, sym, subst, arith}
 use Rattle.std.specs.List.{AllByRecursion}
 use Rattle.std.proofs.lemmas.Bool.{cases_lt}
 use Rattle.gw_base.proofs.Lists.{all-front, all-weaker}
 use Rattle.tp_attempts.specs.Walk.{Piece}
 use Rattle.tp_receiver.specs.declared.set.RxSet.{RxSet}
-use Rattle.receiver_law.specs.FlowControls.{AreAnswers, FollowOneAnother, HaveCome, IsFullFrom, IsLate, IsLateAfter, IsLateIn, IsOfSession, IsOver, IsOwed, IsOwedAfter, IsSilent, MayFollow, WaitsAreFew}
-use Rattle.receiver_law.specs.Receptions.{ControlKind, Continue, ControlLeft, Refuse, Wait, counted, last_by, waits_in}
-use Rattle.receiver_law.proofs.receptions.Counting.{ComeBy, ComeFrom, counted-append, counted-later, counted-more, last-before, last-now, waits-more}
+use Rattle.receiver_law.specs.FlowControls.{AreAnswers, FollowOneAnother, IsLate, IsLateIn, IsOfSession, IsOver, IsOwed, IsOwedAfter, MayFollow, WaitsAreFew}
+use Rattle.receiver_law.specs.Receptions.{ControlKind, Continue, ControlLeft, Refuse, Wait, last_by, waits_in}
+use Rattle.receiver_law.proofs.receptions.Counting.{ComeFrom, counted-append, counted-later, counted-more, last-before, last-now, waits-more}
 
 -- what holds of it holds in later ticks and with more frames
 pub over-later : (full : ℕ → Bool) (set : RxSet) (frames more : List Piece) (left : ℕ) (kind : ControlKind) (tick later : ℕ) → tick ≤ later → IsOver full set frames left kind tick → IsOver full set (frames ++ more) left kind later

@@ -1,11 +1,10 @@
 -- The receptions of a whole run: those that were over, and the one that the run's end ends.
-use Rattle.std.proofs.Common.{◌≡◌, inl, inr, ◌⊎◌, ℕ, ◌+◌, ◌<◌, ◌≤◌, zero, suc, max, Bool, true, false, drop, Option, Some, None, List, [], ◌∷◌, ◌++◌, length, map, reverse, refl, ap, sym, ◌∙◌, subst, arith, append-nil}
+use Rattle.std.proofs.Common.{◌≡◌, inl, inr, ℕ, ◌+◌, ◌<◌, ◌≤◌, zero, suc, max, Bool, drop, Option, Some, List, [], ◌∷◌, ◌++◌, map, reverse, refl, ap, sym, ◌∙◌, subst, arith, append-nil}
 use Rattle.std.specs.Prelude.{slice_get}
-use Rattle.std.specs.List.{AllByRecursion, AllZip}
+use Rattle.std.specs.List.{AllZip}
 use Rattle.std.proofs.lemmas.Grind.{flat_map-append}
 use Rattle.std.proofs.lemmas.List.{map-append}
 use Rattle.gw_base.proofs.Lists.{zip-push, zip-weaker}
-use Rattle.gw_base.specs.declared.numbers.Tick.{Tick}
 use Rattle.hub_core.specs.declared.record.RxLimit.TheVariants.{Box as BoxLimit, Cf as CfLimit}
 use Rattle.hub_core.specs.declared.record.RxWait.{RxWait}
 use Rattle.hub_core.specs.declared.record.RxWait.TheVariants.{Box, Room, Cf}
@@ -15,21 +14,20 @@ use Rattle.hub_core.specs.declared.record.SessionResult.TheVariants.{Whole, Over
 use Rattle.tp_attempts.specs.Attempts.{attempts_in}
 use Rattle.tp_attempts.specs.Cuts.{Cut}
 use Rattle.tp_attempts.specs.Seen.{Seen}
-use Rattle.tp_attempts.specs.Walk.{Piece, last_place, walk_of}
+use Rattle.tp_attempts.specs.Walk.{Piece, last_place}
 use Rattle.tp_receiver.specs.State.{Reception}
 use Rattle.tp_receiver.specs.Table.{ended}
-use Rattle.tp_receiver.specs.declared.set.RxSet.{RxSet}
 use Rattle.tp_unit.specs.Unit.{Meaning}
 use Rattle.receiver_law.specs.Channel.{SourceChannel}
-use Rattle.receiver_law.specs.FlowControls.{AreAnswers, IsAnswered, IsFirst, NoneBegins}
-use Rattle.receiver_law.specs.ReceptionCauses.{HasCause, IsReception, NextBegins, ReceptionLaw, StillWaits}
-use Rattle.receiver_law.specs.Receptions.{Continue, ControlLeft, Received, Wait, controls_of, counted, frames_of, written_as}
-use Rattle.receiver_law.specs.Source.{Tells, is_overflow}
+use Rattle.receiver_law.specs.FlowControls.{AreAnswers, NoneBegins}
+use Rattle.receiver_law.specs.ReceptionCauses.{HasCause, IsReception, ReceptionLaw, StillWaits}
+use Rattle.receiver_law.specs.Receptions.{ControlLeft, Received, controls_of, counted, written_as}
+use Rattle.receiver_law.specs.Source.{Tells}
 use Rattle.receiver_law.proofs.receptions.Counting.{counted-later}
 use Rattle.receiver_law.proofs.receptions.Ends.{lets-come, received}
-use Rattle.receiver_law.proofs.receptions.Going.{IsBoxed, IsForFrame, IsForRoom, IsGoing, WaitsFor}
+use Rattle.receiver_law.proofs.receptions.Going.{IsGoing, WaitsFor}
 use Rattle.receiver_law.proofs.receptions.Settled.{CauseSo, IsSettled, NoneStarts, starts_of}
-use Rattle.receiver_law.proofs.receptions.SoFar.{AreTold, BusySo, IdleSo}
+use Rattle.receiver_law.proofs.receptions.SoFar.{BusySo, IdleSo}
 
 -- the record of the start in a place begins with it
 record BeginsThere (records : List SessionRecord) (place tick : ℕ) : Type 0 where

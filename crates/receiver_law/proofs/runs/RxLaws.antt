@@ -1,7 +1,6 @@
 -- The laws of a receiver's run: its records, and its receptions with their flow controls and causes.
-use Rattle.std.proofs.Common.{◌≡◌, ◌⊎◌, inl, inr, Bool, ℕ, ◌+◌, ◌<◌, ◌≤◌, Option, Some, None, List, [], ◌∷◌, ◌++◌, refl, ap, sym, ◌∙◌, subst, arith, append-nil}
+use Rattle.std.proofs.Common.{◌≡◌, inl, inr, Bool, ℕ, ◌+◌, ◌<◌, Option, Some, None, List, [], ◌∷◌, ◌++◌, refl, ap, sym, ◌∙◌, subst, arith, append-nil}
 use Rattle.std.specs.List.{AllZip}
-use Rattle.hub_core.proofs.Turns.{happened-front}
 use Rattle.hub_core.specs.Turns.{came_by, records_by, state_after, tick_after, turns_of}
 use Rattle.hub_core.specs.declared.record.SessionRecord.{SessionRecord}
 use Rattle.tp_attempts.specs.Attempts.{attempts_in}
@@ -11,18 +10,18 @@ use Rattle.tp_receiver.specs.Runs.{HasReceived, control_after, control_at, contr
 use Rattle.tp_receiver.specs.State.{Reception, RxDid, RxEvent, RxState, RxTurn, RunEnd, rx_new}
 use Rattle.tp_receiver.specs.Table.{EndRow, RxStep, ended}
 use Rattle.hub_core.specs.declared.record.SessionResult.TheVariants.{RunEnd as EndOfRun}
-use Rattle.tp_receiver.specs.declared.set.RxSet.{RxSet}
 use Rattle.tp_unit.specs.Box.{Written}
 use Rattle.tp_unit.specs.Unit.{Meaning}
 use Rattle.receiver_law.specs.Channel.{SourceChannel}
+use Rattle.receiver_law.specs.Laws.{HasLimits}
 use Rattle.receiver_law.specs.Parts.{EndsReceiving}
 use Rattle.receiver_law.specs.ReceptionCauses.{ReceptionLaw}
-use Rattle.receiver_law.specs.RxRun.{IsRxIdle, IsRxRun, RxRun, source_of, turns_in}
+use Rattle.receiver_law.specs.RxRun.{IsRxRun, RxRun, source_of, turns_in}
 use Rattle.receiver_law.specs.Source.{SourceLaw, Tells}
 use Rattle.receiver_law.proofs.receptions.AtEnd.{law-busy, law-idle}
 use Rattle.receiver_law.proofs.receptions.SoFar.{SoBy}
 use Rattle.receiver_law.proofs.records.SourceLaws.{source_law_of}
-use Rattle.receiver_law.proofs.runs.RxRuns.{HasLimits, Holds, IsPast, idle-later, parts-so}
+use Rattle.receiver_law.proofs.runs.RxRuns.{Holds, IsPast, idle-later, parts-so}
 
 -- the receiver's one turn at the end
 record IsOneEnd (last : ℕ) (turns : List RxTurn) : Type 0 where

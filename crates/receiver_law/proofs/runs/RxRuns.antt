@@ -1,41 +1,32 @@
 -- A run of a receiver, turn by turn and tick by tick.
 use Rattle.std.proofs.Common.{◌≡◌, inl, inr, ◌⊎◌, ℕ, ◌+◌, ◌-◌, ◌<◌, ◌≤◌, zero, suc, Bool, true, Option, Some, None, List, [], ◌∷◌, ◌++◌, map, refl, ap, sym, ◌∙◌, subst, arith, append-nil, append_assoc}
 use Rattle.std.specs.List.{AllByRecursion}
-use Rattle.gw_base.proofs.Lists.{none-some}
 use Rattle.hub_core.proofs.Turns.{happened-front}
 use Rattle.hub_core.specs.Turns.{Part, calls_by, came_by, now_of, records_by, state_after, tick_after, turns_of}
 use Rattle.hub_core.specs.View.{Event}
 use Rattle.hub_core.specs.declared.record.RxWait.{RxWait}
 use Rattle.hub_core.specs.declared.record.RxWait.TheVariants.{Box, Room, Cf}
 use Rattle.hub_core.specs.declared.record.SessionRecord.{SessionRecord}
-use Rattle.tp_attempts.specs.Attempts.{attempts_in}
 use Rattle.tp_attempts.specs.Seen.{Seen}
-use Rattle.tp_receiver.specs.Runs.{HasReceived, control_after, control_at, control_once, controls_by, frames_in}
+use Rattle.tp_receiver.specs.Runs.{HasReceived, control_after, controls_by, frames_in}
 use Rattle.tp_receiver.specs.State.{Reception, RxEvent, RxState, RxTurn, Came, Timer, FcLeft, RunEnd, rx_new}
 use Rattle.tp_receiver.specs.Table.{FromBox, LeftRow, NotAwaited, RxStep, awaited_after}
 use Rattle.tp_receiver.specs.declared.set.RxSet.{RxSet}
-use Rattle.tp_unit.proofs.Rises.{Rise, rise-later, rise-written}
-use Rattle.tp_unit.specs.Box.{Leaves, Nothing, Stays, Went, Written, written_of}
+use Rattle.tp_unit.specs.Box.{Leaves, Nothing, Stays, Went, Written}
 use Rattle.tp_unit.specs.Unit.{Meaning}
 use Rattle.tp_unit.specs.declared.shape.Shape.{Shape}
 use Rattle.receiver_law.specs.Receptions.{Received}
-use Rattle.receiver_law.specs.Parts.{CameIn, EndsReceiving}
-use Rattle.receiver_law.specs.RxRun.{AreRxParts, IsLeftIn, IsNextPart, IsRxIdle, IsRxPart, IsRxRun, RxRun, turns_in}
+use Rattle.receiver_law.specs.Laws.{HasLimits}
+use Rattle.receiver_law.specs.Parts.{CameIn}
+use Rattle.receiver_law.specs.RxRun.{AreRxParts, IsLeftIn, IsRxIdle, IsRxPart}
 use Rattle.receiver_law.specs.Source.{CountsFrom}
 use Rattle.receiver_law.proofs.receptions.Counting.{last-by}
 use Rattle.receiver_law.proofs.receptions.Going.{IsGoing, WaitsFor}
 use Rattle.receiver_law.proofs.receptions.Gone.{gone}
-use Rattle.receiver_law.proofs.receptions.SoFar.{BusySo, IdleSo, SoBy, SoFar}
+use Rattle.receiver_law.proofs.receptions.SoFar.{IdleSo, SoBy, SoFar}
 use Rattle.receiver_law.proofs.receptions.Starting.{came}
-use Rattle.receiver_law.proofs.receptions.Ticks.{told-over}
 use Rattle.receiver_law.proofs.receptions.Timing.{idle-over, passes-on, timed}
 use Rattle.receiver_law.proofs.records.SourceLaws.{HoldsBy, holds}
-
--- the limits of a channel's flow controls and frames are at least a tick
-pub record HasLimits (set : RxSet) : Type 0 where
-  pub n_ar : 1 ≤ set.n_ar
-  pub n_br : 1 ≤ set.n_br
-  pub n_cr : 1 ≤ set.n_cr
 
 -- records are numbered from 0
 numbers : (set : RxSet) (next seq : ℕ) (busy : Option Reception) (calls : List Event) (now : ℕ) (seen : List Seen) (records : List SessionRecord) → HoldsBy set next seq busy calls now seen records → CountsFrom 0 (map (λ (told : SessionRecord). told.n) records)

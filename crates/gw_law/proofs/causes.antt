@@ -1,4 +1,6 @@
 -- Causes of records that need both parties.
+pub mod Held
+pub mod HeldBytes
 pub mod JointCauses
 mod JointEnds
 mod JointTicks

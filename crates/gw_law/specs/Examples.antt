@@ -9,7 +9,7 @@ use Rattle.hub_core.specs.declared.record.Move.{Move}
 use Rattle.hub_core.specs.declared.record.RxWait.TheVariants.{Cf}
 use Rattle.hub_core.specs.declared.record.SessionRecord.{SessionRecord}
 use Rattle.hub_core.specs.declared.record.SessionResult.TheVariants.{Whole, NoReaders, RunEnd}
-use Rattle.hub_core.specs.declared.record.TxWait.TheVariants.{Start}
+use Rattle.hub_core.specs.declared.record.TxWait.TheVariants.{Bus, Start}
 use Rattle.tp_unit.specs.Box.{Written}
 use Rattle.tp_unit.specs.declared.shape.Shape.{Shape}
 use Rattle.gw_law.specs.Account.{Account}
@@ -221,6 +221,10 @@ destination_after_the_end = record lawful_run { dests = unsent ∷ record (sent_
 abbrev pub sent_too_late : Account
 sent_too_late = record lawful_run { dests = unsent ∷ record (sent_on 1) { end = record { 0 = 1 } } ∷ [] }
 
+-- a destination is told to wait for its bus, which sends nothing
+abbrev pub waits_for_an_idle_bus : Account
+waits_for_an_idle_bus = record lawful_run { dests = record unsent { result = DestRunEnd Bus (record { 0 = 0 }) } ∷ sent_on 1 ∷ [] }
+
 -- both sessions take one buffer
 abbrev pub two_takes_of_one_buffer : Account
 two_takes_of_one_buffer = record lawful_run { moves = takes 1 0 ∷ takes 2 0 ∷ frees 3 0 ∷ frees 4 0 ∷ [] }
@@ -277,6 +281,7 @@ pub record NeighboursAreUnlawful : Type 0 where
   pub destination_after_the_end : Lawful destination_after_the_end → ⊥
   -- (TransmissionCauses)
   pub sent_too_late : Lawful sent_too_late → ⊥
+  pub waits_for_an_idle_bus : Lawful waits_for_an_idle_bus → ⊥
   -- (PoolLaw)
   pub two_takes_of_one_buffer : Lawful two_takes_of_one_buffer → ⊥
   pub numbered_from_two : Lawful numbered_from_two → ⊥

@@ -16,7 +16,7 @@ pub turns-in : (full : ℕ → Bool) (earlier : List TxTurn) (part : Part TxTurn
 turns-in full earlier part is = ap (λ l. l ++ earlier) is.turns_are ∙ append_assoc is.left (is.turn ∷ is.answers) earlier
 
 -- where no session is sent nothing lies in the box
-abbrev Agrees : Option Meaning → Type 0 → Type 0
+abbrev pub Agrees : Option Meaning → Type 0 → Type 0
 Agrees None has = Unit {0}
 Agrees (Some meaning) has = has
 
@@ -32,7 +32,7 @@ agrees-once (Fc fs bs st) lies live agrees = agrees
 agrees-once Left lies live agrees = tt
 agrees-once RunEnd lies live agrees = agrees
 
-box-agrees : (set : TxSet) (turns : List TxTurn) → HasSent set turns → Agrees (box_after turns) (HasFrame (state_after tx_new turns).live)
+pub box-agrees : (set : TxSet) (turns : List TxTurn) → HasSent set turns → Agrees (box_after turns) (HasFrame (state_after tx_new turns).live)
 box-agrees set [] happened = tt
 box-agrees set (turn ∷ earlier) happened =
     agrees-then turn.did.act (box_once turn.event (box_after earlier)) (StillHasFrame turn.event (state_after tx_new earlier).live) turn.did.new.live (box-settles set (state_after tx_new earlier) turn.event turn.did happened.1.1)

@@ -125,6 +125,7 @@ neighbours = record {
   read_to_the_end = still-reads;
   destination_after_the_end = λ law. let end : 5 ≤ 4 = law.dests.1.0.records.own.0.end in omega (arith, end);
   sent_too_late = λ law. let left : 0 ≡ 1 = law.dests.1.0.transmissions.sent.0.cause in omega (arith, left);
+  waits_for_an_idle_bus = λ law. let full : false ≡ true = (law.dests.0.transmissions.unsent.0 refl).cause.2.1 0 (omega arith) (omega arith) in cc;
   two_takes_of_one_buffer = one-take;
   numbered_from_two = λ law. let number : 2 ≡ 1 = (law.pool.each 0 (omega arith)).law.replayed.numbered.0 in omega (arith, number);
   buffer_of_another_group = other-group;

@@ -9,6 +9,10 @@ use Rattle.std.specs.List.{AllByRecursion, AllZip}
 use Rattle.std.proofs.lemmas.Bool.{cases_lt}
 use Rattle.std.proofs.lemmas.Bool.Decides.{nat_tests}
 use Rattle.hub_core.specs.declared.record.DestRecord.{DestRecord}
+use Rattle.hub_core.specs.declared.record.DestResult.{DestResult}
+use Rattle.hub_core.specs.declared.record.DestResult.TheVariants.{Sent, SourceEnded, BsTimeout, FcOverflow, InvalidFs, CsTimeout, AsTimeout, Cancelled, RunEnd}
+use Rattle.hub_core.specs.declared.record.TxWait.{TxWait}
+use Rattle.hub_core.specs.declared.record.TxWait.TheVariants.{Start as ForStart, Turn as ForTurn, Fc as ForFc, Gap as ForGap, Bytes as ForBytes, Bus as ForBus}
 use Rattle.tp_attempts.specs.Attempts.{attempts_in}
 use Rattle.tp_attempts.specs.Cuts.{Cut}
 use Rattle.tp_attempts.specs.Seen.{Seen}
@@ -16,12 +20,15 @@ use Rattle.tp_sender.specs.declared.set.TxSet.{TxSet}
 use Rattle.tp_unit.specs.Shape.{IsShape, address_size}
 use Rattle.sender_law.specs.Runs.{HasLimits, IsTxRun, TxRun, leg_of, turns_in}
 use Rattle.sender_law.specs.Transfer.{SendsFor, Transfer, TransferLaw, has_sent, ticks_of, transfer_of}
-use Rattle.sender_law.specs.TransmissionCauses.{IsCaused, TransmissionCauses, left_in}
+use Rattle.sender_law.specs.Channel.{DestChannel}
+use Rattle.sender_law.specs.Pacing.{controls_of}
+use Rattle.flow_plan.specs.Pace.{Control}
+use Rattle.sender_law.specs.TransmissionCauses.{CauseOf, IsCaused, IsCausedUnsent, IsCausedWith, TransmissionCauses, WaitOf, left_in}
 use Rattle.sender_law.proofs.transfers.TxLaw.{law, none-going}
 use Rattle.sender_law.proofs.causes.TxCausesFrames.{ended_ticks, frames_by, is_left, live_ticks}
 use Rattle.sender_law.proofs.causes.TxCausesMoments.{Holds, Lives}
 use Rattle.sender_law.proofs.causes.TxCausesSteps.{Counted, Opens, Tells}
-use Rattle.gw_base.proofs.Lists.{zip-both}
+use Rattle.gw_base.proofs.Lists.{all-weaker, zip-both, zip-weaker}
 use Rattle.sender_law.proofs.causes.TxCausesLists.{asked}
 use Rattle.sender_law.proofs.causes.TxCausesParts.{in-run}
 
@@ -93,3 +100,45 @@ causes run budget is some =
       sent = of-moments run.full run.set run.last (run.last + 1) turns is.shape is.happened is.idle holds;
       unsent = zip-unsent run.full run.set (came_by controls_in turns) run.last (ended_ticks turns) (records_by turns) holds.told;
     }
+
+-- a cause stands as well of a bus that is full in more ticks
+free-of : (full wide : Bool) → (full ≡ true → wide ≡ true) → wide ≡ false → full ≡ false
+free-of true wide more free = let no : true ≡ false = sym (more refl) ∙ free in cc
+free-of false wide more free = refl
+
+wait-fuller : (full wide : ℕ → Bool) (tx : TxSet) (controls : List Control) (last begin : ℕ) (ticks : List ℕ) (sent : ℕ) (wait : TxWait) (since : ℕ) → ((tick : ℕ) → full tick ≡ true → wide tick ≡ true) →
+    WaitOf full tx controls last begin ticks sent wait since → WaitOf wide tx controls last begin ticks sent wait since
+wait-fuller full wide tx controls last begin ticks sent ForStart since more waits = waits
+wait-fuller full wide tx controls last begin ticks sent ForTurn since more waits = waits
+wait-fuller full wide tx controls last begin ticks sent ForFc since more waits = waits
+wait-fuller full wide tx controls last begin ticks sent ForGap since more waits = waits
+wait-fuller full wide tx controls last begin ticks sent ForBytes since more waits = waits
+wait-fuller full wide tx controls last begin ticks sent ForBus since more waits = (waits.0, λ tick from to. more tick (waits.1 tick from to), waits.2)
+
+cause-fuller : (full wide : ℕ → Bool) (tx : TxSet) (controls : List Control) (last begin : ℕ) (ticks : List ℕ) (end sent : ℕ) (how : DestResult) → ((tick : ℕ) → full tick ≡ true → wide tick ≡ true) →
+    CauseOf full tx controls last begin ticks end sent how → CauseOf wide tx controls last begin ticks end sent how
+cause-fuller full wide tx controls last begin ticks end sent Sent more cause = cause
+cause-fuller full wide tx controls last begin ticks end sent SourceEnded more cause = cause
+cause-fuller full wide tx controls last begin ticks end sent BsTimeout more cause = cause
+cause-fuller full wide tx controls last begin ticks end sent FcOverflow more cause = cause
+cause-fuller full wide tx controls last begin ticks end sent (InvalidFs status) more cause = cause
+cause-fuller full wide tx controls last begin ticks end sent (CsTimeout seen) more cause = cause
+cause-fuller full wide tx controls last begin ticks end sent AsTimeout more cause = record { since = cause.since; allowed = cause.allowed; blocked = λ tick from to. more tick (cause.blocked tick from to); over = cause.over }
+cause-fuller full wide tx controls last begin ticks end sent Cancelled more cause = cause
+cause-fuller full wide tx controls last begin ticks end sent (RunEnd wait since) more cause = (cause.0, cause.1, wait-fuller full wide tx controls last begin ticks sent wait since.0 more cause.2)
+
+caused-fuller : (full wide : ℕ → Bool) (tx : TxSet) (controls : List Control) (last : ℕ) (ticks : List ℕ) (told : DestRecord) → ((tick : ℕ) → full tick ≡ true → wide tick ≡ true) → IsCaused full tx controls last ticks told → IsCaused wide tx controls last ticks told
+caused-fuller full wide tx controls last ticks told more is = record {
+  cause = cause-fuller full wide tx controls last told.begin.0 ticks told.end.0 told.sent told.result more is.cause;
+  in_time = λ tick from to. record {
+    accepted = (is.in_time tick from to).accepted;
+    answered = (is.in_time tick from to).answered;
+    leaves = λ free. (is.in_time tick from to).leaves (free-of (full tick) (wide tick) (more tick) free);
+  };
+}
+
+pub causes-fuller : (full wide : ℕ → Bool) (c : DestChannel) → ((tick : ℕ) → full tick ≡ true → wide tick ≡ true) → TransmissionCauses full c → TransmissionCauses wide c
+causes-fuller full wide c more is = record {
+  sent = zip-weaker (IsCausedWith full c) (IsCausedWith wide c) _ (filter has_sent c.dests) (λ cut told one. caused-fuller full wide c.tx (controls_of c.tx.period c.answers) c.last (left_in (address_size c.tx.shape) cut) told more one) is.sent;
+  unsent = all-weaker (IsCausedUnsent full c) (IsCausedUnsent wide c) c.dests (λ told one none. caused-fuller full wide c.tx (controls_of c.tx.period c.answers) c.last [] told more (one none)) is.unsent;
+}

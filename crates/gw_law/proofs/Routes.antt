@@ -29,6 +29,7 @@ use Rattle.gw_law.proofs.causes.Held.{causes-held, held_at}
 use Rattle.gw_law.proofs.causes.HeldBytes.{holds-all}
 use Rattle.gw_law.proofs.causes.JointCauses.{Known, all-short, all-unread}
 use Rattle.gw_law.proofs.causes.JointWaits.{none-waits}
+use Rattle.gw_law.proofs.causes.SoonOver.{all-soon}
 use Rattle.gw_law.proofs.deliveries.Deliveries.{delivery_law_of}
 use Rattle.gw_law.proofs.deliveries.EachSession.{each_session_of}
 use Rattle.gw_law.proofs.runs.Barriers.{Pair}
@@ -83,6 +84,7 @@ route-law c b e =
       joint = record {
         unread = all-unread o r known;
         short = all-short o r known;
+        soon = all-soon o b e c.limits;
         in_time = none-waits r (held_at o.pair.tx.parts) o.far.shape source (causes-held o.pair.tx e o.pair.tx_run c.limits) (holds-all o b e c.idle) timely delivers;
       };
     }

@@ -6,3 +6,4 @@ mod JointEnds
 mod JointTicks
 pub mod JointWaits
 mod SizedPieces
+pub mod SoonOver

@@ -10,6 +10,7 @@ use Rattle.tp_sender.proofs.Settles.{box-settles}
 use Rattle.tp_unit.specs.Box.{box_then}
 use Rattle.tp_unit.specs.Unit.{BoxMeaning, Keeps, Offers, Revokes, Meaning}
 use Rattle.sender_law.specs.Parts.{IsTxPart}
+use Rattle.sender_law.specs.Runs.{AreTxParts}
 
 -- a part's turns, after earlier ones
 pub turns-in : (full : ℕ → Bool) (earlier : List TxTurn) (part : Part TxTurn) → (is : IsTxPart full earlier part) → part.turns ++ earlier ≡ is.left ++ is.turn ∷ (is.answers ++ earlier)
@@ -44,3 +45,8 @@ none-lies (Some meaning) live is agrees = let P : Option Transmission → Type 0
 
 pub idle-box : (set : TxSet) (turns : List TxTurn) → HasSent set turns → (state_after tx_new turns).live ≡ None → box_after turns ≡ None
 idle-box set turns happened is = none-lies (box_after turns) (state_after tx_new turns).live is (box-agrees set turns happened)
+
+-- earlier parts of a run
+pub parts-front : (full : ℕ → Bool) (later earlier : List (Part TxTurn)) → AreTxParts full (later ++ earlier) → AreTxParts full earlier
+parts-front full [] earlier are = are
+parts-front full (part ∷ later) earlier are = parts-front full later earlier are.1

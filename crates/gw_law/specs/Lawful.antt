@@ -4,7 +4,6 @@ use Rattle.std.specs.List.{AllByRecursion}
 use Rattle.receiver_law.specs.FlowControls.{FlowControlLaw}
 use Rattle.receiver_law.specs.ReceptionCauses.{AreCaused, AreNeverBoxed}
 use Rattle.receiver_law.specs.Source.{SourceLaw}
-use Rattle.sender_law.specs.Channel.{never_full}
 use Rattle.sender_law.specs.Emission.{DataEmission, DestRecords}
 use Rattle.sender_law.specs.TransmissionCauses.{TransmissionCauses}
 use Rattle.gw_law.specs.Account.{Account, Route, dest_in, is_full_for, route_in, source_in}
@@ -19,6 +18,10 @@ use Rattle.gw_law.specs.Timely.{TimelyLaw, delivery_of_route}
 -- the bus of a source channel has no place for its flow control in a tick
 abbrev pub is_full_at : Account → Receiving → ℕ → Bool
 is_full_at a r tick = is_full_for (a.plan.budget r.bus) (a.left r.bus) r.shape.id tick
+
+-- the bus of a destination has no place for its data frame in a tick
+abbrev pub is_full_of : Account → Sending → ℕ → Bool
+is_full_of a s tick = is_full_for (a.plan.budget s.bus) (a.left s.bus) s.set.shape.id tick
 
 -- a source channel, over the frames that came to it, its flow controls that left, and its records
 pub record IsLawfulSource (a : Account) (r : Receiving) : Type 0 where
@@ -37,8 +40,8 @@ pub record IsLawfulSource (a : Account) (r : Receiving) : Type 0 where
 pub record IsLawfulDest (a : Account) (s : Sending) : Type 0 where
   pub records : DestRecords (dest_in a s)
   pub emission : DataEmission (dest_in a s)
-  -- each record comes of its cause, and no earlier one is passed over; no data frame waits for its bus
-  pub transmissions : TransmissionCauses never_full (dest_in a s)
+  -- each record comes of its cause, and no earlier one is passed over; a data frame waits for its bus only while that has no place for it
+  pub transmissions : TransmissionCauses (is_full_of a s) (dest_in a s)
 
 -- a path from its source channel to one of its destinations
 pub record IsLawfulRoute (r : Route) : Type 0 where

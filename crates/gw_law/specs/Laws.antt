@@ -41,6 +41,6 @@ TakesAreNamed = (sources : List Source) (groups : List (List ℕ)) (group count 
 abbrev pub PoolsEnd : Type 0
 PoolsEnd = (sources : List Source) (groups : List (List ℕ)) (group count free : ℕ) (v : View) (moves : List Move) → IsPoolRun sources groups group count free v moves → AreAllOver v → PoolEnds groups group free (map channel_of sources) moves
 
--- what every run tells whose buses are never full and whose messages are short keeps all laws
+-- what every run tells whose buses are never full for a flow control and whose messages are short keeps all laws
 abbrev pub RunsAreLawful : Type 0
 RunsAreLawful = (a : Account) (d : Deeds) (windows : List Window) (v : View) → IsRun a d windows v → IsNeverBusy d → AreAllShort d → Lawful a

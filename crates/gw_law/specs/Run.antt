@@ -65,10 +65,9 @@ pub record IsRun (a : Account) (d : Deeds) (windows : List Window) (v : View) : 
   pub joined : IsJoined d received_in sent_in v
   pub served : AllByRecursion (HasJoinedAll v) d.senders
 
--- no bus is ever full for a machine's frame
+-- no bus is ever full for a receiver's flow control
 pub record IsNeverBusy (d : Deeds) : Type 0 where
   pub receivers : AllByRecursion (λ (run : RxRun). IsNeverFull run.full) d.receivers
-  pub senders : AllByRecursion (λ (run : TxRun). IsNeverFull run.full) d.senders
 
 -- each message that comes fits a buffer of four cells, as each look at the room shows
 abbrev pub AreAllShort : Deeds → Type 0

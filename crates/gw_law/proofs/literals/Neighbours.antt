@@ -14,7 +14,7 @@ use Rattle.tp_attempts.specs.Seen.{is_data}
 use Rattle.gw_law.proofs.literals.Items.{alone, alone-among}
 use Rattle.gw_law.specs.Channels.{address_in, is_addressed, is_control}
 use Rattle.gw_law.specs.Emission.{IsControlOn, IsDataOn, IsOfSending}
-use Rattle.gw_law.specs.Examples.{NeighboursAreUnlawful, awaited_too_early, buffer_of_another_group, changed_byte, frame_of_no_channel, leaves, control_frame, long_session, lower_priority_first, no_such_destination, read_to_the_end, receiving, sent_before_it_came, sent_on, single_frame, short_session, sending, takes, two_takes_of_one_buffer, unsent}
+use Rattle.gw_law.specs.Examples.{NeighboursAreUnlawful, awaited_too_early, buffer_of_another_group, changed_byte, frame_of_no_channel, leaves, control_frame, long_session, lower_priority_first, no_such_destination, read_to_the_end, receiving, sent_before_it_came, sent_on, single_frame, short_session, sending, source_ended_late, takes, two_takes_of_one_buffer, unsent}
 use Rattle.gw_law.specs.JointCauses.{IsOwnEnd}
 use Rattle.gw_law.specs.Lawful.{Lawful}
 use Rattle.gw_law.specs.Plan.{Receiving, Sending}
@@ -90,6 +90,14 @@ still-reads law =
     let told : unsent ≡ unread.told = alone _ _ unread.opened.seq unread.told_is in
     subst (λ (told : DestRecord). IsOwnEnd told.result) (sym told) unread.cause
 
+-- by tick 3 the destination has seen that its source ended in tick 0
+seen-late : Lawful source_ended_late → ⊥
+unfolding unit_in
+seen-late law =
+    let soon = (law.routes 0 0 _ _ refl refl refl).joint.soon.unsent.0 refl _ _ (record { place = 0; unit_is = refl; session_is = refl; opened = _; opened_is = refl; seq_is = refl }) refl 0 refl in
+    let end : 4 ≤ 3 = soon in
+    omega (arith, end)
+
 -- the second move takes a buffer that isn't free
 one-take : Lawful two_takes_of_one_buffer → ⊥
 one-take law =
@@ -123,8 +131,10 @@ neighbours = record {
   awaited_too_early = not-awaited;
   session_after_the_end = λ law. let end : 5 ≤ 4 = law.sources.0.records.own.0.end in omega (arith, end);
   read_to_the_end = still-reads;
+  source_ended_late = seen-late;
   destination_after_the_end = λ law. let end : 5 ≤ 4 = law.dests.1.0.records.own.0.end in omega (arith, end);
   sent_too_late = λ law. let left : 0 ≡ 1 = law.dests.1.0.transmissions.sent.0.cause in omega (arith, left);
+  waits_for_an_idle_bus = λ law. let full : false ≡ true = (law.dests.0.transmissions.unsent.0 refl).cause.2.1 0 (omega arith) (omega arith) in cc;
   two_takes_of_one_buffer = one-take;
   numbered_from_two = λ law. let number : 2 ≡ 1 = (law.pool.each 0 (omega arith)).law.replayed.numbered.0 in omega (arith, number);
   buffer_of_another_group = other-group;

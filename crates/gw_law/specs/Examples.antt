@@ -275,7 +275,7 @@ pub record NeighboursAreUnlawful : Type 0 where
   pub no_such_destination : Lawful no_such_destination → ⊥
   -- (TimelyLaw)
   pub sent_before_it_came : Lawful sent_before_it_came → ⊥
-  -- (FlowControlLaw)
+  -- (AreAnswers)
   pub lower_priority_first : Lawful lower_priority_first → ⊥
   -- (BusLaw)
   pub two_in_a_tick : Lawful two_in_a_tick → ⊥
@@ -286,7 +286,7 @@ pub record NeighboursAreUnlawful : Type 0 where
   pub frame_after_the_end : Lawful frame_after_the_end → ⊥
   -- (SourceLaw)
   pub wrong_length : Lawful wrong_length → ⊥
-  -- (AreCaused)
+  -- (HasCause)
   pub awaited_too_early : Lawful awaited_too_early → ⊥
   -- (SessionRecords)
   pub session_after_the_end : Lawful session_after_the_end → ⊥

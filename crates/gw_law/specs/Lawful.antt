@@ -1,8 +1,7 @@
 -- The laws of a run: what its configuration, its logs, its outputs and its report say together.
 use Rattle.std.specs.Prelude.{◌≡◌, ℕ, Bool, Some, slice_get}
 use Rattle.std.specs.List.{AllByRecursion}
-use Rattle.receiver_law.specs.FlowControls.{FlowControlLaw}
-use Rattle.receiver_law.specs.ReceptionCauses.{AreCaused, AreNeverBoxed}
+use Rattle.receiver_law.specs.ReceptionCauses.{ReceptionLaw}
 use Rattle.receiver_law.specs.Source.{SourceLaw}
 use Rattle.sender_law.specs.Emission.{DataEmission, DestRecords}
 use Rattle.sender_law.specs.TransmissionCauses.{TransmissionCauses}
@@ -29,12 +28,11 @@ pub record IsLawfulSource (a : Account) (r : Receiving) : Type 0 where
   pub source : SourceLaw r.set.chan.0 r.set.a r.set.functional (source_in a r).seen (source_in a r).sessions
   -- whose they are, that they lie within the run, and that one follows another
   pub records : SessionRecords (source_in a r)
-  -- at most one flow control leaves in a tick; which ones leave, and where one that is owed doesn't, its bus was full
+  -- at most one flow control leaves in a tick
   pub emission : ControlEmission (source_in a r)
-  pub controls : FlowControlLaw (is_full_at a r) (source_in a r)
-  -- each record comes of its cause, and no earlier one is passed over
-  pub receptions : AreCaused (is_full_at a r) (source_in a r)
-  pub never_boxed : AreNeverBoxed (source_in a r)
+  -- the flow controls are those of its receptions: which ones leave, and where one that is owed doesn't, its bus was full; each record
+  -- comes of its cause, and no earlier one is passed over
+  pub receptions : ReceptionLaw (is_full_at a r) (source_in a r)
 
 -- a destination of a path, over the flow controls that came to its channel, the data frames that left, and its records
 pub record IsLawfulDest (a : Account) (s : Sending) : Type 0 where

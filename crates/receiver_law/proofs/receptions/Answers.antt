@@ -11,12 +11,15 @@ use Rattle.receiver_law.proofs.receptions.Counting.{ComeFrom, counted-append, co
 
 -- what holds of it holds in later ticks and with more frames
 pub over-later : (full : ℕ → Bool) (set : RxSet) (frames more : List Piece) (left : ℕ) (kind : ControlKind) (tick later : ℕ) → tick ≤ later → IsOver full set frames left kind tick → IsOver full set (frames ++ more) left kind later
-over-later full set frames more left (Continue block) tick later le is = (is.0, record {
-  from = is.1.from;
-  by = is.1.by;
-  boxed = is.1.boxed;
-  enough = omega (arith, is.1.enough, counted-later is.1.from tick later frames le, counted-append is.1.from later frames more);
-})
+over-later full set frames more left (Continue block) tick later le is = (
+  is.0,
+  record {
+    from = is.1.from;
+    by = is.1.by;
+    boxed = is.1.boxed;
+    enough = omega (arith, is.1.enough, counted-later is.1.from tick later frames le, counted-append is.1.from later frames more);
+  },
+)
 over-later full set frames more left Wait tick later le is = omega (arith, is, le)
 over-later full set frames more left Refuse tick later le is = absurd is
 

@@ -163,8 +163,8 @@ frame-passes full set tick lies busy attempt start frames controls under awaits 
     let within = subst (AllByRecursion (λ (control : ControlLeft). (busy.begin ≤ control.tick) × (control.tick < tick))) awaits.newest under.answers.within in
     let last : last_by tick controls ≡ Some newest = ap (last_by tick) awaits.newest ∙ last-newest tick newest awaits.earlier (omega (arith, within.0.1)) in (
       under-on full set tick busy attempt start frames controls
-      (λ owed. absurd (not-owed set awaits.from awaits.left awaits.block tick busy.left busy.waits frames under.early awaits.lets (subst (λ (c : Option ControlLeft). IsOwed set frames c tick) last owed)))
-      (λ late. absurd (not-late full set tick lies busy start frames controls under.early awaits (omega (arith, under.begin, within.0.0)) (subst (λ (c : Option ControlLeft). IsLate set frames c tick) last late))) under,
+          (λ owed. absurd (not-owed set awaits.from awaits.left awaits.block tick busy.left busy.waits frames under.early awaits.lets (subst (λ (c : Option ControlLeft). IsOwed set frames c tick) last owed)))
+          (λ late. absurd (not-late full set tick lies busy start frames controls under.early awaits (omega (arith, under.begin, within.0.0)) (subst (λ (c : Option ControlLeft). IsLate set frames c tick) last late))) under,
       record {
         left = awaits.left;
         block = awaits.block;

@@ -68,7 +68,7 @@ fresh-lower low high v (Published path seq bytes) rise fresh = tt
 fresh-lower low high v (Joining path dest seq buf len) rise fresh = tt
 fresh-lower low high v (Missed group path dest seq) rise fresh = not-yet (low.entered group path dest seq) (high.entered group path dest seq) (rise.entered group path dest seq) fresh
 fresh-lower low high v (Saw path dest seq cells bytes writer) rise fresh =
-    (omega (arith, rise.shown path seq, fresh.0), λ stood. not-yet (low.closed path seq) (high.closed path seq) (rise.closed path seq) (fresh.1 stood))
+    (omega (arith, rise.shown path seq, fresh.0), λ stood. not-yet (low.closed path seq) (high.closed path seq) (rise.closed path seq) (fresh.1 stood), fresh.2)
 fresh-lower low high v (Read path dest seq cell) rise fresh = tt
 fresh-lower low high v (Closed path seq freed) rise fresh = tt
 fresh-lower low high v (Parted path dest seq freed) rise fresh = tt

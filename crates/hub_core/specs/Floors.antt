@@ -65,10 +65,13 @@ staying parted (suc dest) = (if parted dest then 0 else 1) + staying parted dest
 abbrev pub HaveRead : Floors → (path seq dests least : ℕ) → Type 0
 HaveRead f path seq dests least = (dest : ℕ) → dest < dests → f.parted path dest seq ≡ false → least ≤ f.read path dest seq
 
--- a look at the positions counts no destination that had left, and all of the buffer is room but the cells that another one hadn't read
+-- a look at the positions counts no destination that had left, and all of the buffer is room but the cells that another one hadn't read;
+-- it counts at least what the session's writer knew before, since the room falls by puts alone, and at most the buffer
 pub record IsRoomFresh (f : Floors) (path seq : ℕ) (s : Session) (cells readers : ℕ) : Type 0 where
   pub dests : readers ≤ staying (λ dest. f.parted path dest seq) s.dests
   pub room : (least : ℕ) → least ≤ length s.cells → HaveRead f path seq s.dests least → s.size + least ≤ cells + length s.cells
+  pub kept : s.room ≤ cells
+  pub most : cells ≤ s.size
 
 -- a look at what is published of a session is one of a destination that joined it, and shows no less than its look before
 pub record ShowsMore (v : View) (path dest seq cells bytes : ℕ) : Type 0 where

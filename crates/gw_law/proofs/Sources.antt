@@ -1,9 +1,8 @@
 -- The laws of each source channel, by its receiver's run.
-use Rattle.std.proofs.Common.{◌≡◌, ℕ, ◌+◌, ◌≤◌, Bool, Some, List, [], ◌∷◌, ap, sym, subst, arith}
-use Rattle.std.specs.Prelude.{slice_get}
+use Rattle.std.proofs.Common.{◌≡◌, ℕ, ◌+◌, ◌≤◌, Bool, List, [], ◌∷◌, ap, subst, arith}
 use Rattle.std.specs.List.{AllByRecursion, AllZip}
 use Rattle.gw_base.proofs.Lists.{all-join, all-weaker}
-use Rattle.hub_core.specs.Turns.{records_by, state_after, turns_of}
+use Rattle.hub_core.specs.Turns.{records_by, state_after}
 use Rattle.hub_core.specs.declared.record.SessionRecord.{SessionRecord}
 use Rattle.receiver_law.proofs.runs.RxFollows.{records-follow}
 use Rattle.receiver_law.proofs.runs.RxFuller.{law-fuller}

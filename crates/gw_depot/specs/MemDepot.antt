@@ -17,7 +17,9 @@ faults_of depot = depot.faults
 
 -- what it is at: it tells its contents
 abbrev pub state_of : MemDepot → DepotState
-state_of depot = record { told = true; files = files_of depot; faults = (faults_of depot).count; blame = (faults_of depot).blame }
+state_of depot =
+    let failed : Faults = faults_of depot in
+    record { told = true; files = files_of depot; faults = failed.count; blame = failed.blame }
 
 -- which calls to come fail, and the most bytes that one takes
 abbrev pub plan_of : MemDepot → Plan

@@ -1,5 +1,5 @@
 //! A frame's data in a line, and the line's end.
-ghost use Rattle.std.specs.Prelude.{◌≡◌, ◌≤◌, ◌<◌, ◌+◌, ◌*◌, ◌^◌, ◌++◌, ◌&&◌, length, drop, take, true, false, Ok, Err, MatchResult, IfOk, IfSome, MatchBool};
+ghost use Rattle.std.specs.Prelude.{◌≡◌, ◌≤◌, ◌<◌, ◌+◌, ◌*◌, ◌^◌, ◌++◌, ◌&&◌, length, drop, take, true, false, Ok, Err, IfOk, IfSome, MatchBool};
 ghost use Rattle.std.specs.Bool.{OnTrue};
 ghost use Rattle.std.specs.List.{prefix_len};
 ghost use Rattle.can_frame.specs.Frame.{IsLawful};
@@ -7,7 +7,7 @@ ghost use Rattle.can_frame.specs.Id.{id_fits};
 ghost use Rattle.candump_line.specs.Fault.{Gives};
 ghost use Rattle.candump_line.specs.Spelling.{AreDataDigits};
 ghost use Rattle.candump_line.specs.Steps.{data_within};
-ghost use Rattle.candump_line.specs.Reading.{IsLawfulLine, after_direction, begins, classic_at, data_at, end_at, ended_at, fd_at, frame_of, front_bytes, hex_bytes, is_hex, length_code_at};
+ghost use Rattle.candump_line.specs.Reading.{IsLawfulLine, after_direction, begins, classic_at, data_at, end_at, ended_at, fd_at, frame_of, front_bytes, is_hex, length_code_at};
 
 use crate::digit::{HEX, count_hex, digit_value, number};
 use crate::fault::{LineFault, LineKind};

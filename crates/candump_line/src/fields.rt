@@ -1,5 +1,5 @@
 //! The pieces that a line's fields are made of.
-ghost use Rattle.std.specs.Prelude.{◌≡◌, ◌≤◌, true, false, length, drop, MatchOption};
+ghost use Rattle.std.specs.Prelude.{◌≡◌, ◌≤◌, length, drop};
 ghost use Rattle.std.specs.List.{list_all, prefix_len};
 ghost use Rattle.candump_line.specs.Fault.{fault_at};
 ghost use Rattle.candump_line.specs.Reading.{IsAfter, after_spaces, is_space, is_visible};

@@ -1,5 +1,5 @@
 //! A line's interface and identifier.
-ghost use Rattle.std.specs.Prelude.{◌≡◌, ◌≤◌, ℕ, ◌^◌, ◌<◌, true, false, length, Some, None, Ok, Err, MatchResult, MatchOption, IfOk, IfSome, option_map};
+ghost use Rattle.std.specs.Prelude.{◌≡◌, ◌≤◌, ℕ, ◌^◌, ◌<◌, true, false, length, Some, None, Ok, Err, MatchOption, IfOk, IfSome, option_map};
 ghost use Rattle.can_frame.specs.Id.{id_fits};
 ghost use Rattle.candump_line.specs.Fault.{Gives};
 ghost use Rattle.candump_line.specs.Steps.{name_at};

@@ -1,5 +1,5 @@
 //! A line's stamp.
-ghost use Rattle.std.specs.Prelude.{◌≡◌, ◌==◌, ◌&&◌, ◌||◌, ◌<◌, ◌≤◌, ◌^◌, ◌*◌, length, Ok, Err, MatchResult, IfOk, IfSome};
+ghost use Rattle.std.specs.Prelude.{◌≡◌, ◌==◌, ◌&&◌, ◌||◌, ◌<◌, ◌≤◌, ◌^◌, ◌*◌, length, Ok, Err, IfOk, IfSome};
 ghost use Rattle.candump_line.specs.Fault.{Gives};
 ghost use Rattle.candump_line.specs.Reading.{stamp_at};
 

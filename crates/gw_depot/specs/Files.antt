@@ -20,13 +20,10 @@ pub record ReadsFile (files : Files) (name : List ℕ) (at count : ℕ) (got : L
   pub bytes : got ≡ take count (drop at content)
   pub end : (count ≡ 0) ↔ (length content ≤ at)
 
--- a read counts all the bytes of the file from a place on that there is room for, or at most so many of them
+-- a read counts all the bytes of the file from a place on that there is room for
 abbrev pub ReadsAll : Files → (name : List ℕ) → (at room count : ℕ) → Type 0
-ReadsAll files name at room count = (content : List ℕ) → files name ≡ Some content → count ≡ min room (length content - at)
-
-abbrev pub ReadsUpTo : (most : ℕ) → Files → (name : List ℕ) → (at room count : ℕ) → Type 0
-ReadsUpTo most files name at room count =
-    (content : List ℕ) → files name ≡ Some content → count ≡ min most (min room (length content - at))
+ReadsAll files name at room count =
+    (content : List ℕ) → files name ≡ Some content → count ≡ min room (length content - at)
 
 -- the file is there and empty; where the call failed it may also be as before
 pub record CreatesFile {T E : Type 0} (old new : Files) (name : List ℕ) (result : Result T E) : Type 0 where

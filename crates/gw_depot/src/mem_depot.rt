@@ -1,7 +1,7 @@
 ghost use Rattle.std.specs.Prelude.{◌≡◌, ◌-◌, ◌<◌, ◌≤◌, ◌↔◌, ◌⊎◌, ℕ, List, None, Some, length, take, min, option_copied, IfOk, OnOk, OnErr, IsErr, IsSome};
 ghost use Rattle.gw_depot.specs.declared.outside.CallKind.TheVariants.{Read, Create, Append};
 ghost use Rattle.gw_depot.specs.Fault.{no_faults, with_fault};
-ghost use Rattle.gw_depot.specs.Files.{IsName, ReadsFile, ReadsUpTo, CreatesFile, AppendsFile, SetsFile, SameFiles};
+ghost use Rattle.gw_depot.specs.Files.{IsName, ReadsFile, CreatesFile, AppendsFile, SetsFile, SameFiles};
 ghost use Rattle.gw_depot.specs.Outside.{HasCause};
 ghost use Rattle.gw_depot.specs.Plan.{no_plan, FailsNext, after_call, with_failure, with_most};
 
@@ -75,7 +75,7 @@ impl MemDepot {
 }
 
 impl Depot for MemDepot {
-    ghost use Rattle.gw_depot.specs.MemDepot.{files_of, faults_of, plan_of, state_of};
+    ghost use Rattle.gw_depot.specs.MemDepot.{ReadsAsPlanned, files_of, faults_of, plan_of, state_of};
 
     ghost state = { λ depot. state_of depot };
 
@@ -85,7 +85,7 @@ impl Depot for MemDepot {
         ensures files { files_of self.new ≡ files_of self.old }
         ensures bound { IfOk result (λ count. count ≤ length into.old) }
         ensures read { IfOk result (λ count. ReadsFile (files_of self.old) name.now at count (take count into.new)) }
-        ensures count { IfOk result (ReadsUpTo (plan_of self.old).most (files_of self.old) name.now at (length into.old)) }
+        ensures count { IfOk result (ReadsAsPlanned self.old name.now at (length into.old)) }
 
         // A call fails where it was set to, or where the file isn't there.
         ensures fails { IsErr result ↔ (FailsNext (plan_of self.old) Read ⊎ (files_of self.old name.now ≡ None)) }

@@ -1,4 +1,4 @@
-ghost use Rattle.std.specs.Prelude.{◌≡◌, ◌+◌, ◌-◌, ◌^◌, ◌<◌, ◌≤◌, ◌↔◌, ◌++◌, length, min, true, Result, IfOk, OnOk, OnErr, IsErr};
+ghost use Rattle.std.specs.Prelude.{◌≡◌, ◌-◌, ◌<◌, ◌≤◌, ◌↔◌, length, true, Result, IfOk, OnOk, OnErr, IsErr};
 ghost use Rattle.gw_depot.specs.Fault.{HasCount};
 ghost use Rattle.gw_depot.specs.Files.{SaysPiece};
 ghost use Rattle.gw_depot.specs.Plan.{after_fault, after_said, nothing_said};

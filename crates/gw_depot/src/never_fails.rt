@@ -1,4 +1,4 @@
-ghost use Rattle.std.specs.Prelude.{◌≡◌, ◌-◌, ◌<◌, ◌≤◌, ℕ, List, [], None, Some, length, take, min, false, IfOk, OnOk, OnErr, IsOk};
+ghost use Rattle.std.specs.Prelude.{◌≡◌, ◌-◌, ◌<◌, ◌≤◌, ℕ, List, [], None, Some, length, take, false, IfOk, OnOk, OnErr, IsOk};
 ghost use Rattle.gw_depot.specs.Files.{IsName, ReadsFile, ReadsAll, SetsFile, SameFiles};
 
 use crate::mem_files::MemFiles;

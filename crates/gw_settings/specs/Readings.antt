@@ -72,18 +72,18 @@ required read None = Err Missing
 required read (Some value) = read value
 
 -- a key of a table of this kind and number, read so: None where it is absent, or its fault at that place
-abbrev pub setting_of : {A : Type 0} → (Data → Result A FaultKind) → Data → TableKind → ℕ → Key →
+abbrev pub setting : {A : Type 0} → (Data → Result A FaultKind) → Data → TableKind → ℕ → Key →
     Result (Option A) ConfigFault
-setting_of read root kind index key = placed kind index key (optional read (value_at root kind index key))
+setting read root kind index key = placed kind index key (optional read (value_at root kind index key))
 
 -- the element of this number of an array key, read so, or its fault at the key's place
-abbrev pub item_of : {A : Type 0} → (Data → Result A FaultKind) → Data → TableKind → ℕ → Key → ℕ →
+abbrev pub setting_item : {A : Type 0} → (Data → Result A FaultKind) → Data → TableKind → ℕ → Key → ℕ →
     Result A ConfigFault
-item_of read root kind index key at = placed kind index key (required read (element_at root kind index key at))
+setting_item read root kind index key at = placed kind index key (required read (element_at root kind index key at))
 
 -- the number of tables of this kind, None where their array is absent, or its fault in the top table
-abbrev pub tables_of : Data → TableKind → Result (Option ℕ) ConfigFault
-tables_of root kind = placed Top 0 (array_key kind) (optional tables_in (value_in root (array_key kind)))
+abbrev pub table_count : Data → TableKind → Result (Option ℕ) ConfigFault
+table_count root kind = placed Top 0 (array_key kind) (optional tables_in (value_in root (array_key kind)))
 
 -- the key's name is this one
 abbrev pub is_named : Option (List ℕ) → List ℕ → Bool

@@ -9,8 +9,8 @@ use Rattle.hub_core.proofs.Grouped.{pushed-same}
 use Rattle.hub_core.proofs.Ledger.{led-twice, lawful, order, led-closed, led-parted}
 use Rattle.hub_core.proofs.Led.{closed-may, parted-may}
 use Rattle.hub_core.proofs.Numbered.{numbered-new, within}
-use Rattle.hub_core.proofs.Owning.{GoOn, SameTake, same-take, on-session, on-reading}
-use Rattle.hub_core.proofs.Places.{reading-now}
+use Rattle.hub_core.proofs.Kept.{SameTake, same-take, reading-now}
+use Rattle.hub_core.proofs.Owning.{session-taken, session-turn}
 use Rattle.hub_core.proofs.Pools.{AreWords, words-pushed}
 use Rattle.hub_core.proofs.Rows.{set-here, set-else, sum-set, freed-on, freed-still, IsOnlyAt, only-session, only-reading, swapped, one-place, row-on-session, row-on-reading, AreKept, kept-session, kept-sessions, words-on, lengths-by}
 use Rattle.hub_core.proofs.Shown.{session-call, reading-call, writer-stays, reader-session, reader-stays, row-sight, row-position}
@@ -128,7 +128,7 @@ led-last groups v event number buf path seq s t w led may next same at stays the
       known = there;
       its = take.buf ∙ own;
       over = over;
-      last = λ other changed. elim (l.owned.turn path seq s at) [
+      last = λ other changed. elim (session-turn groups v l.owned path seq s at) [
         | inl last ↦
             let before : ChangesBuf (journal_of groups (group_of groups s.buf) v.changes) (place_of groups s.buf) other =
             subst (λ (x : List Change × ℕ). ChangesBuf (journal_of groups (group_of groups x.1) x.0) (place_of groups x.1) other) (λ i. (same i, sym own i)) changed in
@@ -143,7 +143,7 @@ freed-now : (groups : List (List ℕ)) (v w : View) (number buf path seq : ℕ) 
 freed-now groups v w number buf path seq s t led at take own changes new not = lawful groups v led (λ l.
     let mine : List Change = changes_in groups (group_of groups buf) v in
     let sorted = order groups v led (group_of groups buf) in
-    let low = (within (changes_in groups (group_of groups s.buf) v) s.number _ (order groups v led (group_of groups s.buf)) (l.owned.taken path seq s at).take).1 in
+    let low = (within (changes_in groups (group_of groups s.buf) v) s.number _ (order groups v led (group_of groups s.buf)) (session-taken groups v l.owned path seq s at).take).1 in
     let same = ap (λ (b : ℕ). length (changes_in groups (group_of groups b) v)) own in
     let found = ap (λ (c : List Change). numbered (journal_of groups (group_of groups buf) c) number) changes
     ∙ ap (λ (c : List Change). numbered c number) (pushed-same groups (group_of groups buf) v.changes (Freed number buf) refl)
@@ -160,10 +160,10 @@ pool_freed groups v buf number = record { changes = number; free = free_in group
 
 -- after the last party's leave
 freed-call : (groups : List (List ℕ)) (places new : List Place) (words : List ℕ) (pools more : List Pool) (takes : ℕ) (v w : View) (path seq buf number : ℕ) (row : Row) (s : Session) → IsShown groups places words pools takes v →
-    slice_get places buf ≡ Some (Occupied row) → row.path ≡ path → row.seq ≡ seq → IsOnlyAt path seq v w → GoOn v w → w.held ≡ v.held → AreKept v w → ((p : ℕ) → length (w.sessions p) ≡ length (v.sessions p)) →
+    slice_get places buf ≡ Some (Occupied row) → row.path ≡ path → row.seq ≡ seq → IsOnlyAt path seq v w → w.held ≡ v.held → AreKept v w → ((p : ℕ) → length (w.sessions p) ≡ length (v.sessions p)) →
     session_at v path seq ≡ Some s → s.buf ≡ buf → w.changes ≡ v.changes ++ Freed number buf ∷ [] → number ≡ length (changes_in groups (group_of groups buf) v) + 1 → new ≡ slice_set places buf Free →
     more ≡ slice_set pools (group_of groups buf) (pool_freed groups v buf number) → IsLed groups w → IsShown groups new words more takes w
-freed-call groups places new words pools more takes v w path seq buf number row s shown is path-is seq-is only on held kept lengths at own grown next set words-set later = record {
+freed-call groups places new words pools more takes v w path seq buf number row s shown is path-is seq-is only held kept lengths at own grown next set words-set later = record {
   places_show = record {
     rows = λ b r there. elim (eqb_tells b buf) [
       | inl same ↦ absurd (not-free b r same.1 there)
@@ -188,7 +188,7 @@ freed-call groups places new words pools more takes v w path seq buf number row 
           ]
     ];
     sessions = λ p k t there unfreed-yet.
-        let was = on.back p k t there in
+        let was = kept p k t there in
         let old = shown.places_show.sessions p k was.0 was.1 (λ freed. unfreed-yet (still was.0 t was.2 freed)) in
         ap (λ (b : ℕ). session_in (slice_get new b)) was.2.buf ∙ elim (eqb_tells was.0.buf buf) [
           | inl same ↦ absurd (
@@ -210,8 +210,8 @@ freed-call groups places new words pools more takes v w path seq buf number row 
     words = subst (AreWords groups more) (sym grown) (words-pushed groups (group_of groups buf) pools more v.changes (Freed number buf) shown.counts.words (order groups v shown.led (group_of groups buf)) refl next words-set);
     moves = let sum = sum-set taken places buf (Occupied row) Free is in omega (arith, shown.counts.moves, sum, ap (sum_by taken) set, ap (λ (l : List Change). length l) grown, length-append v.changes (Freed number buf ∷ []));
     sessions = λ p. let sum = sum-set reserved places buf (Occupied row) Free is in let h = shown.counts.sessions p in omega (arith, h, lengths p, sum, ap (sum_by reserved) set);
-    some = λ p k t there. let was = on.back p k t there in omega (arith, shown.counts.some p k was.0 was.1, was.2.dests);
-    dests = λ p k t there. let was = on.back p k t there in omega (arith, shown.counts.dests p k was.0 was.1, was.2.dests);
+    some = λ p k t there. let was = kept p k t there in omega (arith, shown.counts.some p k was.0 was.1, was.2.dests);
+    dests = λ p k t there. let was = kept p k t there in omega (arith, shown.counts.dests p k was.0 was.1, was.2.dests);
   };
   led = later;
 }
@@ -235,7 +235,7 @@ module _ (groups : List (List ℕ)) (places : List Place) (words : List ℕ) (po
     leave = λ s. record s { stands = false }
 
     closed-take : (s : Session) → SameTake s (leave s)
-    closed-take s = record { buf = refl; number = refl; size = refl; dests = refl; gone = λ gone. refl }
+    closed-take s = record { buf = refl; number = refl; size = refl; dests = refl }
 
     closed-sight : sight_of (leave known.session) ≡ sight_in t.buf.0 next
     closed-sight =
@@ -268,7 +268,7 @@ module _ (groups : List (List ℕ)) (places : List Place) (words : List ℕ) (po
     after-closed-last number more set words-set none is-next may =
         let w : View = grow (Closed t.path.0 t.seq (Freed number t.buf.0 ∷ [])) v in
         let few = shown.counts.dests t.path.0 t.seq known.session known.known in
-        freed-call groups places new words pools more takes v w t.path.0 t.seq t.buf.0 number row known.session shown is path-is seq-is (only-session t.path.0 t.seq leave v w refl refl) (on-session t.path.0 t.seq leave v w refl refl closed-take) refl
+        freed-call groups places new words pools more takes v w t.path.0 t.seq t.buf.0 number row known.session shown is path-is seq-is (only-session t.path.0 t.seq leave v w refl refl) refl
         (kept-session t.path.0 t.seq leave v w refl closed-take (λ s. refl)) (lengths-by t.path.0 v w (by-closed t.path.0 t.seq (Freed number t.buf.0 ∷ []) v w refl)) known.known known.says.buf refl is-next set words-set
         (led-last groups v (Closed t.path.0 t.seq []) number t.buf.0 t.path.0 t.seq known.session (leave known.session) w shown.led may
         (ap (λ (l : List Change). let x : View = grow (Closed t.path.0 t.seq []) v in record x { changes = l ++ Freed number t.buf.0 ∷ [] }) (sym (append-nil v.changes)))
@@ -320,7 +320,7 @@ module _ (groups : List (List ℕ)) (places : List Place) (words : List ℕ) (po
         let w : View = grow (Parted t.path.0 t.dest.0 t.seq []) v in
         reading-call groups places new words pools takes v w t.path.0 t.dest.0 t.seq t.buf.0 row next its.0 (part known.reading) shown
         (swapped places new t.buf.0 row next is set (ap (λ (r : Row). r.path) left) (ap (λ (r : Row). r.seq) left)) path-is seq-is refl
-        (on-reading t.path.0 t.dest.0 t.seq part known.reading v w refl refl known.known known.says.stands) (only-reading t.path.0 t.dest.0 t.seq part v w refl refl) refl (append-nil v.changes) (parted-beside []) (parted-own [])
+        (only-reading t.path.0 t.dest.0 t.seq part v w refl refl) refl (append-nil v.changes) (parted-beside []) (parted-own [])
         (ap (sight_in t.buf.0) left) parted-others its.1 parted-mine
         (λ x at over. not-over w t.buf.0 t.path.0 t.seq next x (parted-row []) (ap (λ (r : Row). r.path) left ∙ path-is) (ap (λ (r : Row). r.seq) left ∙ seq-is) at party over)
         (led-parted groups v shown.led t.path.0 t.dest.0 t.seq may)
@@ -332,7 +332,7 @@ module _ (groups : List (List ℕ)) (places : List Place) (words : List ℕ) (po
         let w : View = grow (Parted t.path.0 t.dest.0 t.seq (Freed number t.buf.0 ∷ [])) v in
         let most = shown.counts.dests t.path.0 t.seq its.0 its.1 in
         let own : its.0.buf ≡ t.buf.0 = sym its.2.buf ∙ known.says.buf in
-        freed-call groups places new words pools more takes v w t.path.0 t.seq t.buf.0 number row its.0 shown is path-is seq-is (only-reading t.path.0 t.dest.0 t.seq part v w refl refl) (on-reading t.path.0 t.dest.0 t.seq part known.reading v w refl refl known.known known.says.stands) refl
+        freed-call groups places new words pools more takes v w t.path.0 t.seq t.buf.0 number row its.0 shown is path-is seq-is (only-reading t.path.0 t.dest.0 t.seq part v w refl refl) refl
         (kept-sessions v w refl) (λ p. refl) its.1 own refl is-next set words-set
         (led-last groups v (Parted t.path.0 t.dest.0 t.seq []) number t.buf.0 t.path.0 t.seq its.0 its.0 w shown.led may
         (ap (λ (l : List Change). let x : View = grow (Parted t.path.0 t.dest.0 t.seq []) v in record x { changes = l ++ Freed number t.buf.0 ∷ [] }) (sym (append-nil v.changes)))

@@ -3,6 +3,7 @@ mod Bits
 mod Cut
 mod EveryStep
 mod Grouped
+mod Kept
 pub mod HubGroups
 mod Leaving
 mod Ledger

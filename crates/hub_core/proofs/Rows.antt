@@ -8,8 +8,7 @@ use Rattle.gw_base.specs.Cell.{IsCell}
 use Rattle.hub_core.proofs.Grouped.{pushed-same, pushed-else}
 use Rattle.hub_core.proofs.Growing.{session-changed}
 use Rattle.hub_core.proofs.Numbered.{numbered-old}
-use Rattle.hub_core.proofs.Owning.{GoOn, SameTake, same-take}
-use Rattle.hub_core.proofs.Places.{mapped, session-now, reading-now, reading-pushed}
+use Rattle.hub_core.proofs.Kept.{GoOn, SameTake, same-take, mapped, session-now, reading-now, reading-pushed}
 use Rattle.hub_core.specs.Calls.{ByWriter}
 use Rattle.hub_core.specs.Joint.{IsFreed}
 use Rattle.hub_core.specs.Groups.{group_of, place_of, all_sizes, journal_of}
@@ -164,7 +163,7 @@ show-row groups places new v w buf path seq row next show swap path-is seq-is on
         ]
   ];
   sessions = λ p k t at kept.
-      let was = on.back p k t at in
+      let was = on p k t at in
       let old = show.sessions p k was.0 was.1 (λ freed. kept (freed-on groups v w was.0 t changes was.2 freed)) in
       ap (λ (b : ℕ). session_in (slice_get new b)) was.2.buf ∙ elim (eqb_tells was.0.buf buf) [
         | inl same ↦
@@ -263,8 +262,8 @@ counts-on groups places new pools takes v w same lengths on taken-same reserved-
   words = λ group below. counts.words group below ∙ ap (λ (l : List Change). Some (pool_after groups group l)) (sym same);
   moves = omega (arith, counts.moves, taken-same, ap (λ (l : List Change). length l) same);
   sessions = λ path. let h = counts.sessions path in omega (arith, h, lengths path, reserved-same);
-  some = λ p k t at. let was = on.back p k t at in omega (arith, counts.some p k was.0 was.1, was.2.dests);
-  dests = λ p k t at. let was = on.back p k t at in omega (arith, counts.dests p k was.0 was.1, was.2.dests);
+  some = λ p k t at. let was = on p k t at in omega (arith, counts.some p k was.0 was.1, was.2.dests);
+  dests = λ p k t at. let was = on p k t at in omega (arith, counts.dests p k was.0 was.1, was.2.dests);
 }
 
 pub lengths-by : (path : ℕ) (v w : View) → ByWriter path 0 v w → (other : ℕ) → length (w.sessions other) ≡ length (v.sessions other)

@@ -22,7 +22,7 @@ use Rattle.hub_core.specs.declared.place.Place.{Place}
 use Rattle.hub_core.specs.declared.place.Place.TheVariants.{Occupied}
 use Rattle.hub_core.specs.declared.place.Row.{Row}
 use Rattle.hub_core.specs.declared.plain.PlainHub.{PlainHub}
-use Rattle.hub_core.specs.declared.pool.Pool.{Pool}
+use Rattle.pool_words.specs.declared.pool.Pool.{Pool}
 
 module _ (hub : PlainHub) where
   abbrev v : View

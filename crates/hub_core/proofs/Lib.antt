@@ -1,5 +1,4 @@
 mod Beginnings
-mod Bits
 mod Cut
 mod EveryStep
 mod Grouped

@@ -6,7 +6,7 @@ use Rattle.std.proofs.lemmas.List.Elements.{All-nil, All-cons, All-weaker}
 use Rattle.std.specs.Prelude.{if◌then◌else◌, IsBitSet}
 use Rattle.hub_core.specs.Journal.{CountsFrom, AreInOrder, number_of, numbered, moved, replay, IsLawful, IsOverflow, changed_buf, ChangesBuf}
 use Rattle.hub_core.specs.View.{Change, Taken, Freed, Refusal}
-use Rattle.hub_core.proofs.Bits.{take-clears, take-leaves, free-leaves}
+use Rattle.pool_words.proofs.Bits.{take-clears, take-leaves, free-leaves}
 
 -- a change is found by its number, and has it
 pub numbered-number : (changes : List Change) (n : ℕ) (d : Change) → numbered changes n ≡ Some d → number_of d ≡ n

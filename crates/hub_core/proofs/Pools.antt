@@ -10,7 +10,7 @@ use Rattle.hub_core.specs.Groups.{group_of, sizes_of, in_group, journal_of}
 use Rattle.hub_core.specs.Journal.{AreInOrder, number_of, replay, moved, numbered, changed_buf}
 use Rattle.hub_core.specs.Plain.{pool_after}
 use Rattle.hub_core.specs.View.{Change}
-use Rattle.hub_core.specs.declared.pool.Pool.{Pool}
+use Rattle.pool_words.specs.declared.pool.Pool.{Pool}
 
 -- the free set after one more change
 free-pushed : (sizes : List ℕ) (changes : List Change) (c : Change) → AreInOrder changes → number_of c ≡ length changes + 1 → replay sizes (changes ++ c ∷ []) (length (changes ++ c ∷ [])) ≡ moved (Some c) (replay sizes changes (length changes))

@@ -2,13 +2,11 @@
 //! and a plain hub.
 #![tactic(auto)]
 
-mod fit;
 mod groups;
 mod history;
 mod law;
 mod place;
 mod plain;
-mod pool;
 mod port;
 mod record;
 mod rings;

@@ -1,7 +1,7 @@
 //! Which buffer serves a need.
 ghost use Rattle.std.specs.Prelude.{◌≡◌, ◌≤◌, ◌<◌, ◌↔◌, ℕ, Some, true, length};
 ghost use Rattle.gw_base.specs.Fit.{IsFit, Fits};
-ghost use Rattle.hub_core.specs.Plain.{is_smaller};
+ghost use Rattle.pool_words.specs.Pools.{is_smaller};
 
 /// Whether the buffer is free and has the cells that are needed.
 fn fits(sizes: &[u32], free: u32, need: u64, buf: usize) -> bool
@@ -25,7 +25,7 @@ fn is_less(sizes: &[u32], buf: usize, found: Option<usize>) -> bool
 }
 
 /// The smallest free buffer that has `need` cells, of equals the lowest number. `free` has bit i for buffer i.
-pub(crate) fn smallest_fitting(sizes: &[u32], free: u32, need: u64) -> Option<usize>
+pub fn smallest_fitting(sizes: &[u32], free: u32, need: u64) -> Option<usize>
     requires { length sizes.now ≤ 32 }
     ensures { IsFit sizes.now free need result }
 {

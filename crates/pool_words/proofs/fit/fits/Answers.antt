@@ -1,7 +1,7 @@
 use Rattle.std.proofs.Common.{arith}
 use Rattle.std.proofs.lemmas.Bool.{leb-true, le-leb, eqb-true}
-use Rattle.hub_core.proofs.Scans.{fits-from, fits-set}
-use Rattle.hub_core.proofs.fit.fits.Goals as goal
+use Rattle.pool_words.proofs.Fits.{fits-from, fits-set}
+use Rattle.pool_words.proofs.fit.fits.Goals as goal
 
 pub returns-then-free-buf-eq1 : goal.returns-then-free-buf-eq1
 returns-then-free-buf-eq1 c = (

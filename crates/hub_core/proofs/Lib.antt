@@ -1,7 +1,8 @@
 mod Beginnings
-mod Cut
-mod EveryStep
-mod Grouped
+pub mod Cut
+pub mod EveryStep
+pub mod Grouped
+pub mod GroupReads
 pub mod HubGroups
 mod Leaving
 mod Ledger
@@ -9,7 +10,7 @@ mod Looks
 mod Merging
 mod Owning
 mod Places
-mod Pools
+pub mod Pools
 pub mod Quiet
 mod Rows
 mod Scans

@@ -8,7 +8,7 @@ use pool_words::{Pool, full_pool};
 use std::alloc::Global;
 
 /// The number of the group's first buffer, where the groups have so many buffers.
-pub(crate) fn first_buffer(counts: &[u8], group: usize) -> usize
+pub fn first_buffer(counts: &[u8], group: usize) -> usize
     requires there { group ≤ length counts.now }
     requires buffers { All (λ count. (1 ≤ count) × (count ≤ 32)) counts.now }
     requires groups { length counts.now ≤ 4 }
@@ -22,7 +22,7 @@ pub(crate) fn first_buffer(counts: &[u8], group: usize) -> usize
 }
 
 /// The buffer's group, and its number in it.
-pub(crate) fn find_group(counts: &[u8], buf: usize) -> (usize, usize)
+pub fn find_group(counts: &[u8], buf: usize) -> (usize, usize)
     requires { buf < sum counts.now }
     ensures there { result.0 < length counts.now }
     ensures its { result.1 < slice_index counts.now result.0 }

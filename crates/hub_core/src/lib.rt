@@ -13,6 +13,8 @@ mod rings;
 mod row;
 mod token;
 
+pub use groups::{find_group, first_buffer};
+pub use history::Deed;
 pub use law::{again_law, core_law, join_law, leading_law, led_law, merging_law, quiet_law};
 pub use plain::PlainHub;
 pub use port::{Left, Port, Room, Seen, Take};

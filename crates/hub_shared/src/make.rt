@@ -48,6 +48,7 @@ impl SharedHub {
         requires { IsPool cells.now counts.now }
         ensures seat { IfOk result (λ made. IsSeatOf made.0 made.1) }
         ensures groups { IfOk result (λ made. groups_of made.0 ≡ grouped counts.now cells.now) }
+        ensures some { IfOk result (λ made. 0 < length (groups_of made.0)) }
         ensures view { IfOk result (λ made. seat_view made.1 ≡ empty_view) }
         ensures part { IfOk result (λ made. seat_part made.1 ≡ everyone) }
         ensures takes { IfOk result (λ made. (as_port made.1).means.takes ≡ 8000000) }

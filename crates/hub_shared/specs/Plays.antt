@@ -45,13 +45,18 @@ with_take group word need buf cells v = record (with_deed (Took group (word / 2 
 abbrev pub with_overflow : (group word need : ℕ) → Sight → Sight
 with_overflow group word need v = record (with_deed (Refused group (word / 2 ^ 32) (word % 2 ^ 32) need) v) { takes = v.takes - 1 }
 
+-- an exchange that won, by what it announced
+abbrev pub WinsTake : Step Note → SeatMe → SeatMe → Type 0
+WinsTake step m after = (need buf cells : ℕ) → step.said ≡ some (Takes need buf cells) → after ≡ (with_take step.word step.first need buf cells m.0, m.1)
+
+abbrev pub WinsOverflow : Step Note → SeatMe → SeatMe → Type 0
+WinsOverflow step m after = (need : ℕ) → step.said ≡ some (Refuses need) → after ≡ (with_overflow step.word step.first need m.0, m.1)
+
 abbrev pub taking : Step Note → SeatMe → ℕ → SeatMe → Type 0
-taking step m found after =
-    (found ≡ step.first → (need buf cells : ℕ) → step.said ≡ some (Takes need buf cells) → after ≡ (with_take step.word step.first need buf cells m.0, m.1)) × (found ≢ step.first → Lost step.word step.first found m after)
+taking step m found after = (found ≡ step.first → WinsTake step m after) × (found ≢ step.first → Lost step.word step.first found m after)
 
 abbrev pub refusing : Step Note → SeatMe → ℕ → SeatMe → Type 0
-refusing step m found after =
-    (found ≡ step.first → (need : ℕ) → step.said ≡ some (Refuses need) → after ≡ (with_overflow step.word step.first need m.0, m.1)) × (found ≢ step.first → Lost step.word step.first found m after)
+refusing step m found after = (found ≡ step.first → WinsOverflow step m after) × (found ≢ step.first → Lost step.word step.first found m after)
 
 -- a seat announced the part that it is to give
 abbrev pub announced : Step Note → SeatMe → ℕ → SeatMe → Type 0

@@ -1,5 +1,5 @@
 -- The rule of the shared words: they and the histories of all seats show a state of the plain machine.
-use Rattle.std.specs.Prelude.{◌≡◌, ℕ, ◌+◌, ◌/◌, ◌%◌, ◌^◌, ◌<◌, ◌≤◌, if◌then◌else◌, Bool, List, [], ◌∷◌, length, slice_index}
+use Rattle.std.specs.Prelude.{◌≡◌, ℕ, ◌+◌, ◌/◌, ◌%◌, ◌^◌, ◌<◌, ◌≤◌, if◌then◌else◌, Bool, List, [], ◌∷◌, length, get_or, slice_index}
 use mathlib.Core.Option.{some}
 use lib.ListN.{get_elem?}
 use Rattle.atomic_table.specs.Table.{State}
@@ -10,7 +10,7 @@ use Rattle.hub_core.specs.Joint.{IsQuiet}
 use Rattle.hub_core.specs.Journal.{replay}
 use Rattle.hub_core.specs.Plain.{pool_after}
 use Rattle.hub_core.specs.View.{View, Change, empty_view}
-use Rattle.pool_words.specs.Pools.{pool_of}
+use Rattle.pool_words.specs.Pools.{full_pool, pool_of}
 use Rattle.hub_shared.specs.History.{IsWhole, state_of}
 use Rattle.hub_shared.specs.Sights.{view_of, floors_at}
 use Rattle.hub_shared.specs.declared.sight.Hand.{Hand}
@@ -79,3 +79,7 @@ pub record Kept (groups : List (List ℕ)) (s : State Note Sight) : Type 0 where
   pub parts : total (λ v. v.parts) s.views ≡ 1024
   pub each : (id : ℕ) (v : Sight) → get_elem? s.views id ≡ some v → 0 < v.parts → Knows groups core v
   pub spent_is : (id : ℕ) (v : Sight) → get_elem? s.views id ≡ some v → v.parts ≡ 0 → v.entries ≡ []
+
+-- the pool words of groups of so many buffers, all of them free
+abbrev pub AreWhole : (counts words : List ℕ) → Type 0
+AreWhole counts words = (group : ℕ) → group < length counts → pool_of (get_or words group 0) ≡ full_pool (get_or counts group 0)

@@ -1,7 +1,8 @@
 -- A seat and a port as a contract sees them.
-use Rattle.std.specs.Prelude.{◌≡◌, ℕ, List}
+use Rattle.std.specs.Prelude.{◌≡◌, ℕ, ◌/◌, ◌%◌, ◌^◌, ◌<◌, List, length, get_or}
 use Rattle.atomic_table.specs.Seated.{TableId}
-use Rattle.hub_core.specs.Groups.{grouped}
+use Rattle.hub_core.specs.Floors.{floors_of}
+use Rattle.hub_core.specs.Groups.{grouped, IsWordOf}
 use Rattle.hub_core.specs.Parts.{Part}
 use Rattle.hub_core.specs.Stays.{PortState}
 use Rattle.hub_core.specs.View.{View}
@@ -33,7 +34,26 @@ parts_of seat = seat.seat.me.0.parts
 abbrev pub as_port : HubSeat → PortState (TableId × ℕ)
 as_port seat = record {
   view = seat_view seat;
-  means = record { groups = seat.seat.me.0.groups; takes = seat.seat.me.0.takes; spare = 9000000; writes = (seat_part seat).writes; reads = (seat_part seat).reads; most = 8 };
+  means = record {
+    groups = seat.seat.me.0.groups;
+    takes = seat.seat.me.0.takes;
+    spare = 9000000;
+    writes = (seat_part seat).writes;
+    reads = (seat_part seat).reads;
+    most = 8;
+  };
   floors = floors_at seat.seat.me.0;
   home = (seat.seat.table_id, parts_of seat);
 }
+
+-- a group's pool word is the one of all its changes in a view
+abbrev pub IsWordAt : SharedHub → (group : ℕ) → View → (word : ℕ) → Type 0
+IsWordAt hub group v word = IsWordOf (groups_of hub) group v (word / 2 ^ 32) (word % 2 ^ 32)
+
+-- no look of the seat falls behind what a view has
+abbrev pub HasFloors : SharedHub → HubSeat → View → Type 0
+HasFloors hub seat v = (as_port seat).floors ≡ floors_of (groups_of hub) v
+
+-- so are the words of all groups, in order
+abbrev pub AreWordsAt : SharedHub → View → List ℕ → Type 0
+AreWordsAt hub v words = (group : ℕ) → group < length (groups_of hub) → IsWordAt hub group v (get_or words group 0)

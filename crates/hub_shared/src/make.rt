@@ -1,15 +1,15 @@
 //! A hub is made, and its seats are divided and joined.
-ghost use Rattle.std.specs.Prelude.{◌≡◌, ◌≢◌, ℕ, ◌+◌, ◌-◌, ◌/◌, ◌%◌, ◌^◌, ◌<◌, ◌≤◌, true, length, get_or, sum, All, IfOk};
-ghost use Rattle.hub_core.specs.Groups.{grouped, IsWordOf};
+ghost use Rattle.std.specs.Prelude.{◌≡◌, ◌+◌, ◌<◌, ◌≤◌, length, All, IfOk};
+ghost use Rattle.hub_core.specs.Groups.{grouped};
 ghost use Rattle.hub_core.specs.Joint.{Joint};
-ghost use Rattle.hub_core.specs.Floors.{floors_of};
 ghost use Rattle.hub_core.specs.Parts.{both, given, kept};
 ghost use Rattle.hub_core.specs.View.{empty_view};
 ghost use Rattle.hub_layout.specs.Places.{words_in};
 ghost use Rattle.hub_layout.specs.Pool.{IsPool};
-ghost use Rattle.pool_words.specs.Pools.{full_pool, pool_of};
 ghost use Rattle.hub_shared.specs.History.{everyone, part_of, without, within, united};
-ghost use Rattle.hub_shared.specs.Seats.{IsSeatOf, groups_of, seat_view, seat_part, parts_of, as_port};
+ghost use Rattle.hub_shared.specs.Rule.{AreWhole};
+ghost use Rattle.hub_shared.specs.Seats.{IsSeatOf, IsWordAt, AreWordsAt, HasFloors};
+ghost use Rattle.hub_shared.specs.Seats.{groups_of, seat_view, seat_part, parts_of, as_port};
 
 use crate::plays::{Announce, Buffers, ByPart, Learn};
 use crate::sight::Note;
@@ -30,7 +30,7 @@ fn first_words(alloc: Global, layout: &Layout, counts: &[u8]) -> Result<Vec<u64>
     requires few { layout.now.groups ≤ 4 }
     requires groups { All (λ count. (1 ≤ count) × (count ≤ 32)) counts.now }
     ensures all { IfOk result (λ words. length words.items ≡ words_in layout.now.groups layout.now.cells) }
-    ensures pools { IfOk result (λ words. (group : ℕ) → group < length counts.now → pool_of (get_or words.items group 0) ≡ full_pool (get_or counts.now group 0)) }
+    ensures pools { IfOk result (λ words. AreWhole counts.now words.items) }
 {
     let mut words = vec![in alloc; 0; layout.words()]?;
     for group in 0..counts.len() {
@@ -41,8 +41,8 @@ fn first_words(alloc: Global, layout: &Layout, counts: &[u8]) -> Result<Vec<u64>
 }
 
 impl SharedHub {
-    /// A hub of 1 to 4 groups of 1 to 32 buffers, each buffer of 1 to 8192 cells and free, and the seat that acts for all
-    /// parties and has 8,000,000 takes. `cells` is the cells of each buffer, group after group, and `counts` how many
+    /// A hub of 1 to 4 groups of 1 to 32 buffers, each buffer of 1 to 8192 cells and free, and the seat that acts for
+    /// all parties and has 8,000,000 takes. `cells` is the cells of each buffer, group after group, and `counts` how many
     /// buffers each group has. It takes no memory later. `Memory` where a growth was refused.
     pub fn new(alloc: Global, cells: &[u32], counts: &[u8]) -> Result<(SharedHub, HubSeat), Memory>
         requires { IsPool cells.now counts.now }
@@ -83,10 +83,13 @@ impl SharedHub {
         ensures seats { IsSeatOf self.now seat.new × IsSeatOf self.now result }
         ensures kept { seat_view seat.new ≡ kept (part_of part.now) (seat_view seat.old) }
         ensures given { seat_view result ≡ given (part_of part.now) (seat_view seat.old) }
-        ensures parties { (seat_part seat.new ≡ without (part_of part.now) (seat_part seat.old)) × (seat_part result ≡ within (part_of part.now) (seat_part seat.old)) }
-        ensures takes { ((as_port seat.new).means.takes + part.now.takes ≡ (as_port seat.old).means.takes) × ((as_port result).means.takes ≡ part.now.takes) }
+        ensures kept_part { seat_part seat.new ≡ without (part_of part.now) (seat_part seat.old) }
+        ensures given_part { seat_part result ≡ within (part_of part.now) (seat_part seat.old) }
+        ensures kept_takes { (as_port seat.new).means.takes + part.now.takes ≡ (as_port seat.old).means.takes }
+        ensures given_takes { (as_port result).means.takes ≡ part.now.takes }
         ensures parts { (parts_of seat.new + 1 ≡ parts_of seat.old) × (parts_of result ≡ 1) }
-        ensures floors { ((as_port seat.new).floors ≡ floors_of (groups_of self.now) (seat_view seat.old)) × ((as_port result).floors ≡ floors_of (groups_of self.now) (seat_view seat.old)) }
+        ensures kept_floors { HasFloors self.now seat.new (seat_view seat.old) }
+        ensures given_floors { HasFloors self.now result (seat_view seat.old) }
     {
         let shared = &self.table.shared;
         let note = Note::Parts(*part);
@@ -126,7 +129,7 @@ impl SharedHub {
         requires seat { IsSeatOf self.now seat.old }
         requires group { group.0 < length (groups_of self.now) }
         ensures same { IsSeatOf self.now seat.new × (as_port seat.new ≡ as_port seat.old) }
-        ensures word { parts_of seat.old ≡ 1024 → IsWordOf (groups_of self.now) group.0 (seat_view seat.old) (result / 2 ^ 32) (result % 2 ^ 32) }
+        ensures word { parts_of seat.old ≡ 1024 → IsWordAt self.now group.0 (seat_view seat.old) result }
         ensures joint { parts_of seat.old ≡ 1024 → Joint (groups_of self.now) (seat_view seat.old) }
     {
         let at = self.layout.pool(group);
@@ -135,13 +138,13 @@ impl SharedHub {
 }
 
 impl SharedHub {
-    /// The last pool word of each group, once the other seats were joined: all that was done is what the seat did, and it
-    /// is joint.
+    /// The last pool word of each group, once the other seats were joined: all that was done is what the seat did, and
+    /// it is joint.
     pub fn close(self, mut seat: HubSeat) -> ArrayVec<u64, 4>
         requires seat { IsSeatOf self seat }
         requires joined { parts_of seat ≡ 1024 }
         ensures all { length result.items ≡ length (groups_of self) }
-        ensures words { (group : ℕ) → group < length (groups_of self) → IsWordOf (groups_of self) group (seat_view seat) (get_or result.items group 0 / 2 ^ 32) (get_or result.items group 0 % 2 ^ 32) }
+        ensures words { AreWordsAt self (seat_view seat) result.items }
         ensures joint { Joint (groups_of self) (seat_view seat) }
     {
         let mut words = ArrayVec::new();

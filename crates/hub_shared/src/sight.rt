@@ -3,8 +3,8 @@ use crate::HubPart;
 use hub_core::Deed;
 use std::collections::LinkedList;
 
-/// An item of a seat's history. Where a seat takes in another one, the other's history comes after its own, and then the
-/// word that says so.
+/// An item of a seat's history. Where a seat takes in another one, the other's history comes after its own, and then
+/// the word that says so.
 pub enum Entry {
     /// The first seat of a hub begins with nothing done.
     Begun,

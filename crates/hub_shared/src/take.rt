@@ -26,7 +26,8 @@ impl SharedHub {
         (first, first + usize::from(self.buffers.counts[group]))
     }
 
-    /// Takes the buffer at that place of the group, as the word is that was seen; `Err` with the word where it is another.
+    /// Takes the buffer at that place of the group, as the word is that was seen; `Err` with the word where it is
+    /// another.
     fn grant(
         &self,
         seat: &mut Seat<Note, Sight>,

@@ -1,5 +1,5 @@
-//! Takes over a shared hub by ports in threads of their own; they stand in a crate of their own, so that the hub is proved
-//! once.
+//! Takes over a shared hub by ports in threads of their own; they stand in a crate of their own, so that the hub is
+//! proved once.
 #![tactic(auto)]
 
 mod takers;

@@ -1,8 +1,8 @@
 //! Seats that take in threads of their own.
-ghost use Rattle.std.specs.Prelude.{◌≡◌, ◌+◌, ◌<◌, ◌≤◌, length, IfOk};
+ghost use Rattle.std.specs.Prelude.{◌≡◌, ◌≤◌};
 ghost use Rattle.std.specs.Thread.{IsSync};
 ghost use Rattle.hub_layout.specs.Pool.{IsPool};
-ghost use Rattle.hub_shared.specs.Seats.{IsSeatOf, as_port, groups_of, parts_of};
+ghost use Rattle.hub_shared_tests.specs.Takers.{CanTake, IsAgain};
 
 use gw_base::{GroupNo, Memory};
 use hub_core::Take;
@@ -20,11 +20,8 @@ pub struct Outcome {
 
 /// Takes of one cell from the first group, so often; and how many were granted.
 fn take_often(hub: &SharedHub, seat: HubSeat, times: u32) -> (HubSeat, u32)
-    requires seat { IsSeatOf hub.now seat }
-    requires group { 0 < length (groups_of hub.now) }
-    requires takes { times ≤ (as_port seat).means.takes }
-    ensures seat { IsSeatOf hub.now result.0 }
-    ensures parts { parts_of result.0 ≡ parts_of seat }
+    requires { CanTake hub.now seat times }
+    ensures { IsAgain hub.now result.0 seat }
 {
     let mut port = SharedPort::new(hub, seat);
     let mut granted = 0;
@@ -55,21 +52,20 @@ fn take_in_two<R: Threads + Sync>(
     other: HubSeat,
     times: u32,
 ) -> ((HubSeat, u32), (HubSeat, u32))
-    requires seat { IsSeatOf hub.now seat × (times ≤ (as_port seat).means.takes) }
-    requires other { IsSeatOf hub.now other × (times ≤ (as_port other).means.takes) }
-    requires group { 0 < length (groups_of hub.now) }
-    ensures seats { IsSeatOf hub.now result.0.0 × IsSeatOf hub.now result.1.0 }
-    ensures parts { (parts_of result.0.0 ≡ parts_of seat) × (parts_of result.1.0 ≡ parts_of other) }
+    requires seat { CanTake hub.now seat times }
+    requires other { CanTake hub.now other times }
+    ensures seat { IsAgain hub.now result.0.0 seat }
+    ensures other { IsAgain hub.now result.1.0 other }
 {
     thread::join(
         rt,
         move ||
-            requires { IsSeatOf hub.now seat × (times ≤ (as_port seat).means.takes) × (0 < length (groups_of hub.now)) }
-            ensures { IsSeatOf hub.entry.now result.0 × (parts_of result.0 ≡ parts_of seat) }
+            requires { CanTake hub.now seat times }
+            ensures { IsAgain hub.entry.now result.0 seat }
         { take_often(hub, seat, times) },
         move ||
-            requires { IsSeatOf hub.now other × (times ≤ (as_port other).means.takes) × (0 < length (groups_of hub.now)) }
-            ensures { IsSeatOf hub.entry.now result.0 × (parts_of result.0 ≡ parts_of other) }
+            requires { CanTake hub.now other times }
+            ensures { IsAgain hub.entry.now result.0 other }
         { take_often(hub, other, times) },
     )
 }
@@ -116,12 +112,12 @@ pub fn four_takers<R: Threads + Sync>(
     let (((mut seat, first), (b, second)), ((c, third), (d, fourth))) = thread::join(
         rt,
         move ||
-            requires { IsSync R.row × IsSeatOf line.now seat × (times ≤ (as_port seat).means.takes) × IsSeatOf line.now b × (times ≤ (as_port b).means.takes) × (0 < length (groups_of line.now)) }
-            ensures { IsSeatOf line.entry.now result.0.0 × IsSeatOf line.entry.now result.1.0 × (parts_of result.0.0 ≡ parts_of seat) × (parts_of result.1.0 ≡ parts_of b) }
+            requires { IsSync R.row × CanTake line.now seat times × CanTake line.now b times }
+            ensures { IsAgain line.entry.now result.0.0 seat × IsAgain line.entry.now result.1.0 b }
         { take_in_two(rt, line, seat, b, times) },
         move ||
-            requires { IsSync R.row × IsSeatOf line.now c × (times ≤ (as_port c).means.takes) × IsSeatOf line.now d × (times ≤ (as_port d).means.takes) × (0 < length (groups_of line.now)) }
-            ensures { IsSeatOf line.entry.now result.0.0 × IsSeatOf line.entry.now result.1.0 × (parts_of result.0.0 ≡ parts_of c) × (parts_of result.1.0 ≡ parts_of d) }
+            requires { IsSync R.row × CanTake line.now c times × CanTake line.now d times }
+            ensures { IsAgain line.entry.now result.0.0 c × IsAgain line.entry.now result.1.0 d }
         { take_in_two(rt, line, c, d, times) },
     );
     hub.join(&mut seat, b);

@@ -62,12 +62,15 @@ returns-clause-given c =
     let told = c.compare_exchange_with.ensures.2 c.args.part.now refl in
     ap (λ m. view_of m.0) c.split_seat-other.ensures.4 ∙ ap (λ m. view_of (given_sight m.0)) told ∙ ap (λ s. s.view) (goes-given c.args.part.now c.args.seat.now.seat.me.0.entries c.args.seat.now.whole).is
 
-pub returns-clause-parties : goal.returns-clause-parties
-returns-clause-parties c =
-    let told = c.compare_exchange_with.ensures.2 c.args.part.now refl in (
-      ap (λ m. (state_of m.0.entries).part) c.split_seat-other.ensures.2 ∙ ap (λ m. (state_of (kept_sight m.0).entries).part) told ∙ ap (λ s. s.part) (goes-kept c.args.part.now c.args.seat.now.seat.me.0.entries c.args.seat.now.whole).is,
-      ap (λ m. (state_of m.0.entries).part) c.split_seat-other.ensures.4 ∙ ap (λ m. (state_of (given_sight m.0).entries).part) told ∙ ap (λ s. s.part) (goes-given c.args.part.now c.args.seat.now.seat.me.0.entries c.args.seat.now.whole).is,
-    )
+pub returns-clause-kept_part : goal.returns-clause-kept_part
+returns-clause-kept_part c =
+    let told = c.compare_exchange_with.ensures.2 c.args.part.now refl in
+    ap (λ m. (state_of m.0.entries).part) c.split_seat-other.ensures.2 ∙ ap (λ m. (state_of (kept_sight m.0).entries).part) told ∙ ap (λ s. s.part) (goes-kept c.args.part.now c.args.seat.now.seat.me.0.entries c.args.seat.now.whole).is
+
+pub returns-clause-given_part : goal.returns-clause-given_part
+returns-clause-given_part c =
+    let told = c.compare_exchange_with.ensures.2 c.args.part.now refl in
+    ap (λ m. (state_of m.0.entries).part) c.split_seat-other.ensures.4 ∙ ap (λ m. (state_of (given_sight m.0).entries).part) told ∙ ap (λ s. s.part) (goes-given c.args.part.now c.args.seat.now.seat.me.0.entries c.args.seat.now.whole).is
 
 pub returns-clause-parts : goal.returns-clause-parts
 returns-clause-parts c =
@@ -76,10 +79,12 @@ returns-clause-parts c =
     let theirs = ap (λ m. m.0.parts) c.split_seat-other.ensures.4 ∙ ap (λ m. (given_sight m.0).parts) told in
     (omega (arith, c.requires.parts, mine), theirs)
 
-pub returns-clause-floors : goal.returns-clause-floors
-returns-clause-floors c =
+pub returns-clause-kept_floors : goal.returns-clause-kept_floors
+returns-clause-kept_floors c =
     let told = c.compare_exchange_with.ensures.2 c.args.part.now refl in
-    let groups = ap (λ g. floors_of g (view_of c.args.seat.now.seat.me.0)) c.requires.seat.groups_are in (
-      ap (λ m. floors_at m.0) c.split_seat-other.ensures.2 ∙ ap (λ m. floors_at (kept_sight m.0)) told ∙ groups,
-      ap (λ m. floors_at m.0) c.split_seat-other.ensures.4 ∙ ap (λ m. floors_at (given_sight m.0)) told ∙ groups,
-    )
+    ap (λ m. floors_at m.0) c.split_seat-other.ensures.2 ∙ ap (λ m. floors_at (kept_sight m.0)) told ∙ ap (λ g. floors_of g (view_of c.args.seat.now.seat.me.0)) c.requires.seat.groups_are
+
+pub returns-clause-given_floors : goal.returns-clause-given_floors
+returns-clause-given_floors c =
+    let told = c.compare_exchange_with.ensures.2 c.args.part.now refl in
+    ap (λ m. floors_at m.0) c.split_seat-other.ensures.4 ∙ ap (λ m. floors_at (given_sight m.0)) told ∙ ap (λ g. floors_of g (view_of c.args.seat.now.seat.me.0)) c.requires.seat.groups_are

@@ -7,12 +7,13 @@ use Rattle.hub_core.proofs.Led.{led-opening}
 use Rattle.hub_core.proofs.Pools.{AreWords}
 use Rattle.hub_core.proofs.Starts.{few-words}
 use Rattle.hub_core.specs.Groups.{grouped}
-use Rattle.hub_core.specs.Plain.{IsShown, full_pool, start_of, reserved, taken}
+use Rattle.hub_core.specs.Plain.{IsShown, start_of, reserved, taken}
+use Rattle.pool_words.specs.Pools.{full_pool}
 use Rattle.hub_core.specs.View.{View, empty_view}
 use Rattle.hub_core.specs.declared.place.Place.{Place}
 use Rattle.hub_core.specs.declared.place.Place.TheVariants.{Free, Occupied}
 use Rattle.hub_core.specs.declared.place.Row.{Row}
-use Rattle.hub_core.specs.declared.pool.Pool.{Pool}
+use Rattle.pool_words.specs.declared.pool.Pool.{Pool}
 
 none-there : (n k : ℕ) (row : Row) → slice_get (replicate n Free) k ≡ Some (Occupied row) → ⊥
 none-there zero k row is = absurd cc

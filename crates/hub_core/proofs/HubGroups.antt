@@ -4,9 +4,9 @@ use Rattle.std.specs.Prelude.{slice_get, slice_index, get_or}
 use Rattle.std.proofs.lemmas.List.{length-take}
 use Rattle.std.proofs.lemmas.Option.{get_or_from_slice_get, slice_get_within}
 use Rattle.std.specs.Vec.{vec_len}
-use Rattle.gw_base.proofs.Lists.{there-at}
 use Rattle.gw_base.specs.Fit.{IsSmallest}
-use Rattle.hub_core.proofs.Cut.{all-cut, groups-cut, group-cut, count-cut, buffer-cut, IsThere, there-cut, few-buffers, size-in, last-within, part-get, all-there}
+use Rattle.hub_core.proofs.Cut.{all-cut, groups-cut, count-cut, buffer-cut, IsThere, there-cut, few-buffers, part-get}
+use Rattle.hub_core.proofs.GroupReads.{is-buffer, read-cells, few-in, read-count, within-cells, buffer-by}
 use Rattle.hub_core.proofs.Leaving.{pool_freed}
 use Rattle.hub_core.proofs.Ledger.{order, session-size}
 use Rattle.hub_core.proofs.Pools.{fewer-changes}
@@ -22,7 +22,7 @@ use Rattle.hub_core.specs.declared.place.Place.{Place}
 use Rattle.hub_core.specs.declared.place.Place.TheVariants.{Occupied}
 use Rattle.hub_core.specs.declared.place.Row.{Row}
 use Rattle.hub_core.specs.declared.plain.PlainHub.{PlainHub}
-use Rattle.hub_core.specs.declared.pool.Pool.{Pool}
+use Rattle.pool_words.specs.declared.pool.Pool.{Pool}
 
 module _ (hub : PlainHub) where
   abbrev v : View
@@ -61,53 +61,28 @@ module _ (hub : PlainHub) where
   pub hub-order : (group : ℕ) → AreInOrder (changes_in groups group v)
   hub-order = order groups v hub.shown.led
 
-  -- a group's buffers
-  pub group-sizes : (group : ℕ) → group < length groups → sizes_of groups group ≡ take (length (sizes_of groups group)) (drop (first_of hub.counts.items group) hub.sizes.items)
-  group-sizes group there =
-      let low : group < length hub.counts.items = omega (arith, there, hub-groups) in
-      group-cut hub.counts.items hub.sizes.items group low ∙ ap (λ (n : ℕ). take n (drop (first_of hub.counts.items group) hub.sizes.items)) (sym (count-cut hub.counts.items hub.sizes.items group low hub.laid.all))
-
-  pub buffer-in : (group place : ℕ) → group < length groups → place < length (sizes_of groups group) → (group_of groups (first_of hub.counts.items group + place) ≡ group) × (place_of groups (first_of hub.counts.items group + place) ≡ place)
-  buffer-in group place there below =
-      let low : group < length hub.counts.items = omega (arith, there, hub-groups) in
-      buffer-cut hub.counts.items hub.sizes.items group place (omega (arith, hub.laid.all)) (omega (arith, below, count-cut hub.counts.items hub.sizes.items group low hub.laid.all))
-
+  -- a group's buffers, and what the code reads of them
   pub buffer-of : (group buf size : ℕ) → group_of groups buf ≡ group → slice_get hub.sizes.items buf ≡ Some size → IsBufferOf groups group buf size
-  buffer-of group buf size its is =
-      (its, ap (λ (g : ℕ). slice_get (sizes_of groups g) (place_of groups buf)) (sym its) ∙ size-in groups buf ∙ ap (λ (l : List ℕ). slice_get l buf) hub-sizes ∙ is)
+  buffer-of = is-buffer hub.counts.items hub.sizes.items hub.laid.groups.1 hub.laid.buffers hub.laid.all
 
-  -- what the code reads of a group's buffers, and the take of one of them
   pub sizes-read : (group first last : ℕ) (items : List ℕ) → group < length groups → first ≡ first_of hub.counts.items group → last ≡ first + length (sizes_of groups group) → items ≡ hub.sizes.items →
       take (last - first) (drop first items) ≡ sizes_of groups group
-  sizes-read group first last items there begin end same =
-      let long : last - first ≡ length (sizes_of groups group) = omega (arith, end) in
-      (λ i. take (long i) (drop (begin i) (same i))) ∙ sym (group-sizes group there)
+  sizes-read = read-cells hub.counts.items hub.sizes.items hub.laid.groups.1 hub.laid.buffers hub.laid.all
 
   pub group-few : (group : ℕ) → group < length groups → length (sizes_of groups group) ≤ 32
-  group-few group there =
-      let low : group < length hub.counts.items = omega (arith, there, hub-groups) in
-      let item = there-at hub.counts.items group low in
-      omega (arith, (all-there (λ n. (1 ≤ n) × (n ≤ 32)) hub.counts.items group item.0 hub.laid.buffers item.1).1, get_or_from_slice_get hub.counts.items group item.0 0 item.1, count-cut hub.counts.items hub.sizes.items group low hub.laid.all)
+  group-few = few-in hub.counts.items hub.sizes.items hub.laid.groups.1 hub.laid.buffers hub.laid.all
 
   pub count-read : (group i count : ℕ) → group < length groups → i ≡ group → count ≡ get_or hub.counts.items i count → count ≡ length (sizes_of groups group)
-  count-read group i count there same read =
-      let low : group < length hub.counts.items = omega (arith, there, hub-groups) in
-      let item = there-at hub.counts.items group low in
-      read ∙ get_or_from_slice_get hub.counts.items i item.0 count (ap (slice_get hub.counts.items) same ∙ item.1) ∙ sym (get_or_from_slice_get hub.counts.items group item.0 0 item.1) ∙ sym (count-cut hub.counts.items hub.sizes.items group low hub.laid.all)
+  count-read = read-count hub.counts.items hub.sizes.items hub.laid.groups.1 hub.laid.buffers hub.laid.all
 
   pub count-at : (group i : ℕ) → group < length groups → i ≡ group → i < vec_len hub.counts
   count-at group i there same = omega (arith, there, hub-groups, same, hub.counts.ok.0)
 
   pub group-within : (group : ℕ) → group < length groups → first_of hub.counts.items group + length (sizes_of groups group) ≤ length hub.sizes.items
-  group-within group there =
-      let low : group < length hub.counts.items = omega (arith, there, hub-groups) in
-      omega (arith, count-cut hub.counts.items hub.sizes.items group low hub.laid.all, last-within hub.counts.items hub.sizes.items group low hub.laid.all)
+  group-within = within-cells hub.counts.items hub.sizes.items hub.laid.groups.1 hub.laid.buffers hub.laid.all
 
-  -- a buffer of a group, by the group's first one
   pub buffer-from : (group first place : ℕ) → group < length groups → first ≡ first_of hub.counts.items group → place < length (sizes_of groups group) → (group_of groups (first + place) ≡ group) × (place_of groups (first + place) ≡ place)
-  buffer-from group first place there begin below =
-      let its = buffer-in group place there below in
-      (ap (λ (f : ℕ). group_of groups (f + place)) begin ∙ its.0, ap (λ (f : ℕ). place_of groups (f + place)) begin ∙ its.1)
+  buffer-from = buffer-by hub.counts.items hub.sizes.items hub.laid.groups.1 hub.laid.buffers hub.laid.all
 
   pub take-may : (group first place number size need : ℕ) (pool : Pool) → group < length groups → first ≡ first_of hub.counts.items group → pool ≡ pool_after groups group v.changes → IsSmallest (sizes_of groups group) pool.free need place →
       slice_get hub.sizes.items (first + place) ≡ Some size → number ≡ pool.changes + 1 → MayTake groups v group number (first + place) size need

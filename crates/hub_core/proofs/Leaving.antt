@@ -28,7 +28,7 @@ use Rattle.hub_core.specs.View.{View, Change, Freed, Taking, Session, Reading, E
 use Rattle.hub_core.specs.declared.place.Place.{Place}
 use Rattle.hub_core.specs.declared.place.Place.TheVariants.{Free, Occupied}
 use Rattle.hub_core.specs.declared.place.Row.{Row}
-use Rattle.hub_core.specs.declared.pool.Pool.{Pool}
+use Rattle.pool_words.specs.declared.pool.Pool.{Pool}
 use Rattle.hub_core.specs.declared.port.Left.{Left}
 use Rattle.hub_core.specs.declared.port.Left.TheVariants.{Others, Last}
 use Rattle.hub_core.specs.declared.token.End.{End}

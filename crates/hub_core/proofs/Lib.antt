@@ -1,8 +1,8 @@
 mod Beginnings
-mod Bits
-mod Cut
-mod EveryStep
-mod Grouped
+pub mod Cut
+pub mod EveryStep
+pub mod Grouped
+pub mod GroupReads
 mod Kept
 pub mod HubGroups
 mod Leaving
@@ -11,7 +11,7 @@ mod Looks
 mod Merging
 mod Owning
 mod Places
-mod Pools
+pub mod Pools
 pub mod Quiet
 mod Rows
 mod Scans

@@ -9,7 +9,7 @@ use Rattle.std.specs.Prelude.{IsBitSet, ◌==◌, slice_get}
 use Rattle.gw_base.proofs.Lists.{same-some, there-at}
 use Rattle.hub_core.specs.Journal.{CountsFrom, AreInOrder, number_of, numbered, moved, replay, IsLawful, IsOverflow, changed_buf, ChangesBuf}
 use Rattle.hub_core.specs.View.{Change, Taken, Freed, Refusal}
-use Rattle.hub_core.proofs.Bits.{take-clears, take-leaves, free-leaves}
+use Rattle.pool_words.proofs.Bits.{take-clears, take-leaves, free-leaves}
 
 -- a change is found by its number, and has it
 pub numbered-number : (changes : List Change) (n : ℕ) (d : Change) → numbered changes n ≡ Some d → number_of d ≡ n

@@ -1,5 +1,5 @@
 -- The pool words of all groups, as one more change comes to one of them.
-use Rattle.std.proofs.Common.{◌≡◌, ℕ, ◌+◌, ◌<◌, ◌≤◌, inl, inr, suc, List, [], ◌∷◌, ◌++◌, length, Option, Some, ap, sym, ◌∙◌, arith, length-append}
+use Rattle.std.proofs.Common.{◌≡◌, ◌≢◌, ℕ, ◌+◌, ◌<◌, ◌≤◌, inl, inr, suc, List, [], ◌∷◌, ◌++◌, length, Option, Some, ap, sym, ◌∙◌, arith, length-append}
 use Rattle.std.proofs.lemmas.Bool.Decides.{eqb_tells}
 use Rattle.std.proofs.lemmas.Option.{slice_get_within}
 use Rattle.std.specs.Prelude.{if◌then◌else◌, slice_get, slice_set}
@@ -10,7 +10,7 @@ use Rattle.hub_core.specs.Groups.{group_of, sizes_of, in_group, journal_of}
 use Rattle.hub_core.specs.Journal.{AreInOrder, number_of, replay, moved, numbered, changed_buf}
 use Rattle.hub_core.specs.Plain.{pool_after}
 use Rattle.hub_core.specs.View.{Change}
-use Rattle.hub_core.specs.declared.pool.Pool.{Pool}
+use Rattle.pool_words.specs.declared.pool.Pool.{Pool}
 
 -- the free set after one more change
 free-pushed : (sizes : List ℕ) (changes : List Change) (c : Change) → AreInOrder changes → number_of c ≡ length changes + 1 → replay sizes (changes ++ c ∷ []) (length (changes ++ c ∷ [])) ≡ moved (Some c) (replay sizes changes (length changes))
@@ -29,18 +29,10 @@ AreWords groups pools changes = (group : ℕ) → group < length groups → slic
 abbrev pub pool_next : List (List ℕ) → (group : ℕ) → List Change → Change → Pool
 pool_next groups group changes c = record { changes = number_of c; free = moved (Some (in_group groups c)) (pool_after groups group changes).free }
 
-pub words-pushed : (groups : List (List ℕ)) (group : ℕ) (pools more : List Pool) (changes : List Change) (c : Change) → AreWords groups pools changes → AreInOrder (journal_of groups group changes) → group_of groups (changed_buf c) ≡ group →
-    number_of c ≡ length (journal_of groups group changes) + 1 → more ≡ slice_set pools group (pool_next groups group changes c) → AreWords groups more (changes ++ c ∷ [])
-words-pushed groups group pools more changes c words order its next set g below = ap (λ (l : List Pool). slice_get l g) set ∙ elim (eqb_tells g group) [
-  | inl same ↦
-      ap (slice_get (slice_set pools group (pool_next groups group changes c))) same.1
-      ∙ set-here pools group (pool_next groups group changes c) (slice_get_within pools group _ (words group (omega (arith, below, same.1))))
-      ∙ ap (λ (x : ℕ × ℕ). Some (let pool : Pool = record { changes = x.0; free = x.1 } in pool)) (λ i. (sym count i, sym free i))
-      ∙ ap (λ (x : ℕ). Some (pool_after groups x (changes ++ c ∷ []))) (sym same.1)
-  | inr other ↦
-      set-else pools group g (pool_next groups group changes c) other.1 ∙ words g below
-      ∙ ap (λ (l : List Change). Some (let pool : Pool = record { changes = length l; free = replay (sizes_of groups g) l (length l) } in pool)) (sym (pushed-else groups g changes c (λ same. other.1 (sym same ∙ its))))
-]
+-- one more change makes that word of its group's, and leaves the others
+pub pool-pushed : (groups : List (List ℕ)) (group : ℕ) (changes : List Change) (c : Change) → AreInOrder (journal_of groups group changes) → group_of groups (changed_buf c) ≡ group → number_of c ≡ length (journal_of groups group changes) + 1 →
+    pool_after groups group (changes ++ c ∷ []) ≡ pool_next groups group changes c
+pool-pushed groups group changes c order its next = ap (λ (x : ℕ × ℕ). let pool : Pool = record { changes = x.0; free = x.1 } in pool) (λ i. (count i, free i))
   where
     mine : List Change
     mine = journal_of groups group changes
@@ -56,6 +48,21 @@ words-pushed groups group pools more changes c words order its next set g below 
 
     free : (pool_after groups group (changes ++ c ∷ [])).free ≡ moved (Some (in_group groups c)) (pool_after groups group changes).free
     free = ap (λ (l : List Change). replay (sizes_of groups group) l (length l)) grown ∙ free-pushed (sizes_of groups group) mine (in_group groups c) order number
+
+pub pool-beside : (groups : List (List ℕ)) (group g : ℕ) (changes : List Change) (c : Change) → group_of groups (changed_buf c) ≡ group → g ≢ group → pool_after groups g (changes ++ c ∷ []) ≡ pool_after groups g changes
+pool-beside groups group g changes c its other =
+    ap (λ (l : List Change). let pool : Pool = record { changes = length l; free = replay (sizes_of groups g) l (length l) } in pool) (pushed-else groups g changes c (λ same. other (sym same ∙ its)))
+
+pub words-pushed : (groups : List (List ℕ)) (group : ℕ) (pools more : List Pool) (changes : List Change) (c : Change) → AreWords groups pools changes → AreInOrder (journal_of groups group changes) → group_of groups (changed_buf c) ≡ group →
+    number_of c ≡ length (journal_of groups group changes) + 1 → more ≡ slice_set pools group (pool_next groups group changes c) → AreWords groups more (changes ++ c ∷ [])
+words-pushed groups group pools more changes c words order its next set g below = ap (λ (l : List Pool). slice_get l g) set ∙ elim (eqb_tells g group) [
+  | inl same ↦
+      ap (slice_get (slice_set pools group (pool_next groups group changes c))) same.1
+      ∙ set-here pools group (pool_next groups group changes c) (slice_get_within pools group _ (words group (omega (arith, below, same.1))))
+      ∙ ap Some (sym (pool-pushed groups group changes c order its next))
+      ∙ ap (λ (x : ℕ). Some (pool_after groups x (changes ++ c ∷ []))) (sym same.1)
+  | inr other ↦ set-else pools group g (pool_next groups group changes c) other.1 ∙ words g below ∙ ap Some (sym (pool-beside groups group g changes c its other.1))
+]
 
 -- a group has no more changes than all have
 pub fewer-changes : (groups : List (List ℕ)) (group : ℕ) (changes : List Change) → length (journal_of groups group changes) ≤ length changes

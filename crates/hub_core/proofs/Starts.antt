@@ -20,7 +20,7 @@ use Rattle.hub_core.specs.Plain.{IsShown, start_of, session_in, ShowWords}
 use Rattle.hub_core.specs.Tokens.{Writes}
 use Rattle.hub_core.specs.View.{View, Session, session_at, grow, Put}
 use Rattle.hub_core.specs.declared.place.Place.{Place}
-use Rattle.hub_core.specs.declared.pool.Pool.{Pool}
+use Rattle.pool_words.specs.declared.pool.Pool.{Pool}
 use Rattle.hub_core.specs.declared.token.Opened.{Opened}
 
 start-suc : (size : ℕ) (sizes : List ℕ) (buf : ℕ) → start_of (size ∷ sizes) (suc buf) ≡ size + start_of sizes buf

@@ -19,7 +19,7 @@ use Rattle.hub_core.specs.View.{View, Change, Taken, Taking, Session, Reading, a
 use Rattle.hub_core.specs.declared.place.Place.{Place}
 use Rattle.hub_core.specs.declared.place.Place.TheVariants.{Free, Reserved, Occupied}
 use Rattle.hub_core.specs.declared.place.Row.{Row}
-use Rattle.hub_core.specs.declared.pool.Pool.{Pool}
+use Rattle.pool_words.specs.declared.pool.Pool.{Pool}
 
 -- the buffer is held then
 pub held-took : (group number buf size need : ℕ) (v w : View) → w ≡ grow (Took group number buf size need) v → w.held buf ≡ Some (record { number = number; size = size })

@@ -1,5 +1,5 @@
 -- The plain hub: how its words, places and numbers show what was done with it.
-use Rattle.std.specs.Prelude.{◌≡◌, ℕ, ◌+◌, ◌-◌, ◌*◌, ◌^◌, ◌<◌, ◌≤◌, ◌%◌, ◌&&◌, nat_lt, if◌then◌else◌, zero, suc, Bool, true, false, List, length, take, sum, sum_by, Option, Some, None, All, slice_get, slice_set, slice_index, option_map}
+use Rattle.std.specs.Prelude.{◌≡◌, ℕ, ◌+◌, ◌*◌, ◌<◌, ◌≤◌, ◌%◌, ◌&&◌, nat_lt, if◌then◌else◌, zero, suc, Bool, false, List, length, take, sum, sum_by, Option, Some, None, All, slice_get, slice_set, option_map}
 use Rattle.gw_base.specs.Cell.{IsCell}
 use Rattle.hub_core.specs.Calls.{Means}
 use Rattle.hub_core.specs.Core.{IsLed}
@@ -14,7 +14,7 @@ use Rattle.hub_core.specs.declared.port.Room.{Room}
 use Rattle.hub_core.specs.declared.place.Place.{Place}
 use Rattle.hub_core.specs.declared.place.Place.TheVariants.{Free, Reserved, Occupied}
 use Rattle.hub_core.specs.declared.place.Row.{Row}
-use Rattle.hub_core.specs.declared.pool.Pool.{Pool}
+use Rattle.pool_words.specs.declared.pool.Pool.{Pool}
 use Rattle.hub_core.specs.declared.token.End.{End}
 use Rattle.hub_core.specs.declared.token.End.TheVariants.{Write, Read}
 
@@ -32,10 +32,6 @@ pool_after groups group changes = record {
   changes = length (journal_of groups group changes);
   free = replay (sizes_of groups group) (journal_of groups group changes) (length (journal_of groups group changes));
 }
-
--- the word of a group of so many buffers that are all free
-abbrev pub full_pool : (buffers : ℕ) → Pool
-full_pool buffers = record { changes = 0; free = 2 ^ buffers - 1 }
 
 -- where a buffer's ring begins among the words
 abbrev pub start_of : List ℕ → ℕ → ℕ
@@ -151,11 +147,6 @@ AreFirst readers dests positions = (dest : ℕ) → dest < dests → slice_get p
 abbrev pub IsPlaceOf : List Place → (path seq : ℕ) → Option (ℕ × Row) → Type 0
 IsPlaceOf places path seq None = (at : ℕ) → session_in (slice_get places at) ≡ Some (path, seq) → ⊥
 IsPlaceOf places path seq (Some found) = (slice_get places found.0 ≡ Some (Occupied found.1)) × (found.1.path ≡ path) × (found.1.seq ≡ seq)
-
--- whether a buffer has fewer cells than the one found before, where one was
-abbrev pub is_smaller : List ℕ → (buf : ℕ) → Option ℕ → Bool
-is_smaller sizes buf None = true
-is_smaller sizes buf (Some found) = nat_lt (slice_index sizes buf) (slice_index sizes found)
 
 -- a row whose destination has read so many cells
 abbrev pub advance : (dest at : ℕ) → Row → Row

@@ -7,15 +7,14 @@ ghost use Rattle.hub_core.specs.Past.{event_of, view_after};
 ghost use Rattle.hub_core.specs.Groups.{grouped};
 ghost use Rattle.hub_core.specs.Plain.{AreLaid, IsShown, hub_means};
 
-use crate::fit::smallest_fitting;
-use crate::groups::{after_free, after_take, find_group, first_buffer, full_pools, word_of};
+use crate::groups::{find_group, first_buffer, full_pools};
 use crate::history::{Deed, History};
 use crate::place::{Place, Row};
-use crate::pool::Pool;
 use crate::rings::ring_starts;
 use crate::row::{advanced, find_session, first_positions, has_party, room_left, without};
 use crate::{End, Held, Joined, Left, Opened, Port, Room, Seen, Take};
 use gw_base::{BufNo, DestNo, GroupNo, Memory, PathNo};
+use pool_words::{Pool, after_free, after_take, smallest_fitting, word_of};
 use std::alloc::Global;
 
 /// The takes of a plain hub: one for each frame that a run may have.

@@ -1,5 +1,5 @@
 //! How the rings of all buffers lie, one after another.
-ghost use Rattle.std.specs.Prelude.{◌≡◌, ◌-◌, ◌<◌, ◌≤◌, ◌^◌, length, sum, All, IfOk};
+ghost use Rattle.std.specs.Prelude.{◌≡◌, ◌<◌, ◌≤◌, length, sum, All, IfOk};
 ghost use Rattle.hub_core.specs.Plain.{StartAt};
 
 use gw_base::Memory;
@@ -19,12 +19,4 @@ pub(crate) fn ring_starts(alloc: Global, sizes: &[u32]) -> Result<(Vec<u32>, u32
         words += sizes[buf];
     }
     Ok((starts, words))
-}
-
-/// The free set of so many buffers, all of them free: bit i for buffer i.
-pub(crate) fn all_free(buffers: usize) -> u32
-    requires { buffers ≤ 32 }
-    ensures { result ≡ 2 ^ buffers - 1 }
-{
-    ((1_u64 << buffers) - 1) as u32
 }

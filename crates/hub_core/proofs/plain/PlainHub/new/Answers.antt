@@ -9,7 +9,7 @@ use Rattle.hub_core.specs.Past.{view_after}
 use Rattle.hub_core.specs.Plain.{AreLaid}
 use Rattle.hub_core.specs.declared.place.Place.{Place}
 use Rattle.hub_core.specs.declared.place.Place.TheVariants.{Free}
-use Rattle.hub_core.specs.declared.pool.Pool.{Pool}
+use Rattle.pool_words.specs.declared.pool.Pool.{Pool}
 
 pub ring_starts-requires-clause-few : goal.ring_starts-requires-clause-few
 ring_starts-requires-clause-few c = few-buffers c.args.counts.now c.args.cells.now c.requires.groups.1 c.requires.buffers c.requires.all

@@ -13,7 +13,7 @@ use Rattle.hub_core.specs.Past.{view_after}
 use Rattle.hub_core.specs.Plain.{IsShown}
 use Rattle.hub_core.specs.View.{View, Event, grow}
 use Rattle.hub_core.specs.declared.place.Place.TheVariants.{Free, Occupied}
-use Rattle.hub_core.specs.declared.pool.Pool.{Pool}
+use Rattle.pool_words.specs.declared.pool.Pool.{Pool}
 use Rattle.hub_core.specs.declared.port.Left.TheVariants.{Others, Last}
 
 pub index-requires : goal.index-requires

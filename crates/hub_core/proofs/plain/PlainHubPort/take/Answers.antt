@@ -16,7 +16,7 @@ use Rattle.hub_core.specs.Plain.{IsShown}
 use Rattle.hub_core.specs.View.{Took, Refused}
 use Rattle.hub_core.specs.declared.place.Place.TheVariants.{Reserved}
 use Rattle.hub_core.specs.declared.plain.PlainHub.{PlainHub}
-use Rattle.hub_core.specs.declared.pool.Pool.{Pool}
+use Rattle.pool_words.specs.declared.pool.Pool.{Pool}
 
 pub smallest_fitting-requires : goal.smallest_fitting-requires
 smallest_fitting-requires c =

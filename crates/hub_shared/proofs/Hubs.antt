@@ -1,0 +1,70 @@
+-- What a hub keeps of its memory, named by the hub.
+use Rattle.std.proofs.Common.{◌≡◌, ℕ, ◌+◌, ◌-◌, ◌<◌, ◌≤◌, List, length, take, drop, Some, ap, arith}
+use Rattle.std.specs.Prelude.{get_or, slice_get}
+use Rattle.std.specs.Vec.{vec_len}
+use Rattle.hub_core.proofs.Cut.{groups-cut}
+use Rattle.hub_core.proofs.GroupReads.{few-cells, is-buffer, read-cells, few-in, read-count, within-cells, buffer-by}
+use Rattle.hub_core.specs.Calls.{IsBufferOf}
+use Rattle.hub_core.specs.Groups.{first_of, group_of, grouped, place_of, sizes_of}
+use Rattle.hub_shared.specs.Seats.{groups_of}
+use Rattle.hub_shared.specs.declared.hub.SharedHub.{SharedHub}
+
+module _ (hub : SharedHub) where
+  -- the groups of the rule
+  abbrev pub of_rule : List (List ℕ)
+  of_rule = grouped hub.table.shared.key.counts.items hub.table.shared.key.cells.items
+
+  pub rule-groups : of_rule ≡ groups_of hub
+  rule-groups = ap (λ b. grouped b.counts.items b.cells.items) hub.key
+
+  pub groups-long : length (groups_of hub) ≡ length hub.buffers.counts.items
+  groups-long = groups-cut hub.buffers.counts.items hub.buffers.cells.items
+
+  -- there is a first word, and one for each group
+  pub words-there : 0 < hub.table.shared.table_id.words
+  words-there = omega (arith, hub.wide, hub.pool.some)
+
+  pub first-there : 0 < length of_rule
+  first-there = omega (arith, ap (λ (l : List (List ℕ)). length l) rule-groups, groups-long, hub.pool.some)
+
+  pub word-there : (group i : ℕ) → group < length (groups_of hub) → i ≡ group → i < hub.table.shared.table_id.words
+  word-there group i there same = omega (arith, there, same, groups-long, hub.wide)
+
+  pub in-rule : (group i : ℕ) → group < length (groups_of hub) → i ≡ group → i < length of_rule
+  in-rule group i there same = omega (arith, there, same, ap (λ (l : List (List ℕ)). length l) rule-groups)
+
+  pub in-layout : (group : ℕ) → group < length (groups_of hub) → group < hub.layout.groups
+  in-layout group there = omega (arith, there, groups-long, ap (λ (l : Rattle.hub_layout.specs.Pool.Pool). l.groups) hub.laid)
+
+  -- what the code reads of a group's buffers
+  abbrev counts : List ℕ
+  counts = hub.buffers.counts.items
+
+  abbrev cells : List ℕ
+  cells = hub.buffers.cells.items
+
+  pub cells-few : length cells ≤ 128
+  cells-few = few-cells counts cells hub.pool.few hub.pool.groups_are hub.pool.all
+
+  pub group-few : (group : ℕ) → group < length (groups_of hub) → length (sizes_of (groups_of hub) group) ≤ 32
+  group-few = few-in counts cells hub.pool.few hub.pool.groups_are hub.pool.all
+
+  pub group-within : (group : ℕ) → group < length (groups_of hub) → first_of counts group + length (sizes_of (groups_of hub) group) ≤ length cells
+  group-within = within-cells counts cells hub.pool.few hub.pool.groups_are hub.pool.all
+
+  pub count-at : (group i : ℕ) → group < length (groups_of hub) → i ≡ group → i < vec_len hub.buffers.counts
+  count-at group i there same = omega (arith, there, groups-long, same, hub.buffers.counts.ok.0)
+
+  pub count-read : (group i count : ℕ) → group < length (groups_of hub) → i ≡ group → count ≡ get_or counts i count → count ≡ length (sizes_of (groups_of hub) group)
+  count-read = read-count counts cells hub.pool.few hub.pool.groups_are hub.pool.all
+
+  pub sizes-read : (group first last : ℕ) (items : List ℕ) → group < length (groups_of hub) → first ≡ first_of counts group → last ≡ first + length (sizes_of (groups_of hub) group) → items ≡ cells →
+      take (last - first) (drop first items) ≡ sizes_of (groups_of hub) group
+  sizes-read = read-cells counts cells hub.pool.few hub.pool.groups_are hub.pool.all
+
+  pub buffer-from : (group first place : ℕ) → group < length (groups_of hub) → first ≡ first_of counts group → place < length (sizes_of (groups_of hub) group) →
+      (group_of (groups_of hub) (first + place) ≡ group) × (place_of (groups_of hub) (first + place) ≡ place)
+  buffer-from = buffer-by counts cells hub.pool.few hub.pool.groups_are hub.pool.all
+
+  pub buffer-of : (group buf size : ℕ) → group_of (groups_of hub) buf ≡ group → slice_get cells buf ≡ Some size → IsBufferOf (groups_of hub) group buf size
+  buffer-of = is-buffer counts cells hub.pool.few hub.pool.groups_are hub.pool.all

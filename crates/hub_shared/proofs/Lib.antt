@@ -1,0 +1,13 @@
+mod Answering
+mod Closings
+mod Cores
+mod Dealt
+mod Exchanges
+mod Histories
+mod Hubs
+mod Learns
+mod Parties
+mod Seats
+mod Steps
+mod Weights
+mod Wholes

@@ -1,0 +1,17 @@
+use Rattle.std.proofs.Common.{rules, arith, ap, ◌∙◌, length-set}
+use Rattle.hub_shared.proofs.Cores.{one-whole}
+use Rattle.hub_shared.proofs.make.first_words.Goals as goal
+use Rattle.pool_words.specs.Pools.{full_pool}
+
+pub loop-group-init : goal.loop-group-init
+loop-group-init c = (search rules, λ group below. absurd (omega (arith, below)))
+
+pub loop-group-preserved : goal.loop-group-preserved
+loop-group-preserved c =
+    let so = c.loop-group.invariant in (
+      length-set c.loop-group.words.items c.pool-at.result c.word_of.result ∙ so.0,
+      one-whole c.loop-group.words.items c.args.counts.now c.loop-group.group c.pool-at.result c.word_of.result (search rules) (omega (arith, so.0, c.loop-group-test.true, c.requires.layout)) (c.word_of.ensures ∙ c.full_pool.ensures ∙ ap full_pool (search rules)) so.1,
+    )
+
+pub returns-clause-pools : goal.returns-clause-pools
+returns-clause-pools c = λ group below. c.loop-group.invariant.1 group (omega (arith, below, c.loop-group-test.false))

@@ -1,0 +1,10 @@
+//! Takes over a shared hub by ports in threads of their own; they stand in a crate of their own, so that the hub is
+//! proved once.
+#![tactic(auto)]
+
+mod takers;
+
+pub use takers::{Outcome, four_takers, two_takers};
+
+#[cfg(test)]
+mod tests;

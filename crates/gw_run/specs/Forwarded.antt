@@ -18,7 +18,7 @@ use Rattle.gw_run.specs.declared.status.Status.{Status}
 use Rattle.gw_run.specs.declared.status.Status.TheVariants.{Ok, Accepted, Usage, ConfigRefused, LogRefused, Unbuilt, ReadFault, WriteFault, Memory, Limit}
 use Rattle.gw_run.specs.Config.{ReadsConfig}
 use Rattle.gw_run.specs.Frames.{greatest_tick}
-use Rattle.gw_run.specs.Log.{IsBuiltLog}
+use Rattle.gw_run.specs.Log.{IsLogOfBus}
 use Rattle.gw_run.specs.Output.{IsLogWhereDated, output_text}
 use Rattle.gw_run.specs.Played.{Told, account_of}
 use Rattle.gw_run.specs.Results.{HasBegun, HasResults}
@@ -29,10 +29,10 @@ use Rattle.gw_run.specs.Start.{IsStart, stamps_of}
 pub record HoldsLog (files : Files) (bus : Bus) (most count : ℕ) (frames : List Stamped) : Type 0 where
   pub content : List ℕ
   pub there : files bus.log ≡ Some content
-  pub built : IsBuiltLog bus content count frames
+  pub is_log : IsLogOfBus bus content count frames
   pub few : count ≤ most
 
--- both logs are built line by line, and have at most a million lines together
+-- each line of both logs is taken, and they have at most a million lines together
 pub record HoldsLogs (files : Files) (setup : Setup) (source destination : List Stamped) : Type 0 where
   pub source_lines : ℕ
   pub source_log : HoldsLog files setup.source 1_000_000 source_lines source

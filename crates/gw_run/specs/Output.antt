@@ -39,7 +39,7 @@ stamped_of start period written = map (λ (w : Written). record { at = record { 
 -- the output is a log of just these frames
 abbrev pub IsLogOf : (start period : ℕ) → (interface : List ℕ) → List Written → Type 0
 IsLogOf start period interface written =
-    (lines : List (List ℕ)) × IsLog interface (λ frame. false) (output_text start period interface written) lines (stamped_of start period written)
+    (lines : List (List ℕ)) × IsLog interface false (output_text start period interface written) lines (stamped_of start period written)
 
 -- and so where the stamps are such as a line may have
 abbrev pub IsLogWhereDated : (start period : ℕ) → (interface : List ℕ) → List Written → Type 0

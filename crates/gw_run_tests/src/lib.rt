@@ -6,6 +6,8 @@ mod addresses;
 #[cfg(test)]
 mod base;
 #[cfg(test)]
+mod blocks;
+#[cfg(test)]
 mod configurations;
 #[cfg(test)]
 mod faults;

@@ -1,6 +1,9 @@
 -- Causes of records that need both parties.
+pub mod Held
+pub mod HeldBytes
 pub mod JointCauses
 mod JointEnds
 mod JointTicks
 pub mod JointWaits
 mod SizedPieces
+pub mod SoonOver

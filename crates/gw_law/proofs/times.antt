@@ -1,4 +1,5 @@
 pub mod Pieces
-mod RxUpTo
+pub mod RxUpTo
 pub mod Timely
+pub mod TxHeld
 mod TxUpTo

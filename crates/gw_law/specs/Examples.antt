@@ -4,12 +4,12 @@ use Rattle.std.specs.Prelude.{ℕ, zero, suc, true, false, Some, None, List, [],
 use Rattle.can_frame.specs.Frame.{CanFrame}
 use Rattle.can_frame.specs.declared.id.CanId.TheVariants.{Std}
 use Rattle.hub_core.specs.declared.record.DestRecord.{DestRecord}
-use Rattle.hub_core.specs.declared.record.DestResult.TheVariants.{Sent, RunEnd as DestRunEnd}
+use Rattle.hub_core.specs.declared.record.DestResult.TheVariants.{Sent, SourceEnded, RunEnd as DestRunEnd}
 use Rattle.hub_core.specs.declared.record.Move.{Move}
 use Rattle.hub_core.specs.declared.record.RxWait.TheVariants.{Cf}
 use Rattle.hub_core.specs.declared.record.SessionRecord.{SessionRecord}
-use Rattle.hub_core.specs.declared.record.SessionResult.TheVariants.{Whole, NoReaders, RunEnd}
-use Rattle.hub_core.specs.declared.record.TxWait.TheVariants.{Start}
+use Rattle.hub_core.specs.declared.record.SessionResult.TheVariants.{Whole, WrongSn, NoReaders, RunEnd}
+use Rattle.hub_core.specs.declared.record.TxWait.TheVariants.{Bus, Start}
 use Rattle.tp_unit.specs.Box.{Written}
 use Rattle.tp_unit.specs.declared.shape.Shape.{Shape}
 use Rattle.gw_law.specs.Account.{Account}
@@ -221,6 +221,25 @@ destination_after_the_end = record lawful_run { dests = unsent ∷ record (sent_
 abbrev pub sent_too_late : Account
 sent_too_late = record lawful_run { dests = unsent ∷ record (sent_on 1) { end = record { 0 = 1 } } ∷ [] }
 
+-- a destination is told to wait for its bus, which sends nothing
+abbrev pub waits_for_an_idle_bus : Account
+waits_for_an_idle_bus = record lawful_run { dests = record unsent { result = DestRunEnd Bus (record { 0 = 0 }) } ∷ sent_on 1 ∷ [] }
+
+-- the long message's consecutive frame comes in tick 0 too, with the number 2 in place of 1, so that its session ends there
+abbrev pub came_wrong : ℕ → List InTick
+came_wrong zero = comes 0 0x700 first_frame ∷ comes 0 0x700 (0x22 ∷ 7 ∷ 8 ∷ 9 ∷ 10 ∷ []) ∷ []
+came_wrong (suc zero) = comes 2 0x500 single_frame ∷ []
+came_wrong (suc (suc bus)) = []
+
+-- and its destination goes on to wait for it in tick 3, when another window has begun
+abbrev pub source_ended_late : Account
+source_ended_late = record lawful_run {
+  came = came_wrong;
+  left = left_on (leaves 0 0x600 single_frame ∷ []);
+  sessions = record long_session { end = record { 0 = 0 }; result = WrongSn 1 2 } ∷ short_session 2 ∷ [];
+  dests = record unsent { result = SourceEnded } ∷ sent_on 1 ∷ [];
+}
+
 -- both sessions take one buffer
 abbrev pub two_takes_of_one_buffer : Account
 two_takes_of_one_buffer = record lawful_run { moves = takes 1 0 ∷ takes 2 0 ∷ frees 3 0 ∷ frees 4 0 ∷ [] }
@@ -256,7 +275,7 @@ pub record NeighboursAreUnlawful : Type 0 where
   pub no_such_destination : Lawful no_such_destination → ⊥
   -- (TimelyLaw)
   pub sent_before_it_came : Lawful sent_before_it_came → ⊥
-  -- (FlowControlLaw)
+  -- (AreAnswers)
   pub lower_priority_first : Lawful lower_priority_first → ⊥
   -- (BusLaw)
   pub two_in_a_tick : Lawful two_in_a_tick → ⊥
@@ -267,16 +286,18 @@ pub record NeighboursAreUnlawful : Type 0 where
   pub frame_after_the_end : Lawful frame_after_the_end → ⊥
   -- (SourceLaw)
   pub wrong_length : Lawful wrong_length → ⊥
-  -- (AreCaused)
+  -- (HasCause)
   pub awaited_too_early : Lawful awaited_too_early → ⊥
   -- (SessionRecords)
   pub session_after_the_end : Lawful session_after_the_end → ⊥
   -- (JointCauses)
   pub read_to_the_end : Lawful read_to_the_end → ⊥
+  pub source_ended_late : Lawful source_ended_late → ⊥
   -- (DestRecords)
   pub destination_after_the_end : Lawful destination_after_the_end → ⊥
   -- (TransmissionCauses)
   pub sent_too_late : Lawful sent_too_late → ⊥
+  pub waits_for_an_idle_bus : Lawful waits_for_an_idle_bus → ⊥
   -- (PoolLaw)
   pub two_takes_of_one_buffer : Lawful two_takes_of_one_buffer → ⊥
   pub numbered_from_two : Lawful numbered_from_two → ⊥

@@ -16,3 +16,4 @@ pub mod Starting
 pub mod Ticks
 pub mod Timing
 pub mod Gone
+pub mod AtEnd

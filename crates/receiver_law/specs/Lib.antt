@@ -1,5 +1,7 @@
 pub mod Channel
 pub mod FlowControls
+pub mod Laws
+pub mod Looks
 pub mod Parts
 pub mod ReceptionCauses
 pub mod Receptions

@@ -1,5 +1,5 @@
 -- What the record of a reception comes of (ISO 15765-2, segmentation and reassembly, N_Ar, N_Br, N_Cr and N_WFTmax).
-use Rattle.std.specs.Prelude.{◌≡◌, ◌⊎◌, ℕ, ◌+◌, ◌<◌, ◌≤◌, Bool, true, max, Some, List, [], ◌∷◌, ◌++◌, drop, length, map, slice_get}
+use Rattle.std.specs.Prelude.{◌≡◌, ◌⊎◌, ℕ, ◌+◌, ◌<◌, ◌≤◌, Bool, max, Some, List, ◌∷◌, ◌++◌, drop, length, map, slice_get}
 use Rattle.std.specs.List.{AllByRecursion, AllZip}
 use Rattle.flow_plan.specs.Cells.{cells_for}
 use Rattle.hub_core.specs.declared.record.RxLimit.{RxLimit}
@@ -15,8 +15,8 @@ use Rattle.tp_attempts.specs.Seen.{Seen}
 use Rattle.tp_attempts.specs.Walk.{Piece, joined, last_place, walk_of}
 use Rattle.tp_receiver.specs.declared.set.RxSet.{RxSet}
 use Rattle.receiver_law.specs.Channel.{SourceChannel}
-use Rattle.receiver_law.specs.FlowControls.{IsAnswered, IsFullFrom, IsLate, MayFollow}
-use Rattle.receiver_law.specs.Receptions.{Continue, ControlKind, ControlLeft, Received, Refuse, Wait, controls_of, counted, frames_of, last_by, waits_in, written_as}
+use Rattle.receiver_law.specs.FlowControls.{IsAnswered, IsFullFrom, IsLate}
+use Rattle.receiver_law.specs.Receptions.{Continue, ControlLeft, Received, Wait, controls_of, counted, frames_of, last_by, waits_in, written_as}
 
 -- the next start of the channel has its record, which begins in that tick
 pub record NextBegins (records : List SessionRecord) (n tick : ℕ) : Type 0 where

@@ -1,5 +1,5 @@
 -- The receptions of a source channel: each with the frame that starts it, its record, and its flow controls that left (ISO 15765-2, flow control).
-use Rattle.std.specs.Prelude.{ℕ, ◌+◌, ◌==◌, ◌&&◌, if◌then◌else◌, nat_le, Bool, true, false, Option, Some, None, List, [], ◌∷◌, drop, map, reverse}
+use Rattle.std.specs.Prelude.{ℕ, ◌+◌, ◌==◌, ◌&&◌, if◌then◌else◌, nat_le, Bool, true, false, Option, Some, None, List, [], ◌∷◌, drop, reverse}
 use Rattle.std.specs.List.{flat_map}
 use Rattle.hub_core.specs.declared.record.SessionRecord.{SessionRecord}
 use Rattle.tp_attempts.specs.Cuts.{Cut}

@@ -2,6 +2,7 @@
 pub mod OtherFrames
 pub mod TxAnswers
 pub mod TxBoxed
+pub mod TxEnds
 pub mod TxFrames
 pub mod TxLaw
 pub mod TxLeaves

@@ -4,7 +4,7 @@ use Rattle.flow_plan.proofs.Paces.{AreInOrder, in-order}
 use Rattle.flow_plan.specs.Pace.{Control}
 use Rattle.tp_unit.specs.Box.{Written}
 use Rattle.std.specs.Prelude.{filter, nat_lt, slice_get}
-use Rattle.std.specs.List.{AllByRecursion}
+use Rattle.std.specs.List.{AllByRecursion, AllZip}
 use Rattle.std.proofs.lemmas.Bool.{cases_lt}
 use Rattle.std.proofs.lemmas.Bool.Decides.{nat_tests}
 use Rattle.std.proofs.lemmas.List.{length-append, length-map, length-take, map-append}
@@ -32,7 +32,6 @@ use Rattle.sender_law.specs.Channel.{IsOfChannel}
 use Rattle.gw_law.specs.Timely.{IsTimely, TimelyLaw, bytes_below, bytes_to, delivery_of_route}
 use Rattle.sender_law.specs.Transfer.{has_sent, seen_of}
 use Rattle.sender_law.specs.Pacing.{Paced, controls_of}
-use Rattle.sender_law.specs.Channel.{never_full}
 use Rattle.sender_law.specs.TransmissionCauses.{IsCausedWith, IsLate, TransmissionCauses, left_in, left_up_to}
 use Rattle.gw_law.proofs.causes.JointEnds.{once}
 use Rattle.gw_law.proofs.times.Pieces.{CutIn, bytes-most, cuts-in}
@@ -171,10 +170,21 @@ part-same cap other len start sent part bytes part_is bytes_are le same = elim (
   | inr none ↦ omega (arith, part_is, bytes_are, le, none)
 ]
 
+-- some frames of a transmission left by a tick
+abbrev pub IsBegun : ℕ → List Piece → Type 0
+IsBegun tick pieces = AllByRecursion (λ (p : Piece). tick < p.at) pieces → ⊥
+
+-- in ticks in which its next frame waits for the bus, a transmission's bytes and those of that frame had come
+abbrev pub HoldsNext : (r : Route) (full : ℕ → Bool) → Cut Seen → DestRecord → Type 0
+HoldsNext r full cut told = (unit : Cut Seen) (session : SessionRecord) → IsNamed (delivery_of_route r) told.seq unit session → (tick : ℕ) → tick < told.end.0 → full tick ≡ true → IsBegun tick (walk_of (address_size r.leg.tx.shape) cut).pieces →
+    bytes_to tick (walk_of (address_size r.leg.tx.shape) cut).pieces + part_after r.leg.tx.shape (len_of cut.start.meaning) (bytes_to tick (walk_of (address_size r.leg.tx.shape) cut).pieces) ≤ came_by r unit session tick
+
 -- what is known of a transmission and of the unit that its record names
-record Sending (r : Route) (unit cut : Cut Seen) (session : SessionRecord) (told : DestRecord) : Type 0 where
+record Sending (r : Route) (full : ℕ → Bool) (unit cut : Cut Seen) (session : SessionRecord) (told : DestRecord) : Type 0 where
   sound : IsShape r.leg.tx.shape
-  caused : IsCausedWith never_full r.leg cut told
+  caused : IsCausedWith full r.leg cut told
+  holds : (tick : ℕ) → tick < told.end.0 → full tick ≡ true → IsBegun tick (walk_of (address_size r.leg.tx.shape) cut).pieces →
+      bytes_to tick (walk_of (address_size r.leg.tx.shape) cut).pieces + part_after r.leg.tx.shape (len_of cut.start.meaning) (bytes_to tick (walk_of (address_size r.leg.tx.shape) cut).pieces) ≤ came_by r unit session tick
   timely : (tick : ℕ) → bytes_to tick (walk_of (address_size r.leg.tx.shape) cut).pieces ≤ bytes_below (tick + r.window) (walk_of r.source.rx.a unit).pieces
   start : (0 < length (bytes_of cut.start.meaning)) × (length (bytes_of cut.start.meaning) < len_of cut.start.meaning → cut.start.size ≡ r.leg.tx.shape.dl)
   len : len_of cut.start.meaning ≡ session.len
@@ -182,10 +192,25 @@ record Sending (r : Route) (unit cut : Cut Seen) (session : SessionRecord) (told
   ordered : Ordered (walk_of (address_size r.leg.tx.shape) cut).pieces
   begins : AllByRecursion (λ (p : Piece). told.begin.0 ≤ p.at) (walk_of (address_size r.leg.tx.shape) cut).pieces
 
--- no frame leaves in the tick
-late-none : (r : Route) (unit cut : Cut Seen) (session : SessionRecord) (told : DestRecord) (tick : ℕ) (split : SplitAt tick (walk_of (address_size r.leg.tx.shape) cut).pieces) → Sending r unit cut session told → AllByRecursion (λ (p : Piece). tick < p.at) split.later → tick < told.end.0 →
-    WaitsTooLong r unit session told.begin.0 (walk_of (address_size r.leg.tx.shape) cut).pieces tick → ⊥
-late-none r unit cut session told tick split so above below waits =
+-- those up to the tick are those before it
+bytes-none-now : (tick : ℕ) (pieces early later : List Piece) → pieces ≡ early ++ later → AllByRecursion (λ (p : Piece). p.at < tick) early → AllByRecursion (λ (p : Piece). tick < p.at) later → bytes_to tick pieces ≡ length (joined early)
+bytes-none-now tick pieces early later is below above =
+    let keeps : Piece → Bool = λ p. nat_le p.at tick in
+    let first = kept keeps early (all-weaker (λ (p : Piece). p.at < tick) (λ (p : Piece). keeps p ≡ true) early (λ p lt. le-true p.at tick (omega (arith, lt))) below) in
+    let none = dropped keeps later (all-weaker (λ (p : Piece). tick < p.at) (λ (p : Piece). keeps p ≡ false) later (λ p lt. le-false p.at tick lt) above) in
+    let all : filter keeps (early ++ later) ≡ early = filter-append keeps early later ∙ rw (first, none) (append-nil early) in
+    ap (bytes_to tick) is ∙ ap (λ l. length (joined l)) all
+
+begun-by : (tick : ℕ) (pieces early later : List Piece) → pieces ≡ early ++ later → 0 < length early → AllByRecursion (λ (p : Piece). p.at < tick) early → IsBegun tick pieces
+begun-by tick pieces [] later is some below all = omega (arith, some)
+begun-by tick pieces (piece ∷ early) later is some below all =
+    let P : List Piece → Type 0 = λ l. AllByRecursion (λ (p : Piece). tick < p.at) l in
+    omega (arith, below.0, (subst P is all).0)
+
+-- no frame leaves in the tick: where the bus has a place, none is late, and where it has none, the next one's bytes had come
+none-late : (r : Route) (full : ℕ → Bool) (unit cut : Cut Seen) (session : SessionRecord) (told : DestRecord) (tick : ℕ) (split : SplitAt tick (walk_of (address_size r.leg.tx.shape) cut).pieces) (busy : Bool) → full tick ≡ busy → Sending r full unit cut session told →
+    AllByRecursion (λ (p : Piece). tick < p.at) split.later → tick < told.end.0 → WaitsTooLong r unit session told.begin.0 (walk_of (address_size r.leg.tx.shape) cut).pieces tick → ⊥
+none-late r full unit cut session told tick split false free so above below waits =
     let pieces : List Piece = (walk_of (address_size r.leg.tx.shape) cut).pieces in
     let before : left_before tick pieces ≡ split.early = before-is tick pieces split in
     let some : 0 < length split.early = omega (arith, waits.started, ap length before) in
@@ -193,12 +218,26 @@ late-none r unit cut session told tick split so above below waits =
     let P : List Piece → Type 0 = λ l. AllByRecursion (λ (p : Piece). told.begin.0 ≤ p.at) l in
     let begun : told.begin.0 ≤ tick = begins-below told.begin.0 tick split.early split.later some split.below (subst P split.is so.begins) in
     let Q : List ℕ → Type 0 = λ l. IsLate r.leg.tx.n_cs (controls_of r.leg.tx.period r.leg.answers) told.begin.0 l tick in
-    (so.caused.in_time tick begun below).leaves refl (omega (arith, some, ap length (sym same), length-map (left_before tick pieces) (λ (p : Piece). p.at), ap length before)) (subst Q same waits.late)
+    (so.caused.in_time tick begun below).leaves free (omega (arith, some, ap length (sym same), length-map (left_before tick pieces) (λ (p : Piece). p.at), ap length before)) (subst Q same waits.late)
+none-late r full unit cut session told tick split true busy so above below waits =
+    let pieces : List Piece = (walk_of (address_size r.leg.tx.shape) cut).pieces in
+    let before : left_before tick pieces ≡ split.early = before-is tick pieces split in
+    let some : 0 < length split.early = omega (arith, waits.started, ap length before) in
+    let sent : bytes_to tick pieces ≡ length (joined (left_before tick pieces)) = bytes-none-now tick pieces split.early split.later split.is split.below above ∙ ap (λ l. length (joined l)) (sym before) in
+    let L : ℕ → Type 0 = λ len. length (joined (left_before tick pieces)) + part_after r.leg.tx.shape len (length (joined (left_before tick pieces))) ≤ came_by r unit session tick in
+    let B : ℕ → Type 0 = λ n. n + part_after r.leg.tx.shape (len_of cut.start.meaning) n ≤ came_by r unit session tick in
+    let all : length (joined (left_before tick pieces)) + part_after r.leg.tx.shape session.len (length (joined (left_before tick pieces))) ≤ came_by r unit session tick =
+    subst L so.len (subst B sent (so.holds tick below busy (begun-by tick pieces split.early split.later split.is some split.below))) in
+    omega (arith, all, waits.lacks)
+
+late-none : (r : Route) (full : ℕ → Bool) (unit cut : Cut Seen) (session : SessionRecord) (told : DestRecord) (tick : ℕ) (split : SplitAt tick (walk_of (address_size r.leg.tx.shape) cut).pieces) → Sending r full unit cut session told →
+    AllByRecursion (λ (p : Piece). tick < p.at) split.later → tick < told.end.0 → WaitsTooLong r unit session told.begin.0 (walk_of (address_size r.leg.tx.shape) cut).pieces tick → ⊥
+late-none r full unit cut session told tick split so above below waits = none-late r full unit cut session told tick split (full tick) refl so above below waits
 
 -- a frame leaves in the tick
-late-one : (r : Route) (unit cut : Cut Seen) (session : SessionRecord) (told : DestRecord) (tick : ℕ) (split : SplitAt tick (walk_of (address_size r.leg.tx.shape) cut).pieces) (piece : Piece) (rest : List Piece) → Sending r unit cut session told → split.later ≡ piece ∷ rest → piece.at ≤ tick →
+late-one : (r : Route) (full : ℕ → Bool) (unit cut : Cut Seen) (session : SessionRecord) (told : DestRecord) (tick : ℕ) (split : SplitAt tick (walk_of (address_size r.leg.tx.shape) cut).pieces) (piece : Piece) (rest : List Piece) → Sending r full unit cut session told → split.later ≡ piece ∷ rest → piece.at ≤ tick →
     WaitsTooLong r unit session told.begin.0 (walk_of (address_size r.leg.tx.shape) cut).pieces tick → ⊥
-late-one r unit cut session told tick split piece rest so later now waits =
+late-one r full unit cut session told tick split piece rest so later now waits =
     let address : ℕ = address_size r.leg.tx.shape in
     let w : Walk = walk_of address cut in
     let before : left_before tick w.pieces ≡ split.early = before-is tick w.pieces split in
@@ -215,17 +254,17 @@ late-one r unit cut session told tick split piece rest so later now waits =
     (subst (λ l. came_by r unit session tick < length (joined l) + part_after r.leg.tx.shape session.len (length (joined l))) before waits.lacks)) in
     omega (arith, few, so.timely tick, ap (bytes_to tick) is, one-now tick split.early piece rest split.below now, bytes-most tick w.pieces, so.put)
 
-late-by : (r : Route) (unit cut : Cut Seen) (session : SessionRecord) (told : DestRecord) (tick : ℕ) (split : SplitAt tick (walk_of (address_size r.leg.tx.shape) cut).pieces) (later : List Piece) → Sending r unit cut session told → split.later ≡ later → tick < told.end.0 →
+late-by : (r : Route) (full : ℕ → Bool) (unit cut : Cut Seen) (session : SessionRecord) (told : DestRecord) (tick : ℕ) (split : SplitAt tick (walk_of (address_size r.leg.tx.shape) cut).pieces) (later : List Piece) → Sending r full unit cut session told → split.later ≡ later → tick < told.end.0 →
     WaitsTooLong r unit session told.begin.0 (walk_of (address_size r.leg.tx.shape) cut).pieces tick → ⊥
-late-by r unit cut session told tick split [] so is below waits =
+late-by r full unit cut session told tick split [] so is below waits =
     let P : List Piece → Type 0 = λ l. AllByRecursion (λ (p : Piece). tick < p.at) l in
-    late-none r unit cut session told tick split so (subst P (sym is) tt) below waits
-late-by r unit cut session told tick split (piece ∷ rest) so is below waits = elim (cases_lt tick piece.at) [
+    late-none r full unit cut session told tick split so (subst P (sym is) tt) below waits
+late-by r full unit cut session told tick split (piece ∷ rest) so is below waits = elim (cases_lt tick piece.at) [
   | inl after ↦
       let P : List Piece → Type 0 = λ l. AllByRecursion (λ (p : Piece). tick < p.at) l in
       let O : List Piece → Type 0 = λ l. Ordered l in
-      late-none r unit cut session told tick split so (subst P (sym is) (all-weaker (λ (p : Piece). tick + 1 ≤ p.at) (λ (p : Piece). tick < p.at) (piece ∷ rest) (λ p le. omega (arith, le)) (later-all (tick + 1) piece rest (omega (arith, after)) (subst O is split.ordered)))) below waits
-  | inr now ↦ late-one r unit cut session told tick split piece rest so is now waits
+      late-none r full unit cut session told tick split so (subst P (sym is) (all-weaker (λ (p : Piece). tick + 1 ≤ p.at) (λ (p : Piece). tick < p.at) (piece ∷ rest) (λ p le. omega (arith, le)) (later-all (tick + 1) piece rest (omega (arith, after)) (subst O is split.ordered)))) below waits
+  | inr now ↦ late-one r full unit cut session told tick split piece rest so is now waits
 ]
 
 -- a unit and a session that a number names are the only ones, of one length
@@ -240,21 +279,23 @@ len-named : (r : Route) (seq : ℕ) (unit : Cut Seen) (session : SessionRecord) 
 len-named r seq unit session law named = (zip-pair (Tells r.source.rx.chan.0 r.source.rx.a) (attempts_in r.source.rx.functional r.source.seen) r.source.sessions named.place unit session law.tells named.unit_is named.session_is).len
 
 -- by the laws of the source, of a destination's ends, of time and of delivery
-pub none-waits : (r : Route) → IsShape r.leg.tx.shape → SourceLaw r.source.rx.chan.0 r.source.rx.a r.source.rx.functional r.source.seen r.source.sessions → TransmissionCauses never_full r.leg → TimelyLaw r → DeliveryLaw (delivery_of_route r) → NoneWaitsTooLong r
-none-waits r sound source causes timely law =
+pub none-waits : (r : Route) (full : ℕ → Bool) → IsShape r.leg.tx.shape → SourceLaw r.source.rx.chan.0 r.source.rx.a r.source.rx.functional r.source.seen r.source.sessions → TransmissionCauses full r.leg → AllZip (HoldsNext r full) (attempts_in false (delivery_of_route r).frames) (filter has_sent r.leg.dests) → TimelyLaw r → DeliveryLaw (delivery_of_route r) → NoneWaitsTooLong r
+none-waits r full sound source causes holds timely law =
     let frames : List Seen = (delivery_of_route r).frames in
     let starts = cuts-in (IsStartOf r.leg.tx.shape) (λ (s : Seen). is_start false s.meaning) frames (all-map (IsStartOf r.leg.tx.shape) (seen_of (address_size r.leg.tx.shape)) r.leg.frames (all-weaker (IsOfChannel r.leg.tx.shape) (λ w. IsStartOf r.leg.tx.shape (seen_of (address_size r.leg.tx.shape) w)) r.leg.frames (λ w own. start-of r.leg.tx.shape w sound own) timely.own)) in
     let begin = cuts-starts (λ (s : Seen). is_start false s.meaning) frames in
     zip-index (Delivers (delivery_of_route r)) (EndsInTime r) (attempts_in false frames) (filter has_sent r.leg.dests) (λ k cut told cut_is told_is delivers unit session named tick below waits.
-    let caused = zip-pair (IsCausedWith never_full r.leg) (attempts_in false frames) (filter has_sent r.leg.dests) k cut told causes.sent cut_is told_is in
+    let caused = zip-pair (IsCausedWith full r.leg) (attempts_in false frames) (filter has_sent r.leg.dests) k cut told causes.sent cut_is told_is in
+    let held = zip-pair (HoldsNext r full) (attempts_in false frames) (filter has_sent r.leg.dests) k cut told holds cut_is told_is in
     let time = zip-pair (IsTimely r.window (delivery_of_route r)) (attempts_in false frames) (filter has_sent r.leg.dests) k cut told timely.timely cut_is told_is in
     let start = all-at (CutIn (IsStartOf r.leg.tx.shape)) (attempts_in false frames) k cut starts cut_is in
     let is_so = all-at (λ (c : Cut Seen). is_start false c.start.meaning ≡ true) (attempts_in false frames) k cut begin cut_is in
     let same : (delivers.names.unit ≡ unit) × (delivers.names.session ≡ session) = named-once r told.seq delivers.names.unit unit delivers.names.session session law delivers.names.named named in
     let ordered : Ordered (walk_of (address_size r.leg.tx.shape) cut).pieces = paced-ordered (controls_of r.leg.tx.period r.leg.answers) (walk_of (address_size r.leg.tx.shape) cut).pieces delivers.paced in
-    let so : Sending r unit cut session told = record {
+    let so : Sending r full unit cut session told = record {
       sound = sound;
       caused = caused;
+      holds = held unit session named;
       timely = time unit session named;
       start = start.0 is_so;
       len = delivers.len ∙ ap (λ (c : Cut Seen). len_of c.start.meaning) same.0 ∙ sym (len-named r told.seq unit session source named);
@@ -263,4 +304,4 @@ none-waits r sound source causes timely law =
       begins = all-weaker (λ (p : Piece). (told.begin.0 ≤ p.at) × (p.at ≤ told.end.0)) (λ (p : Piece). told.begin.0 ≤ p.at) (walk_of (address_size r.leg.tx.shape) cut).pieces (λ p both. both.0) delivers.ticks;
     } in
     let split : SplitAt tick (walk_of (address_size r.leg.tx.shape) cut).pieces = split-at tick (walk_of (address_size r.leg.tx.shape) cut).pieces ordered in
-    late-by r unit cut session told tick split split.later so refl below waits) law.delivers
+    late-by r full unit cut session told tick split split.later so refl below waits) law.delivers

@@ -90,7 +90,7 @@ long_route = record {
   };
   each = refl;
   timely = record { begins = (λ unit session named. begin-of long_session session named.place 3 named.session_is (omega arith), tt); timely = tt; own = tt; counted = refl };
-  joint = record { unread = (λ told. absurd (cc), tt); short = (tt, tt); in_time = tt };
+  joint = record { unread = (λ told. absurd (cc), tt); short = (tt, tt); soon = record { sent = tt; unsent = ((λ none unit session named how. absurd (cc)), tt) }; in_time = tt };
 }
 
 short_route : IsLawfulRoute (route_in lawful_run short_receiving short_sending)
@@ -109,7 +109,12 @@ short_route = record {
     own = (record { unit = SingleFrame (7 ∷ 8 ∷ 9 ∷ []); fits = refl; frame = refl; id = refl; fd = refl }, tt);
     counted = refl;
   };
-  joint = record { unread = (λ told. absurd (cc), tt); short = (tt, tt); in_time = (λ unit session named tick below. absurd (omega (arith, below)), tt) };
+  joint = record {
+    unread = (λ told. absurd (cc), tt);
+    short = (tt, tt);
+    soon = record { sent = ((λ unit session named how. absurd (cc)), tt); unsent = ((λ none. absurd (omega (arith, none))), tt) };
+    in_time = (λ unit session named tick below. absurd (omega (arith, below)), tt);
+  };
 }
   where
     names : Names (delivery_of_route (route_in lawful_run short_receiving short_sending)) (sent_on 1)

@@ -1,22 +1,35 @@
 -- Each neighbour of the lawful run breaks a law.
-use Rattle.std.proofs.Common.{◌≡◌, ℕ, zero, suc, ◌<◌, ◌≤◌, true, false, [], ◌∷◌, Some, None, inl, inr, true≢false, refl, ap, sym, ◌∙◌, subst, arith}
-use Rattle.std.specs.Prelude.{take, ◌&&◌, max}
-use Rattle.std.proofs.Math.Nat.{le-max_left}
+use Rattle.std.proofs.Common.{◌≡◌, ℕ, zero, suc, ◌<◌, ◌≤◌, Bool, true, false, List, [], ◌∷◌, length, Option, Some, None, inl, inr, true≢false, refl, ap, sym, ◌∙◌, subst, arith, append-nil}
+use Rattle.std.specs.Prelude.{take, ◌&&◌, map, reverse}
 use Rattle.gw_base.specs.declared.numbers.PathNo.{PathNo}
 use Rattle.hub_core.specs.declared.record.DestRecord.{DestRecord}
 use Rattle.hub_core.specs.declared.record.Move.{Move}
-use Rattle.receiver_law.specs.ReceptionCauses.{LetGoIn}
+use Rattle.receiver_law.proofs.receptions.Counting.{last-before}
+use Rattle.receiver_law.specs.Channel.{SourceChannel}
+use Rattle.receiver_law.specs.FlowControls.{IsFirst, IsOwed, bound_of}
+use Rattle.receiver_law.specs.ReceptionCauses.{HasCause, IsAwaited, IsReception}
+use Rattle.receiver_law.specs.Receptions.{Continue, ControlLeft, Received, controls_of, frames_of, last_by, written_as}
+use Rattle.receiver_law.specs.Source.{is_overflow}
+use Rattle.hub_core.specs.declared.record.RxWait.TheVariants.{Cf}
+use Rattle.hub_core.specs.declared.record.SessionRecord.{SessionRecord}
+use Rattle.hub_core.specs.declared.record.SessionResult.{SessionResult}
+use Rattle.hub_core.specs.declared.record.SessionResult.TheVariants.{RunEnd}
+use Rattle.std.specs.List.{AllZip}
+use Rattle.std.proofs.lemmas.List.{length-map, length-reverse}
+use Rattle.tp_attempts.specs.Cuts.{Cut}
+use Rattle.gw_law.specs.Account.{source_in}
 use Rattle.tp_attempts.specs.Walk.{reassembled}
 use Rattle.tp_unit.specs.Box.{Written}
+use Rattle.tp_unit.specs.Unit.{FirstFrame}
 use Rattle.tp_unit.specs.Reading.{unit_in, unit_of}
 use Rattle.tp_unit.specs.Shape.{address_size}
-use Rattle.tp_attempts.specs.Seen.{is_data}
+use Rattle.tp_attempts.specs.Seen.{Seen, is_data}
 use Rattle.gw_law.proofs.literals.Items.{alone, alone-among}
 use Rattle.gw_law.specs.Channels.{address_in, is_addressed, is_control}
 use Rattle.gw_law.specs.Emission.{IsControlOn, IsDataOn, IsOfSending}
-use Rattle.gw_law.specs.Examples.{NeighboursAreUnlawful, awaited_too_early, buffer_of_another_group, changed_byte, frame_of_no_channel, leaves, control_frame, long_session, lower_priority_first, no_such_destination, read_to_the_end, receiving, sent_before_it_came, sent_on, single_frame, short_session, sending, takes, two_takes_of_one_buffer, unsent}
+use Rattle.gw_law.specs.Examples.{NeighboursAreUnlawful, awaited_too_early, buffer_of_another_group, changed_byte, frame_of_no_channel, leaves, control_frame, long_session, lower_priority_first, no_such_destination, read_to_the_end, receiving, sent_before_it_came, sent_on, single_frame, short_session, sending, source_ended_late, takes, two_takes_of_one_buffer, unsent}
 use Rattle.gw_law.specs.JointCauses.{IsOwnEnd}
-use Rattle.gw_law.specs.Lawful.{Lawful}
+use Rattle.gw_law.specs.Lawful.{Lawful, is_full_at}
 use Rattle.gw_law.specs.Plan.{Receiving, Sending}
 use Rattle.gw_law.specs.Pool.{IsLawfulMove}
 
@@ -41,10 +54,47 @@ came-in-time law =
     let begins = (law.routes 1 1 _ _ refl refl refl).timely.begins.0 _ (short_session 3) (record { place = 0; unit_is = refl; session_is = refl; opened = _; opened_is = refl; seq_is = refl }) in
     omega (arith, begins)
 
+-- where one flow control left, in tick 1, and one attempt came, it is that of the attempt's reception
+record HasOneControl (full : ℕ → Bool) (r : SourceChannel) (attempt : Cut Seen) (told : SessionRecord) : Type 0 where
+  one : Received
+  is : IsReception full r attempt one
+  told_is : one.told ≡ told
+  control : ControlLeft
+  controls : one.controls ≡ control ∷ []
+  tick : control.tick ≡ 1
+
+one-control : (full : ℕ → Bool) (r : SourceChannel) (attempt : Cut Seen) (told : SessionRecord) (bytes : List ℕ) (receptions : List Received) → AllZip (IsReception full r) (attempt ∷ []) receptions → told ∷ [] ≡ map (λ (p : Received). p.told) receptions →
+    leaves 1 0x708 bytes ∷ [] ≡ map (written_as r.rx r.shape) (controls_of receptions) → HasOneControl full r attempt told
+one-control full r attempt told bytes [] are records wrote = absurd are
+one-control full r attempt told bytes (one ∷ next ∷ receptions) are records wrote = absurd are.1
+one-control full r attempt told bytes (one ∷ []) are records wrote = of one.controls refl (wrote ∙ ap (map (written_as r.rx r.shape)) (append-nil (reverse one.controls)))
+  where
+    same-told : one.told ≡ told
+    same-told = let same : told ≡ one.told = cc in sym same
+
+    of : (controls : List ControlLeft) → one.controls ≡ controls → leaves 1 0x708 bytes ∷ [] ≡ map (written_as r.rx r.shape) (reverse one.controls) → HasOneControl full r attempt told
+    of [] is wrote = let none : leaves 1 0x708 bytes ∷ [] ≡ [] = wrote ∙ ap (λ (c : List ControlLeft). map (written_as r.rx r.shape) (reverse c)) is in cc
+    of (control ∷ []) is wrote =
+        let same : leaves 1 0x708 bytes ∷ [] ≡ written_as r.rx r.shape control ∷ [] = wrote ∙ ap (λ (c : List ControlLeft). map (written_as r.rx r.shape) (reverse c)) is in
+        let w : leaves 1 0x708 bytes ≡ written_as r.rx r.shape control = cc in
+        record { one = one; is = are.0; told_is = same-told; control = control; controls = is; tick = sym (ap (λ (v : Written). v.tick) w) }
+    of (control ∷ earlier ∷ more) is wrote =
+        let many : 1 ≡ length (control ∷ earlier ∷ more) = ap length wrote ∙ length-map (reverse one.controls) (written_as r.rx r.shape) ∙ length-reverse one.controls ∙ ap length is in
+        absurd (omega (arith, many))
+
+-- the attempt that the first frame begins
+abbrev long_attempt : Cut Seen
+long_attempt = record { start = record { at = 0; size = 8; meaning = FirstFrame 10 (1 ∷ 2 ∷ 3 ∷ 4 ∷ 5 ∷ 6 ∷ []) }; after = [] }
+
 by-priority : Lawful lower_priority_first → ⊥
 unfolding unit_in
 by-priority law =
-    let full : false ≡ true = law.sources.0.controls.owes 0 0 long_session (record { attempt = _; attempt_is = refl; told_is = refl; first = tt; result = refl }) (omega arith) (omega arith) (λ of. omega arith, tt) in
+    let sources = law.sources.0.receptions in
+    let one = one-control (is_full_at lower_priority_first (receiving 0 0x700 0x708 0)) (source_in lower_priority_first (receiving 0 0x700 0x708 0)) long_attempt long_session control_frame sources.receptions sources.are sources.sessions sources.controls in
+    let opened : is_overflow one.one.told.result ≡ false = ap (λ (t : SessionRecord). is_overflow t.result) one.told_is in
+    let answers = one.is.answered.session (subst (λ (s : Seen). IsFirst s.meaning) (sym one.is.answered.start) tt) opened in
+    let none : last_by 0 one.one.controls ≡ None = ap (last_by 0) one.controls ∙ last-before 0 one.control [] (omega (arith, one.tick)) in
+    let full : false ≡ true = answers.owed 0 (omega (arith, ap (λ (t : SessionRecord). t.begin.0) one.told_is)) (omega (arith, ap bound_of one.told_is)) (subst (λ (c : Option ControlLeft). IsOwed (receiving 0 0x700 0x708 0).set (frames_of 0 long_attempt) c 0) (sym none) tt) in
     cc
 
 -- the frame that leaves in tick 2 is none of a flow control, and no data frame
@@ -68,18 +118,15 @@ no-stray law = elim (law.buses 0).own.1.1.0 [
 ]
 
 -- the flow control left in tick 1, and not in tick 0
-left-in-1 : LetGoIn 0 (leaves 1 0x708 control_frame ∷ []) 0 → ⊥
-left-in-1 let_go =
-    let tick : 1 ≡ 0 = ap (λ (w : Written). w.tick) (alone-among _ let_go.earlier let_go.control let_go.later let_go.among) ∙ let_go.tick_is in
-    omega (arith, tick)
-
 not-awaited : Lawful awaited_too_early → ⊥
 unfolding unit_in
 not-awaited law =
-    let awaited = law.sources.0.receptions.0.cause.2 in
-    let at : 0 ≡ max awaited.at 0 = awaited.since_is in
-    let zero-is : awaited.at ≡ 0 = omega (arith, at, le-max_left awaited.at 0) in
-    left-in-1 (subst (λ (at : ℕ). LetGoIn 0 (leaves 1 0x708 control_frame ∷ []) at) zero-is awaited.left)
+    let sources = law.sources.0.receptions in
+    let one = one-control (is_full_at awaited_too_early (receiving 0 0x700 0x708 0)) (source_in awaited_too_early (receiving 0 0x700 0x708 0)) long_attempt (record long_session { result = RunEnd Cf (record { 0 = 0 }) }) control_frame sources.receptions sources.are sources.sessions sources.controls in
+    let ends : IsAwaited (receiving 0 0x700 0x708 0).set long_attempt one.one 0 4 = (subst (λ (result : SessionResult). HasCause (is_full_at awaited_too_early (receiving 0 0x700 0x708 0)) (source_in awaited_too_early (receiving 0 0x700 0x708 0)) long_attempt one.one result) (ap (λ (t : SessionRecord). t.result) one.told_is) one.is.caused).2 in
+    let newest : record { tick = ends.left; kind = Continue ends.block } ∷ ends.earlier ≡ one.control ∷ [] = sym ends.newest ∙ one.controls in
+    let same : record { tick = ends.left; kind = Continue ends.block } ≡ one.control = cc in
+    omega (arith, ap (λ (c : ControlLeft). c.tick) same, one.tick, ends.since_is)
 
 -- the destination that doesn't read ended with the run
 still-reads : Lawful read_to_the_end → ⊥
@@ -89,6 +136,14 @@ still-reads law =
     let opened : record { seq = 0; buf = record { 0 = 0 }; change = 1 } ≡ unread.opened = let is = unread.opened_is in cc in
     let told : unsent ≡ unread.told = alone _ _ unread.opened.seq unread.told_is in
     subst (λ (told : DestRecord). IsOwnEnd told.result) (sym told) unread.cause
+
+-- by tick 3 the destination has seen that its source ended in tick 0
+seen-late : Lawful source_ended_late → ⊥
+unfolding unit_in
+seen-late law =
+    let soon = (law.routes 0 0 _ _ refl refl refl).joint.soon.unsent.0 refl _ _ (record { place = 0; unit_is = refl; session_is = refl; opened = _; opened_is = refl; seq_is = refl }) refl 0 refl in
+    let end : 4 ≤ 3 = soon in
+    omega (arith, end)
 
 -- the second move takes a buffer that isn't free
 one-take : Lawful two_takes_of_one_buffer → ⊥
@@ -123,8 +178,10 @@ neighbours = record {
   awaited_too_early = not-awaited;
   session_after_the_end = λ law. let end : 5 ≤ 4 = law.sources.0.records.own.0.end in omega (arith, end);
   read_to_the_end = still-reads;
+  source_ended_late = seen-late;
   destination_after_the_end = λ law. let end : 5 ≤ 4 = law.dests.1.0.records.own.0.end in omega (arith, end);
   sent_too_late = λ law. let left : 0 ≡ 1 = law.dests.1.0.transmissions.sent.0.cause in omega (arith, left);
+  waits_for_an_idle_bus = λ law. let full : false ≡ true = (law.dests.0.transmissions.unsent.0 refl).cause.2.1 0 (omega arith) (omega arith) in cc;
   two_takes_of_one_buffer = one-take;
   numbered_from_two = λ law. let number : 2 ≡ 1 = (law.pool.each 0 (omega arith)).law.replayed.numbered.0 in omega (arith, number);
   buffer_of_another_group = other-group;

@@ -261,4 +261,4 @@ is-run p =
         omega (arith, p.plays.run.ends.joined, ap (λ (n : ℕ). length ((view_of (works_of (run_of p))).sessions n)) (same-path p), ap (λ t. (state_after tx_new t).next) (run-turns (run_of p)))
 
 pub never-busy : (p : Played) → IsNeverBusy (deeds_of (run_of p))
-never-busy p = record { receivers = ((λ tick. refl), tt); senders = ((λ tick. refl), tt) }
+never-busy p = record { receivers = ((λ tick. refl), tt) }

@@ -1,22 +1,25 @@
 -- The flow controls of a session, as frames come, ticks pass and further ones leave.
-use Rattle.std.proofs.Common.{◌≡◌, ◌⊎◌, inl, inr, ℕ, ◌+◌, ◌<◌, ◌≤◌, Bool, true, false, Option, Some, None, List, [], ◌∷◌, ◌++◌, length, refl, ap, sym, ◌∙◌, subst, arith}
+use Rattle.std.proofs.Common.{◌≡◌, inl, inr, ℕ, ◌+◌, ◌<◌, ◌≤◌, Bool, true, Option, Some, None, List, [], ◌∷◌, ◌++◌, sym, subst, arith}
 use Rattle.std.specs.List.{AllByRecursion}
 use Rattle.std.proofs.lemmas.Bool.{cases_lt}
 use Rattle.gw_base.proofs.Lists.{all-front, all-weaker}
 use Rattle.tp_attempts.specs.Walk.{Piece}
 use Rattle.tp_receiver.specs.declared.set.RxSet.{RxSet}
-use Rattle.receiver_law.specs.FlowControls.{AreAnswers, FollowOneAnother, HaveCome, IsFullFrom, IsLate, IsLateAfter, IsLateIn, IsOfSession, IsOver, IsOwed, IsOwedAfter, IsSilent, MayFollow, WaitsAreFew}
-use Rattle.receiver_law.specs.Receptions.{ControlKind, Continue, ControlLeft, Refuse, Wait, counted, last_by, waits_in}
-use Rattle.receiver_law.proofs.receptions.Counting.{ComeBy, ComeFrom, counted-append, counted-later, counted-more, last-before, last-now, waits-more}
+use Rattle.receiver_law.specs.FlowControls.{AreAnswers, FollowOneAnother, IsLate, IsLateIn, IsOfSession, IsOver, IsOwed, IsOwedAfter, MayFollow, WaitsAreFew}
+use Rattle.receiver_law.specs.Receptions.{ControlKind, Continue, ControlLeft, Refuse, Wait, last_by, waits_in}
+use Rattle.receiver_law.proofs.receptions.Counting.{ComeFrom, counted-append, counted-later, counted-more, last-before, last-now, waits-more}
 
 -- what holds of it holds in later ticks and with more frames
 pub over-later : (full : ℕ → Bool) (set : RxSet) (frames more : List Piece) (left : ℕ) (kind : ControlKind) (tick later : ℕ) → tick ≤ later → IsOver full set frames left kind tick → IsOver full set (frames ++ more) left kind later
-over-later full set frames more left (Continue block) tick later le is = (is.0, record {
-  from = is.1.from;
-  by = is.1.by;
-  boxed = is.1.boxed;
-  enough = omega (arith, is.1.enough, counted-later is.1.from tick later frames le, counted-append is.1.from later frames more);
-})
+over-later full set frames more left (Continue block) tick later le is = (
+  is.0,
+  record {
+    from = is.1.from;
+    by = is.1.by;
+    boxed = is.1.boxed;
+    enough = omega (arith, is.1.enough, counted-later is.1.from tick later frames le, counted-append is.1.from later frames more);
+  },
+)
 over-later full set frames more left Wait tick later le is = omega (arith, is, le)
 over-later full set frames more left Refuse tick later le is = absurd is
 

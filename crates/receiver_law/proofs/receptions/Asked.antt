@@ -1,6 +1,5 @@
 -- A reception that is over, and a flow control that is asked for, by the rows of the receiver's table.
-use Rattle.std.proofs.Common.{◌≡◌, inl, inr, ◌⊎◌, ℕ, ◌+◌, ◌<◌, ◌≤◌, Bool, true, false, Option, Some, None, List, [], ◌∷◌, ◌++◌, length, refl, ap, sym, ◌∙◌, subst, arith, append-nil}
-use Rattle.std.specs.List.{AllByRecursion}
+use Rattle.std.proofs.Common.{◌≡◌, inl, inr, ◌⊎◌, ℕ, ◌+◌, ◌≤◌, Bool, true, false, Option, Some, None, List, [], ◌∷◌, ◌++◌, length, refl, sym, subst, arith, append-nil}
 use Rattle.hub_core.specs.declared.record.RxWait.{RxWait}
 use Rattle.hub_core.specs.declared.record.RxWait.TheVariants.{Box, Room, Cf}
 use Rattle.hub_core.specs.declared.record.SessionRecord.{SessionRecord}
@@ -9,7 +8,7 @@ use Rattle.hub_core.specs.declared.record.SessionResult.TheVariants.{WaitOver, N
 use Rattle.tp_attempts.specs.Attempts.{attempts_in}
 use Rattle.tp_attempts.specs.Cuts.{Cut}
 use Rattle.tp_attempts.specs.Seen.{Seen}
-use Rattle.tp_attempts.specs.Walk.{Piece, joined, walk_of}
+use Rattle.tp_attempts.specs.Walk.{joined, walk_of}
 use Rattle.tp_receiver.specs.Grant.{ask_to_wait, continue_to_send}
 use Rattle.tp_receiver.specs.State.{Reception, RxDid, RxState, idle}
 use Rattle.tp_receiver.specs.Table.{All, Answers, Block, Ends, Grants, NoneReads, SomeRead, TooManyWaits, Wait, ended, revoking}
@@ -18,13 +17,13 @@ use Rattle.tp_unit.specs.Box.{Written, box_then}
 use Rattle.tp_unit.specs.Unit.{BoxMeaning, Meaning, Offers}
 use Rattle.tp_unit.specs.declared.shape.Shape.{Shape}
 use Rattle.receiver_law.specs.FlowControls.{IsFirst}
-use Rattle.receiver_law.specs.Receptions.{ControlLeft, Received, control_of}
+use Rattle.receiver_law.specs.Receptions.{ControlLeft, Received}
 use Rattle.receiver_law.specs.Source.{is_overflow}
 use Rattle.receiver_law.proofs.receptions.Ends.{asked-over, asked-unread, received, settles}
 use Rattle.receiver_law.proofs.receptions.Going.{IsAsking, IsGoing, WaitsFor}
 use Rattle.receiver_law.proofs.receptions.Grants.{grants-all, grants-block, grants-none}
-use Rattle.receiver_law.proofs.receptions.Settled.{CauseSo, IsSettled, starts_of}
-use Rattle.receiver_law.proofs.receptions.SoFar.{AreTold, BoxSo, BusySo, IdleSo, IsQuiet, SoFar, box-quiet, last-quiet, told-more}
+use Rattle.receiver_law.proofs.receptions.Settled.{IsSettled, starts_of}
+use Rattle.receiver_law.proofs.receptions.SoFar.{AreTold, BoxSo, BusySo, IdleSo, SoFar, box-quiet, last-quiet, told-more}
 
 -- the box of a reception that is over
 pub lies-over : (full : ℕ → Bool) (set : RxSet) (tick over : ℕ) (lies : Option Meaning) (busy : Reception) (attempt : Cut Seen) (controls : List ControlLeft) → IsGoing full set tick over lies busy attempt controls → box_then (revoking busy.wait) lies ≡ None

@@ -1,10 +1,8 @@
 -- A consecutive frame that comes, by the rows of the receiver's table.
-use Rattle.std.proofs.Common.{◌≡◌, ◌≢◌, inl, ℕ, ◌+◌, ◌<◌, ◌≤◌, Bool, true, false, Option, Some, None, List, [], ◌∷◌, ◌++◌, length, take, refl, ap, sym, ◌∙◌, subst, arith, append-nil}
-use Rattle.std.specs.List.{AllByRecursion}
+use Rattle.std.proofs.Common.{◌≡◌, inl, ℕ, ◌+◌, ◌<◌, ◌≤◌, Bool, false, Option, Some, None, List, [], ◌∷◌, ◌++◌, length, take, refl, ap, sym, ◌∙◌, subst, arith, append-nil}
 use Rattle.std.proofs.lemmas.List.{length-append}
 use Rattle.hub_core.specs.View.{Event}
 use Rattle.hub_core.specs.declared.record.SessionRecord.{SessionRecord}
-use Rattle.hub_core.specs.declared.record.SessionResult.{SessionResult}
 use Rattle.hub_core.specs.declared.record.SessionResult.TheVariants.{Whole, WrongSn, NoRoom, NoReaders}
 use Rattle.tp_attempts.proofs.Cuts.{cuts-more}
 use Rattle.tp_attempts.proofs.Walks.{joined-more, last_place-more, len-walk_of, walk_of-more}
@@ -16,7 +14,7 @@ use Rattle.tp_receiver.specs.State.{Reception, RxDid, RxState, busy_with, idle}
 use Rattle.tp_receiver.specs.Table.{Adds, Carries, ConsecutiveRow, Continues, EndsBlock, Fills, NoneReadsOn, RightNumber, TooLittleRoom, TooLong, TooShort, WrongNumber, due as busy_due, gone_on, revoking}
 use Rattle.tp_receiver.specs.declared.set.RxSet.{RxSet}
 use Rattle.tp_unit.specs.Box.{Written, box_then}
-use Rattle.tp_unit.specs.Unit.{Keeps, Meaning, ConsecutiveFrame}
+use Rattle.tp_unit.specs.Unit.{Keeps, Meaning}
 use Rattle.tp_unit.specs.declared.shape.Shape.{Shape}
 use Rattle.receiver_law.specs.ReceptionCauses.{FoundByFrame}
 use Rattle.receiver_law.specs.Receptions.{ControlLeft, Received}

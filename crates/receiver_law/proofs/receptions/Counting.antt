@@ -1,10 +1,9 @@
 -- Counted frames, the newest flow control by a tick, and waits that follow one another, as frames and ticks are added.
-use Rattle.std.proofs.Common.{◌≡◌, ◌≢◌, ℕ, ◌+◌, ◌<◌, ◌≤◌, ◌==◌, ◌&&◌, nat_le, Bool, true, false, if◌then◌else◌, inl, inr, Option, Some, None, List, [], ◌∷◌, ◌++◌, fold, length, max, refl, ap, sym, ◌∙◌, subst, arith}
+use Rattle.std.proofs.Common.{◌≡◌, ℕ, ◌+◌, ◌<◌, ◌≤◌, Some, List, [], ◌∷◌, ◌++◌, length, refl, arith}
 use Rattle.std.specs.List.{AllByRecursion}
 use Rattle.std.proofs.lemmas.Bool.Decides.{nat_tests}
-use Rattle.gw_base.proofs.Lists.{all-weaker}
 use Rattle.tp_attempts.specs.Walk.{Piece, last_place}
-use Rattle.receiver_law.specs.Receptions.{ControlKind, Continue, ControlLeft, Refuse, Wait, counted, is_wait, last_by, waits_in}
+use Rattle.receiver_law.specs.Receptions.{ControlKind, Continue, ControlLeft, Wait, counted, last_by, waits_in}
 
 -- frames that came by a tick, or from it on
 abbrev pub ComeBy : ℕ → List Piece → Type 0

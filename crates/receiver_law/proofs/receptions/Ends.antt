@@ -1,25 +1,21 @@
 -- A reception ends, and its record comes of its cause.
-use Rattle.std.proofs.Common.{◌≡◌, ◌⊎◌, inl, inr, suc, zero, ℕ, ◌+◌, ◌-◌, ◌%◌, ◌<◌, ◌≤◌, Bool, true, false, if◌then◌else◌, drop, Option, Some, None, List, [], ◌∷◌, ◌++◌, length, refl, ap, sym, ◌∙◌, subst, arith, append-nil}
+use Rattle.std.proofs.Common.{◌≡◌, ◌⊎◌, inl, inr, suc, zero, ℕ, ◌+◌, ◌<◌, ◌≤◌, Bool, true, false, if◌then◌else◌, drop, Option, Some, List, [], ◌∷◌, ◌++◌, length, refl, ap, sym, ◌∙◌, subst, arith, append-nil}
 use Rattle.std.specs.List.{AllByRecursion}
-use Rattle.flow_plan.specs.Cells.{cells_for}
 use Rattle.gw_base.proofs.Lists.{all-push, all-weaker}
-use Rattle.hub_core.specs.declared.record.RxLimit.TheVariants.{Box as BoxLimit, Cf as CfLimit}
-use Rattle.hub_core.specs.declared.record.RxWait.{RxWait}
-use Rattle.hub_core.specs.declared.record.RxWait.TheVariants.{Box, Room, Cf}
-use Rattle.hub_core.specs.declared.record.SessionRecord.{SessionRecord}
+use Rattle.hub_core.specs.declared.record.RxLimit.TheVariants.{Box as BoxLimit}
+use Rattle.hub_core.specs.declared.record.RxWait.TheVariants.{Box, Cf}
 use Rattle.hub_core.specs.declared.record.SessionResult.{SessionResult}
-use Rattle.hub_core.specs.declared.record.SessionResult.TheVariants.{Whole, Overflow, WrongSn, RxTimeout, Restarted, NoRoom, WaitOver, NoReaders, Cancelled, RunEnd}
+use Rattle.hub_core.specs.declared.record.SessionResult.TheVariants.{RxTimeout, WaitOver, NoReaders}
 use Rattle.tp_attempts.specs.Cuts.{Cut}
 use Rattle.tp_attempts.specs.Seen.{Seen}
-use Rattle.tp_attempts.specs.Walk.{Piece, joined, last_place, walk_of}
-use Rattle.tp_attempts.proofs.Walks.{last_place-more}
-use Rattle.tp_receiver.specs.Receptions.{ended, gone_on}
+use Rattle.tp_attempts.specs.Walk.{Piece, joined, walk_of}
+use Rattle.tp_receiver.specs.Receptions.{ended}
 use Rattle.tp_receiver.specs.State.{Reception}
 use Rattle.tp_receiver.specs.declared.set.RxSet.{RxSet}
 use Rattle.tp_unit.specs.Unit.{Meaning}
-use Rattle.receiver_law.specs.FlowControls.{AreAnswers, IsFirst, IsLate, IsLateAfter, bound_of}
-use Rattle.receiver_law.specs.ReceptionCauses.{ArePut, FoundByFrame, FoundByGrant, IsBoxLate, IsNextIn, IsTooFull, IsUnread, IsWaitOver, LiesSince}
-use Rattle.receiver_law.specs.Receptions.{Continue, ControlLeft, Received, counted, frames_of, last_by, waits_in}
+use Rattle.receiver_law.specs.FlowControls.{AreAnswers, IsFirst, IsLate, bound_of}
+use Rattle.receiver_law.specs.ReceptionCauses.{ArePut, FoundByGrant, IsBoxLate, IsNextIn, IsUnread, IsWaitOver}
+use Rattle.receiver_law.specs.Receptions.{Continue, ControlLeft, Received, counted, frames_of, last_by}
 use Rattle.receiver_law.specs.Source.{is_overflow, is_run_end}
 use Rattle.receiver_law.proofs.receptions.Answers.{answers-more}
 use Rattle.receiver_law.proofs.receptions.Counting.{ComeBy, last-newest}

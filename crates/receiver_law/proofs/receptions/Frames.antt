@@ -1,5 +1,5 @@
 -- A frame that counts, in a reception in progress: it goes on, or a further flow control is asked for.
-use Rattle.std.proofs.Common.{◌≡◌, ◌≢◌, ℕ, ◌+◌, ◌-◌, ◌<◌, ◌≤◌, suc, zero, Bool, true, Option, Some, None, List, [], ◌∷◌, ◌++◌, length, max, refl, ap, sym, ◌∙◌, subst, arith, append_assoc}
+use Rattle.std.proofs.Common.{◌≡◌, ◌≢◌, ℕ, ◌+◌, ◌-◌, ◌<◌, ◌≤◌, suc, zero, Bool, Option, Some, None, List, [], ◌∷◌, ◌++◌, length, max, refl, ap, sym, ◌∙◌, subst, arith, append_assoc}
 use Rattle.std.specs.List.{AllByRecursion}
 use Rattle.std.proofs.lemmas.List.{length-append}
 use Rattle.gw_base.proofs.Lists.{all-push, all-weaker}
@@ -14,11 +14,11 @@ use Rattle.tp_receiver.specs.State.{Reception}
 use Rattle.tp_receiver.specs.declared.set.RxSet.{RxSet}
 use Rattle.tp_unit.specs.Unit.{Meaning}
 use Rattle.receiver_law.specs.FlowControls.{AreAnswers, HaveCome, IsFullFrom, MayFollow}
-use Rattle.receiver_law.specs.ReceptionCauses.{AfterFrame, IsAskedIn}
+use Rattle.receiver_law.specs.ReceptionCauses.{AfterFrame}
 use Rattle.receiver_law.specs.Receptions.{ControlKind, Continue, ControlLeft, Refuse, Wait, counted, waits_in}
 use Rattle.receiver_law.proofs.receptions.Answers.{answers-more, follow-later}
-use Rattle.receiver_law.proofs.receptions.Counting.{ComeBy, ComeFrom, counted-all, counted-append, waits-end}
-use Rattle.receiver_law.proofs.receptions.Going.{IsAsking, IsBlockOn, IsBoxed, IsForFrame, IsForRoom, IsGoing, IsUnder, LetsYet, WaitsFor, WaitsSo}
+use Rattle.receiver_law.proofs.receptions.Counting.{ComeBy, counted-all, counted-append, waits-end}
+use Rattle.receiver_law.proofs.receptions.Going.{IsAsking, IsBlockOn, IsGoing, IsUnder, LetsYet, WaitsFor, WaitsSo}
 
 -- one frame of a block more, which isn't the last one
 block-on : (from by block tick : ℕ) (left : Option ℕ) (frames : List Piece) (piece : Piece) → piece.at ≡ tick → from ≤ tick → left ≢ Some 1 → IsBlockOn from by block left frames → IsBlockOn from by block (one_less left) (frames ++ piece ∷ [])

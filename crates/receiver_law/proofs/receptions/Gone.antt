@@ -1,9 +1,8 @@
 -- A flow control leaves the box: it answers the reception in progress, or refuses a message of an earlier start.
-use Rattle.std.proofs.Common.{◌≡◌, ◌≢◌, inl, inr, ◌⊎◌, ℕ, ◌+◌, ◌<◌, ◌≤◌, Bool, true, false, Option, Some, None, List, [], ◌∷◌, ◌++◌, length, map, reverse, refl, ap, sym, ◌∙◌, subst, arith, append-nil, append_assoc}
-use Rattle.std.specs.List.{AllByRecursion, AllZip, flat_map}
+use Rattle.std.proofs.Common.{◌≡◌, ℕ, ◌+◌, ◌<◌, ◌≤◌, Bool, true, false, Option, Some, None, List, [], ◌∷◌, ◌++◌, length, map, reverse, refl, ap, sym, ◌∙◌, subst, arith, append-nil, append_assoc}
+use Rattle.std.specs.List.{AllByRecursion, AllZip}
 use Rattle.std.proofs.lemmas.Grind.{flat_map-append}
 use Rattle.std.proofs.lemmas.List.{length-map, map-append, reverse-append}
-use Rattle.std.proofs.lemmas.Option.{slice_get_within}
 use Rattle.gw_base.proofs.Lists.{all-weaker, zip-long}
 use Rattle.hub_core.specs.declared.record.RxWait.{RxWait}
 use Rattle.hub_core.specs.declared.record.RxWait.TheVariants.{Box, Room, Cf}
@@ -14,22 +13,19 @@ use Rattle.tp_attempts.specs.Attempts.{attempts_in}
 use Rattle.tp_attempts.specs.Cuts.{Cut}
 use Rattle.tp_attempts.specs.Seen.{Seen}
 use Rattle.tp_receiver.specs.Grant.{overflow}
-use Rattle.tp_receiver.specs.State.{Reception, RxDid, RxState, busy_with, idle}
-use Rattle.tp_receiver.specs.Table.{FromBox, LeftRow, Leaves, NotAwaited}
+use Rattle.tp_receiver.specs.State.{Reception, RxDid, RxState}
+use Rattle.tp_receiver.specs.Table.{FromBox, LeftRow, NotAwaited}
 use Rattle.tp_receiver.specs.declared.set.RxSet.{RxSet}
 use Rattle.tp_unit.specs.Box.{Written, box_then, written_of}
 use Rattle.tp_unit.specs.Unit.{Keeps, Meaning}
 use Rattle.tp_unit.specs.declared.shape.Shape.{Shape}
-use Rattle.receiver_law.specs.FlowControls.{IsFirst}
-use Rattle.receiver_law.specs.Receptions.{ControlKind, ControlLeft, Received, Refuse, controls_of, control_of, last_by, written_as}
+use Rattle.receiver_law.specs.Receptions.{ControlLeft, Received, Refuse, controls_of, control_of, last_by, written_as}
 use Rattle.receiver_law.specs.Source.{CountsFrom, is_overflow}
-use Rattle.receiver_law.proofs.receptions.Asked.{finish}
-use Rattle.receiver_law.proofs.receptions.Counting.{last-before, last-now}
-use Rattle.receiver_law.proofs.receptions.Going.{IsGoing, WaitsFor}
+use Rattle.receiver_law.proofs.receptions.Going.{WaitsFor}
 use Rattle.receiver_law.proofs.receptions.Leaving.{HasGone, awaiting, leaves}
-use Rattle.receiver_law.proofs.receptions.Settled.{CauseSo, IsSettled, NoneStarts, RefusalSo, starts_of}
-use Rattle.receiver_law.proofs.receptions.SoFar.{AreTold, BoxSo, BusySo, IdleSo, IsQuiet, IsRefusing, IsUnanswered, LastSo, SoBy, SoFar}
-use Rattle.receiver_law.proofs.receptions.Ticks.{IsOwing, last-of, last-split, length-starts, told-on}
+use Rattle.receiver_law.proofs.receptions.Settled.{CauseSo, IsSettled, RefusalSo, starts_of}
+use Rattle.receiver_law.proofs.receptions.SoFar.{AreTold, BusySo, IdleSo, IsQuiet, IsRefusing, IsUnanswered, SoBy, SoFar}
+use Rattle.receiver_law.proofs.receptions.Ticks.{last-of, last-split, length-starts, told-on}
 use Rattle.receiver_law.proofs.receptions.Timing.{busy-told}
 
 -- one item of a list is changed

@@ -1,26 +1,23 @@
 -- What a flow control that is asked for grants, and where none is.
-use Rattle.std.proofs.Common.{◌≡◌, ◌≢◌, ℕ, ◌+◌, ◌-◌, ◌<◌, ◌≤◌, suc, zero, min, Bool, true, false, inl, inr, Option, Some, None, List, [], ◌∷◌, ◌++◌, length, refl, ap, sym, ◌∙◌, subst, arith, append-nil}
+use Rattle.std.proofs.Common.{◌≡◌, ◌≢◌, ℕ, ◌+◌, ◌-◌, ◌<◌, ◌≤◌, suc, zero, min, Bool, inl, inr, Option, Some, None, List, [], refl, sym, subst, arith, append-nil}
 use Rattle.std.proofs.lemmas.Bool.Decides.{eqb_tells}
 use Rattle.flow_plan.specs.Cells.{cells_for, cells_left}
 use Rattle.flow_plan.specs.Grant.{granted_of, most_of, with_room}
 use Rattle.flow_plan.specs.declared.block.Grant.{Grant}
 use Rattle.flow_plan.specs.declared.block.Grant.TheVariants.{All, Block, Wait as NoFrames}
-use Rattle.hub_core.specs.declared.record.RxWait.{RxWait}
-use Rattle.hub_core.specs.declared.record.RxWait.TheVariants.{Box, Room, Cf}
+use Rattle.hub_core.specs.declared.record.RxWait.TheVariants.{Box, Room}
 use Rattle.tp_attempts.specs.Cuts.{Cut}
 use Rattle.tp_attempts.specs.Seen.{Seen}
-use Rattle.tp_attempts.specs.Walk.{Piece}
 use Rattle.tp_receiver.specs.Grant.{ask_to_wait, continue_to_send, frames_for, full_part, grant_in}
 use Rattle.tp_receiver.specs.State.{Reception}
 use Rattle.tp_receiver.specs.declared.set.RxSet.{RxSet}
-use Rattle.tp_receiver.proofs.Blocks.{KeepsToLimit, keeps-to-limit}
+use Rattle.tp_receiver.proofs.Blocks.{keeps-to-limit}
 use Rattle.tp_unit.specs.Unit.{Meaning}
-use Rattle.receiver_law.specs.FlowControls.{AreAnswers, IsFullFrom, IsOfSession, MayFollow}
-use Rattle.receiver_law.specs.ReceptionCauses.{AfterPause, IsAskedIn}
-use Rattle.receiver_law.specs.Receptions.{ControlKind, Continue, ControlLeft, Refuse, Wait, control_of, waits_in}
-use Rattle.receiver_law.proofs.receptions.Counting.{ComeBy}
+use Rattle.receiver_law.specs.FlowControls.{IsOfSession, MayFollow}
+use Rattle.receiver_law.specs.ReceptionCauses.{AfterPause}
+use Rattle.receiver_law.specs.Receptions.{ControlKind, Continue, ControlLeft, Wait, control_of, waits_in}
 use Rattle.receiver_law.proofs.receptions.Frames.{all-left}
-use Rattle.receiver_law.proofs.receptions.Going.{IsAsking, IsBlockOn, IsBoxed, IsForFrame, IsForRoom, IsGoing, IsUnder, LetsYet, WaitsFor, WaitsSo}
+use Rattle.receiver_law.proofs.receptions.Going.{IsAsking, IsForRoom, IsGoing, LetsYet, WaitsFor, WaitsSo}
 
 -- a flow control is put into the box
 offers : (full : ℕ → Bool) (set : RxSet) (tick due : ℕ) (busy : Reception) (attempt : Cut Seen) (controls : List ControlLeft) (kind : ControlKind) (left : Option ℕ) (waits : ℕ) (so : IsAsking full set tick busy attempt controls) →

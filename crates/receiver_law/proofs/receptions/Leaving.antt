@@ -1,9 +1,7 @@
 -- The flow control of a reception leaves its box.
-use Rattle.std.proofs.Common.{◌≡◌, ℕ, ◌+◌, ◌<◌, ◌≤◌, suc, zero, Bool, true, Option, Some, None, List, [], ◌∷◌, ◌++◌, length, max, refl, ap, sym, ◌∙◌, subst, arith, append-nil}
-use Rattle.std.specs.List.{AllByRecursion}
+use Rattle.std.proofs.Common.{◌≡◌, ℕ, ◌+◌, ◌≤◌, suc, zero, Bool, Option, Some, None, List, [], ◌∷◌, max, refl, sym, subst, arith, append-nil}
 use Rattle.gw_base.proofs.Lists.{all-weaker}
-use Rattle.hub_core.specs.declared.record.RxWait.{RxWait}
-use Rattle.hub_core.specs.declared.record.RxWait.TheVariants.{Box, Room, Cf}
+use Rattle.hub_core.specs.declared.record.RxWait.TheVariants.{Box, Cf}
 use Rattle.tp_attempts.specs.Cuts.{Cut}
 use Rattle.tp_attempts.specs.Seen.{Seen}
 use Rattle.tp_attempts.specs.Walk.{Piece, last_place}
@@ -11,11 +9,11 @@ use Rattle.tp_receiver.specs.Receptions.{awaited_after}
 use Rattle.tp_receiver.specs.State.{Reception}
 use Rattle.tp_receiver.specs.declared.set.RxSet.{RxSet}
 use Rattle.tp_unit.specs.Unit.{Meaning}
-use Rattle.receiver_law.specs.FlowControls.{AreAnswers, IsLateIn, IsOwedAfter, MayFollow}
-use Rattle.receiver_law.specs.Receptions.{ControlKind, Continue, ControlLeft, Refuse, Wait, control_of, counted, waits_in}
+use Rattle.receiver_law.specs.FlowControls.{IsLateIn, IsOwedAfter, MayFollow}
+use Rattle.receiver_law.specs.Receptions.{ControlKind, Continue, ControlLeft, Refuse, Wait, control_of, waits_in}
 use Rattle.receiver_law.proofs.receptions.Answers.{answers-left, follow-later}
 use Rattle.receiver_law.proofs.receptions.Counting.{ComeBy, counted-below, last-by, waits-on, waits-one}
-use Rattle.receiver_law.proofs.receptions.Going.{IsBlockOn, IsBoxed, IsForFrame, IsForRoom, IsGoing, IsUnder, LetsYet, WaitsFor, WaitsSo}
+use Rattle.receiver_law.proofs.receptions.Going.{IsBlockOn, IsBoxed, IsForFrame, IsGoing, LetsYet, WaitsFor, WaitsSo}
 
 -- what it asks for isn't over in the tick in which it leaves, and nothing is late
 not-owed : (set : RxSet) (tick : ℕ) (kind : ControlKind) (frames : List Piece) → 1 ≤ set.n_br → ComeBy tick frames → IsOwedAfter set frames tick kind tick → ⊥

@@ -1,5 +1,5 @@
 -- A tick of a reception in progress: its timer finds nothing, and its flow control leaves, or stays where its bus is full.
-use Rattle.std.proofs.Common.{◌≡◌, ◌≢◌, ◌⊎◌, inl, inr, ℕ, ◌+◌, ◌<◌, ◌≤◌, suc, zero, Bool, true, Option, Some, None, List, [], ◌∷◌, ◌++◌, length, max, refl, ap, sym, ◌∙◌, subst, arith}
+use Rattle.std.proofs.Common.{◌≡◌, ◌⊎◌, inl, inr, ℕ, ◌+◌, ◌<◌, ◌≤◌, suc, zero, Bool, true, Option, Some, None, List, [], ◌∷◌, length, refl, ap, sym, ◌∙◌, subst, arith}
 use Rattle.std.specs.List.{AllByRecursion}
 use Rattle.std.proofs.lemmas.Bool.{cases_lt}
 use Rattle.std.proofs.lemmas.Bool.Decides.{nat_tests}
@@ -9,14 +9,14 @@ use Rattle.hub_core.specs.declared.record.RxWait.TheVariants.{Box, Room, Cf}
 use Rattle.tp_attempts.specs.Cuts.{Cut}
 use Rattle.tp_attempts.specs.Seen.{Seen}
 use Rattle.tp_attempts.specs.Walk.{Piece, last_place}
-use Rattle.tp_receiver.specs.Receptions.{awaited_after, limit_of}
+use Rattle.tp_receiver.specs.Receptions.{limit_of}
 use Rattle.tp_receiver.specs.State.{Reception}
 use Rattle.tp_receiver.specs.declared.set.RxSet.{RxSet}
 use Rattle.tp_unit.specs.Unit.{Meaning}
-use Rattle.receiver_law.specs.FlowControls.{AreAnswers, HaveCome, IsFullFrom, IsLate, IsLateAfter, IsLateIn, IsOfSession, IsOwed, IsOwedAfter, IsSilent, MayFollow}
-use Rattle.receiver_law.specs.Receptions.{ControlKind, Continue, ControlLeft, Refuse, Wait, control_of, counted, last_by, waits_in}
-use Rattle.receiver_law.proofs.receptions.Answers.{answers-left, answers-on, follow-later}
-use Rattle.receiver_law.proofs.receptions.Counting.{ComeBy, ComeFrom, counted-append, counted-below, last-by, last-newest, waits-on, waits-one}
+use Rattle.receiver_law.specs.FlowControls.{IsLate, IsLateAfter, IsOwed, IsOwedAfter, IsSilent}
+use Rattle.receiver_law.specs.Receptions.{Continue, ControlLeft, Wait, control_of, counted, last_by}
+use Rattle.receiver_law.proofs.receptions.Answers.{answers-on}
+use Rattle.receiver_law.proofs.receptions.Counting.{ComeBy, counted-append, counted-below, last-newest, waits-on}
 use Rattle.receiver_law.proofs.receptions.Frames.{all-left}
 use Rattle.receiver_law.proofs.receptions.Going.{IsBlockOn, IsBoxed, IsForFrame, IsForRoom, IsGoing, IsUnder, LetsYet, WaitsFor, WaitsSo}
 
@@ -163,8 +163,8 @@ frame-passes full set tick lies busy attempt start frames controls under awaits 
     let within = subst (AllByRecursion (λ (control : ControlLeft). (busy.begin ≤ control.tick) × (control.tick < tick))) awaits.newest under.answers.within in
     let last : last_by tick controls ≡ Some newest = ap (last_by tick) awaits.newest ∙ last-newest tick newest awaits.earlier (omega (arith, within.0.1)) in (
       under-on full set tick busy attempt start frames controls
-      (λ owed. absurd (not-owed set awaits.from awaits.left awaits.block tick busy.left busy.waits frames under.early awaits.lets (subst (λ (c : Option ControlLeft). IsOwed set frames c tick) last owed)))
-      (λ late. absurd (not-late full set tick lies busy start frames controls under.early awaits (omega (arith, under.begin, within.0.0)) (subst (λ (c : Option ControlLeft). IsLate set frames c tick) last late))) under,
+          (λ owed. absurd (not-owed set awaits.from awaits.left awaits.block tick busy.left busy.waits frames under.early awaits.lets (subst (λ (c : Option ControlLeft). IsOwed set frames c tick) last owed)))
+          (λ late. absurd (not-late full set tick lies busy start frames controls under.early awaits (omega (arith, under.begin, within.0.0)) (subst (λ (c : Option ControlLeft). IsLate set frames c tick) last late))) under,
       record {
         left = awaits.left;
         block = awaits.block;

@@ -1,5 +1,5 @@
 -- A reception that is over: its flow controls and its cause, as frames come, starts come and ticks pass.
-use Rattle.std.proofs.Common.{◌≡◌, inl, inr, ◌⊎◌, ℕ, ◌+◌, ◌<◌, ◌≤◌, Bool, true, false, Option, Some, None, List, [], ◌∷◌, ◌++◌, drop, fold, length, map, refl, ap, sym, ◌∙◌, subst, arith, append_assoc}
+use Rattle.std.proofs.Common.{◌≡◌, inl, inr, ℕ, ◌+◌, ◌<◌, ◌≤◌, Bool, true, false, Option, Some, None, List, [], ◌∷◌, ◌++◌, drop, fold, length, map, refl, ap, sym, ◌∙◌, subst, arith, append_assoc}
 use Rattle.std.specs.Prelude.{slice_get}
 use Rattle.std.specs.List.{AllByRecursion}
 use Rattle.std.proofs.lemmas.Bool.{cases_lt}
@@ -16,7 +16,7 @@ use Rattle.tp_attempts.proofs.Walks.{look-full, walk_of-more}
 use Rattle.tp_receiver.specs.declared.set.RxSet.{RxSet}
 use Rattle.receiver_law.specs.FlowControls.{AreAnswers, IsFirst, IsLate, IsLateIn, bound_of}
 use Rattle.receiver_law.specs.ReceptionCauses.{ArePut, FoundByFrame, FoundByGrant, IsBoxLate, IsNextIn, IsTooFull, IsUnread, IsWaitOver}
-use Rattle.receiver_law.specs.Receptions.{ControlKind, Continue, ControlLeft, Received, Refuse, Wait, counted, frames_of, last_by}
+use Rattle.receiver_law.specs.Receptions.{ControlKind, Continue, ControlLeft, Received, Refuse, Wait, frames_of, last_by}
 use Rattle.receiver_law.specs.Source.{is_overflow}
 use Rattle.receiver_law.proofs.receptions.Answers.{answers-more, from-later}
 use Rattle.receiver_law.proofs.receptions.Counting.{ComeFrom, counted-more}

@@ -1,12 +1,11 @@
 -- The receptions of a source channel so far.
-use Rattle.std.proofs.Common.{◌≡◌, inl, inr, ◌⊎◌, ℕ, ◌+◌, ◌<◌, ◌≤◌, Bool, true, false, not, Option, Some, None, List, [], ◌∷◌, ◌++◌, length, map, reverse, refl, ap, sym, ◌∙◌, subst, arith, append_assoc, append-nil}
-use Rattle.std.specs.Prelude.{slice_get}
+use Rattle.std.proofs.Common.{◌≡◌, ◌⊎◌, ℕ, ◌+◌, ◌≤◌, Bool, true, false, Option, Some, None, List, [], ◌∷◌, ◌++◌, map, reverse, refl, ap, sym, ◌∙◌, subst, arith, append_assoc, append-nil}
 use Rattle.std.specs.List.{AllByRecursion, AllZip}
 use Rattle.std.proofs.lemmas.Grind.{flat_map-append}
 use Rattle.std.proofs.lemmas.List.{map-append, same_from_push}
 use Rattle.gw_base.proofs.Lists.{all-push, zip-push, zip-weaker}
 use Rattle.hub_core.specs.declared.record.SessionRecord.{SessionRecord}
-use Rattle.tp_attempts.proofs.Cuts.{cuts-begin, cuts-grow, cuts-more, grow, grow_after, zip-grow}
+use Rattle.tp_attempts.proofs.Cuts.{cuts-begin, cuts-grow, grow, grow_after, zip-grow}
 use Rattle.tp_attempts.specs.Attempts.{attempts_in}
 use Rattle.tp_attempts.specs.Cuts.{Cut}
 use Rattle.tp_attempts.specs.Seen.{Seen, is_start}
@@ -21,7 +20,6 @@ use Rattle.receiver_law.specs.Receptions.{ControlLeft, Received, controls_of, wr
 use Rattle.receiver_law.specs.Source.{is_overflow}
 use Rattle.receiver_law.proofs.receptions.Going.{IsGoing}
 use Rattle.receiver_law.proofs.receptions.Settled.{IsSettled, settled-frame, settled-later, starts_of}
-use Rattle.receiver_law.proofs.records.Tellings.{with_frame}
 
 -- the receptions that are over, of these attempts, where all starts came in such ticks; what was written is their flow controls and those of
 -- the one that is in progress

@@ -1,40 +1,33 @@
 -- A start that comes, by the rows of the receiver's table.
-use Rattle.std.proofs.Common.{◌≡◌, inl, inr, ◌⊎◌, ℕ, ◌+◌, ◌<◌, ◌≤◌, Bool, true, false, not, Option, Some, None, List, [], ◌∷◌, ◌++◌, length, map, refl, ap, sym, ◌∙◌, subst, arith, append-nil, append_assoc}
+use Rattle.std.proofs.Common.{◌≡◌, inl, inr, ℕ, ◌+◌, ◌≤◌, Bool, true, false, not, Option, Some, None, List, [], ◌∷◌, ◌++◌, length, refl, ap, sym, ◌∙◌, subst, arith, append-nil, append_assoc}
 use Rattle.std.specs.Prelude.{slice_get}
-use Rattle.std.specs.List.{AllByRecursion}
 use Rattle.std.proofs.lemmas.List.{length-append, length-map, same_from_push}
 use Rattle.gw_base.proofs.Lists.{zip-long}
 use Rattle.hub_core.proofs.Growing.{slice_get-pushed}
 use Rattle.hub_core.specs.View.{Event}
-use Rattle.hub_core.specs.declared.record.OpenedAt.{OpenedAt}
 use Rattle.hub_core.specs.declared.record.SessionRecord.{SessionRecord}
-use Rattle.hub_core.specs.declared.record.SessionResult.{SessionResult}
 use Rattle.hub_core.specs.declared.record.SessionResult.TheVariants.{Whole, Restarted}
 use Rattle.tp_attempts.proofs.Cuts.{cuts-begin}
 use Rattle.tp_attempts.specs.Attempts.{attempts_in}
 use Rattle.tp_attempts.specs.Cuts.{Cut}
 use Rattle.tp_attempts.specs.Seen.{Seen, is_start}
-use Rattle.tp_attempts.specs.Walk.{Piece, Walk, joined, last_place, walk_of}
 use Rattle.tp_receiver.specs.Grant.{overflow}
 use Rattle.tp_receiver.specs.State.{Reception, RxDid, RxState, Came, idle}
-use Rattle.tp_receiver.specs.Table.{Begins, Completes, FirstRow, FrameRow, Interrupts, NoBuffer, NoBufferFirst, Opened, Overflows, RxStep, Starts, after_opening, begun, ended, later_act, refused, revoking}
+use Rattle.tp_receiver.specs.Table.{Begins, Completes, FirstRow, Interrupts, NoBuffer, NoBufferFirst, Opened, RxStep, Starts, after_opening, begun, ended, later_act, refused, revoking}
 use Rattle.tp_receiver.specs.declared.set.RxSet.{RxSet}
 use Rattle.tp_unit.specs.Box.{Written, box_then}
 use Rattle.tp_unit.specs.Unit.{BoxMeaning, Keeps, Meaning, Offers, Revokes, SingleFrame, FirstFrame, ConsecutiveFrame, FlowControl, NoUnit}
 use Rattle.tp_unit.specs.declared.shape.Shape.{Shape}
 use Rattle.receiver_law.specs.FlowControls.{IsFirst}
 use Rattle.receiver_law.specs.ReceptionCauses.{AfterFrame}
-use Rattle.receiver_law.specs.Receptions.{ControlLeft, Received, controls_of}
-use Rattle.receiver_law.specs.Source.{is_overflow}
+use Rattle.receiver_law.specs.Receptions.{Received}
 use Rattle.receiver_law.proofs.receptions.Answers.{answers-none}
 use Rattle.receiver_law.proofs.receptions.Asked.{asked-so, finish, lies-over, over-so}
 use Rattle.receiver_law.proofs.receptions.Consecutive.{consecutive, passes}
 use Rattle.receiver_law.proofs.receptions.Ends.{received, settles}
 use Rattle.receiver_law.proofs.receptions.Going.{IsAsking, IsUnder}
-use Rattle.receiver_law.proofs.receptions.Settled.{IsSettled, RefusalSo, starts_of}
-use Rattle.receiver_law.proofs.receptions.SoFar.{AreTold, BoxSo, BusySo, IdleSo, IsQuiet, IsRefusing, IsUnanswered, LastSo, SoBy, SoFar, box-quiet, last-quiet, starts-more, told-more, told-start}
-use Rattle.receiver_law.proofs.receptions.Walks.{consecutive_at}
-use Rattle.receiver_law.proofs.records.SoFars.{IsBusy}
+use Rattle.receiver_law.proofs.receptions.Settled.{IsSettled, starts_of}
+use Rattle.receiver_law.proofs.receptions.SoFar.{AreTold, BoxSo, IdleSo, IsUnanswered, SoBy, SoFar, starts-more, told-more, told-start}
 use Rattle.receiver_law.proofs.records.SourceLaws.{HoldsBy}
 
 module _ (full : ℕ → Bool) (set : RxSet) (shape : Shape) where

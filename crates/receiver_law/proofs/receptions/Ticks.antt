@@ -1,7 +1,7 @@
 -- A tick is over: what is so of the receptions that are over, and of a receiver that is idle.
-use Rattle.std.proofs.Common.{◌≡◌, inl, inr, ◌⊎◌, ℕ, ◌+◌, ◌<◌, ◌≤◌, zero, suc, Bool, true, false, Option, Some, None, List, [], ◌∷◌, ◌++◌, length, map, refl, ap, sym, ◌∙◌, subst, arith, append-nil}
+use Rattle.std.proofs.Common.{◌≡◌, inl, inr, ◌⊎◌, ℕ, ◌+◌, ◌<◌, ◌≤◌, zero, suc, Bool, true, Option, Some, None, List, [], ◌∷◌, ◌++◌, length, map, refl, ap, sym, ◌∙◌, subst, arith, append-nil}
 use Rattle.std.specs.Prelude.{option_map, slice_get}
-use Rattle.std.specs.List.{AllByRecursion, AllZip}
+use Rattle.std.specs.List.{AllByRecursion}
 use Rattle.std.proofs.lemmas.Bool.{cases_lt}
 use Rattle.std.proofs.lemmas.List.{length-map}
 use Rattle.std.proofs.lemmas.Option.{slice_get_within, slice_get-map}
@@ -19,8 +19,8 @@ use Rattle.receiver_law.specs.FlowControls.{IsFirst}
 use Rattle.receiver_law.specs.Receptions.{ControlLeft, Received, last_by}
 use Rattle.receiver_law.specs.Source.{CountsFrom, is_overflow}
 use Rattle.receiver_law.proofs.receptions.Counting.{last-newest}
-use Rattle.receiver_law.proofs.receptions.Settled.{IsSettled, NoneStarts, settled-later, settled-on, starts_of}
-use Rattle.receiver_law.proofs.receptions.SoFar.{AreTold, BoxSo, IdleSo, IsQuiet, IsRefusing, IsUnanswered, LastSo}
+use Rattle.receiver_law.proofs.receptions.Settled.{IsSettled, settled-later, settled-on, starts_of}
+use Rattle.receiver_law.proofs.receptions.SoFar.{AreTold, BoxSo, IdleSo, IsRefusing, IsUnanswered, LastSo}
 
 -- the number at a place
 pub counts-to : (first : ℕ) (numbers : List ℕ) (k number : ℕ) → CountsFrom first numbers → slice_get numbers k ≡ Some number → number ≡ first + k

@@ -1,8 +1,6 @@
 -- The timer's turn and a flow control that leaves, by the rows of the receiver's table.
-use Rattle.std.proofs.Common.{◌≡◌, ◌≢◌, inl, inr, ◌⊎◌, ℕ, ◌+◌, ◌<◌, ◌≤◌, Bool, true, false, Option, Some, None, List, [], ◌∷◌, ◌++◌, length, map, reverse, refl, ap, sym, ◌∙◌, subst, arith, append-nil, append_assoc}
-use Rattle.std.specs.List.{AllByRecursion, AllZip}
-use Rattle.std.proofs.lemmas.Grind.{flat_map-append}
-use Rattle.std.proofs.lemmas.List.{length-append, length-map, map-append, reverse-append}
+use Rattle.std.proofs.Common.{◌≡◌, inl, inr, ◌⊎◌, ℕ, ◌+◌, ◌≤◌, Bool, true, Option, Some, None, List, [], ◌∷◌, ◌++◌, length, map, refl, ap, sym, ◌∙◌, subst, arith, append-nil}
+use Rattle.std.proofs.lemmas.List.{length-append, length-map}
 use Rattle.std.proofs.lemmas.Option.{slice_get_within}
 use Rattle.gw_base.proofs.Lists.{zip-long}
 use Rattle.hub_core.specs.View.{Event}
@@ -10,32 +8,26 @@ use Rattle.hub_core.specs.declared.record.RxLimit.TheVariants.{Box as BoxLimit, 
 use Rattle.hub_core.specs.declared.record.RxWait.{RxWait}
 use Rattle.hub_core.specs.declared.record.RxWait.TheVariants.{Box, Room, Cf}
 use Rattle.hub_core.specs.declared.record.SessionRecord.{SessionRecord}
-use Rattle.hub_core.specs.declared.record.SessionResult.{SessionResult}
-use Rattle.hub_core.specs.declared.record.SessionResult.TheVariants.{Whole, Overflow, WrongSn, RxTimeout, Restarted, NoRoom, WaitOver, NoReaders, Cancelled, RunEnd}
+use Rattle.hub_core.specs.declared.record.SessionResult.TheVariants.{RxTimeout}
 use Rattle.tp_attempts.specs.Attempts.{attempts_in}
 use Rattle.tp_attempts.specs.Cuts.{Cut}
 use Rattle.tp_attempts.specs.Seen.{Seen}
-use Rattle.tp_attempts.specs.Walk.{joined, walk_of}
-use Rattle.tp_receiver.specs.Grant.{overflow}
 use Rattle.tp_receiver.specs.State.{Reception, RxDid, RxState, busy_with, idle}
-use Rattle.tp_receiver.specs.Table.{Forgets, FromBox, InTime, IsDue, LeftRow, Leaves, LiesTooLong, LooksAgain, MayLie, NoneLies, NotAwaited, Revoked, TimerRow, Times, TimesRefusal, TooLate, revoking}
+use Rattle.tp_receiver.specs.Table.{InTime, LiesTooLong, LooksAgain, MayLie, NoneLies, Revoked, TimerRow, Times, TimesRefusal, TooLate, revoking}
 use Rattle.tp_receiver.specs.declared.set.RxSet.{RxSet}
-use Rattle.tp_unit.specs.Box.{Written, box_then, written_of}
+use Rattle.tp_unit.specs.Box.{Written, box_then}
 use Rattle.tp_unit.specs.Unit.{Keeps, Meaning, Revokes}
 use Rattle.tp_unit.specs.declared.shape.Shape.{Shape}
-use Rattle.receiver_law.specs.FlowControls.{IsFirst}
-use Rattle.receiver_law.specs.Receptions.{ControlLeft, Received, Refuse, controls_of, control_of, last_by, written_as}
-use Rattle.receiver_law.specs.Source.{CountsFrom, is_overflow}
+use Rattle.receiver_law.specs.Receptions.{ControlLeft, Received}
+use Rattle.receiver_law.specs.Source.{CountsFrom}
 use Rattle.receiver_law.proofs.receptions.Asked.{asked-so, ends-so, finish, lies-over}
-use Rattle.receiver_law.proofs.receptions.Counting.{last-before}
 use Rattle.receiver_law.proofs.receptions.Ends.{box-late, frame-late, settles}
 use Rattle.receiver_law.proofs.receptions.Going.{IsGoing, WaitsFor}
 use Rattle.receiver_law.proofs.receptions.Grants.{pause-asks}
-use Rattle.receiver_law.proofs.receptions.Leaving.{HasGone, awaiting, leaves}
 use Rattle.receiver_law.proofs.receptions.Passing.{goes-on, in-time, stays}
-use Rattle.receiver_law.proofs.receptions.Settled.{CauseSo, IsSettled, NoneStarts, RefusalSo, starts_of}
-use Rattle.receiver_law.proofs.receptions.SoFar.{AreTold, BoxSo, BusySo, IdleSo, IsQuiet, IsRefusing, IsUnanswered, LastSo, SoBy, SoFar}
-use Rattle.receiver_law.proofs.receptions.Ticks.{idle-on, last-of, last-split, told-on, told-over}
+use Rattle.receiver_law.proofs.receptions.Settled.{IsSettled, starts_of}
+use Rattle.receiver_law.proofs.receptions.SoFar.{AreTold, BoxSo, BusySo, IdleSo, IsRefusing, SoBy, SoFar}
+use Rattle.receiver_law.proofs.receptions.Ticks.{idle-on, told-on, told-over}
 use Rattle.receiver_law.proofs.receptions.Walks.{under}
 use Rattle.receiver_law.proofs.records.SoFars.{IsBusy}
 use Rattle.receiver_law.proofs.records.SourceLaws.{HoldsBy}
@@ -47,7 +39,7 @@ module _ (full : ℕ → Bool) (set : RxSet) (shape : Shape) where
   quiet tick old state m lies seen records written at new act told so =
       finish full set shape (m.tick + 1) m state Keeps lies seen records [] written new act told (subst (λ (r : List SessionRecord). SoFar full set shape m.tick (m.tick + 1) state lies seen r written) (sym (append-nil records)) so)
 
-  idle-over : (tick : ℕ) (refusing : Option ℕ) (lies : Option Meaning) (seen : List Seen) (records : List SessionRecord) (written : List Written) → (so : IdleSo full set shape tick tick refusing lies seen records written) → BoxSo set tick (tick + 1) refusing lies so.parts →
+  pub idle-over : (tick : ℕ) (refusing : Option ℕ) (lies : Option Meaning) (seen : List Seen) (records : List SessionRecord) (written : List Written) → (so : IdleSo full set shape tick tick refusing lies seen records written) → BoxSo set tick (tick + 1) refusing lies so.parts →
       IdleSo full set shape tick (tick + 1) refusing lies seen records written
   idle-over tick refusing lies seen records written so box = record {
     parts = so.parts;

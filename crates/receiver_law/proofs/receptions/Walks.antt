@@ -1,12 +1,12 @@
 -- What a consecutive frame adds to the attempt of a reception in progress.
-use Rattle.std.proofs.Common.{◌≡◌, ◌≢◌, ℕ, ◌+◌, ◌<◌, ◌≤◌, Option, Some, None, List, [], ◌∷◌, ◌++◌, length, take, ap, sym, ◌∙◌, subst, arith}
+use Rattle.std.proofs.Common.{◌≡◌, ◌≢◌, ℕ, ◌<◌, ◌≤◌, List, [], ◌∷◌, ◌++◌, length, take, ap, sym, ◌∙◌, subst, arith}
 use Rattle.std.proofs.lemmas.List.{same_from_push}
 use Rattle.hub_core.specs.View.{Event}
 use Rattle.hub_core.specs.declared.record.SessionRecord.{SessionRecord}
 use Rattle.tp_attempts.specs.Attempts.{attempts_in}
 use Rattle.tp_attempts.specs.Cuts.{Cut}
 use Rattle.tp_attempts.specs.Seen.{Seen}
-use Rattle.tp_attempts.specs.Walk.{Piece, Walk, due_number, joined, walk_of}
+use Rattle.tp_attempts.specs.Walk.{Walk, walk_of}
 use Rattle.tp_attempts.proofs.Walks.{len-walk_of, look-counts, look-long, look-short, look-wrong, walk_of-more}
 use Rattle.tp_receiver.specs.State.{Reception}
 use Rattle.tp_receiver.specs.Table.{due as busy_due}

@@ -21,7 +21,7 @@ abbrev Sees : TxSet → List Event → Option Transmission → Type 0
 Sees set calls live = (s : Transmission) → live ≡ Some s → IsLacking s.phase → SawSource set calls s.seq
 
 -- earlier calls of the turn
-saw-more : (set : TxSet) (front calls : List Event) (seq : ℕ) → SawSource set calls seq → SawSource set (front ++ calls) seq
+pub saw-more : (set : TxSet) (front calls : List Event) (seq : ℕ) → SawSource set calls seq → SawSource set (front ++ calls) seq
 saw-more set front calls seq saw = record {
   look = saw.look;
   among = record { before = front ++ saw.among.before; after = saw.among.after; are = ap (λ l. front ++ l) saw.among.are ∙ sym (append_assoc front saw.among.before (look_of set seq saw.look ∷ saw.among.after)) };

@@ -46,14 +46,14 @@ remaining g = 2 * (length ((view_in g.hub).sessions g.sender.set.path.0) - g.sen
 
 -- the sender is told once more
 pub ends-more : (sizes : List ℕ) (g h : Gateway) (last : ℕ) (turns : List RxTurn) (moments : List TxTurn) (view : View) → EndsTelling sizes g last turns moments view → TellsSender g h RunEnd last (lying g.frame) g.frames → EndsTelling sizes h last turns moments view
-ends-more sizes g h last turns moments view ends sizes told =
+ends-more sizes g h last turns moments view ends told =
     let turn = told.turn in
-    let stands = moment-stands sizes g h last last turns (ends sizes.more ++ moments) (grows (calls_by ends sizes.more) view) RunEnd ends sizes.stands (omega arith) tt (frames-same g h RunEnd last (lying g.frame) told) in
-    let V : View → Type 0 = λ v. Stands sizes h last turns (turn ∷ (ends sizes.more ++ moments)) v in
+    let stands = moment-stands sizes g h last last turns (ends.more ++ moments) (grows (calls_by ends.more) view) RunEnd ends.stands (omega arith) tt (frames-same g h RunEnd last (lying g.frame) told) in
+    let V : View → Type 0 = λ v. Stands sizes h last turns (turn ∷ (ends.more ++ moments)) v in
     record {
-      more = turn ∷ ends sizes.more;
-      only = ((told.stepped.event_is, told.stepped.tick_is), ends sizes.only);
-      stands = subst V (sym (grows-append (calls_by ends sizes.more) turn.did.calls view)) stands;
+      more = turn ∷ ends.more;
+      only = ((told.stepped.event_is, told.stepped.tick_is), ends.only);
+      stands = subst V (sym (grows-append (calls_by ends.more) turn.did.calls view)) stands;
     }
 
 missed-fresh : (hub : PlainHub) (group path dest number : ℕ) (calls more : List Event) → length (groups_in hub) ≡ 1 → dest ≡ 0 → group ≡ 0 → AreFresh (floors_of (groups_in hub) (view_in hub)) (view_in hub) calls → calls ≡ Missed group path dest number ∷ more →
@@ -123,11 +123,11 @@ end-stands sizes g k last seen answers next in_time at first =
 pub finishes : (sizes : List ℕ) (g k h : Gateway) (clock : Clock) (last : ℕ) (seen : List Seen) (answers : List Answer) (next : ℕ) (told : Told) → next ≤ last + 1 → IsQuiet g ⊎ (next ≡ last + 1) → AtBarrier sizes g seen answers next →
     TellsReceiver g k RunEnd last (lying g.control) g.controls → ((turns : List RxTurn) (moments : List TxTurn) (view : View) → Stands sizes k last turns moments view → EndsTelling sizes h last turns moments view) → IsOver h → h.machines ≡ k.machines → Tells h clock told →
     Finishes sizes g.machines clock last seen answers told
-finishes sizes g k h clock last seen answers next told in_time quiet at first ends sizes over machines tells sizes =
+finishes sizes g k h clock last seen answers next told in_time quiet at first ends over machines tells sizes =
     let works = at.works in
     let turn : RxTurn = record { event = RunEnd; did = first.did } in
     let stands = end-stands sizes g k last seen answers next in_time at first in
-    let out = ends sizes (turn ∷ turns_of works) (moments_of works) (grows first.did.calls (view_of works)) stands in
+    let out = ends (turn ∷ turns_of works) (moments_of works) (grows first.did.calls (view_of works)) stands in
     let all = out.stands in
     let end : Work = record { tick = last; turns = turn ∷ []; moments = out.more } in
     let m_is : h.machines ≡ g.machines = machines ∙ ap (λ (x : Gateway). x.machines) first.rest in

@@ -1,5 +1,5 @@
 -- A gateway that is new stands at the barrier before tick 0.
-use Rattle.std.proofs.Common.{◌≡◌, ℕ, ◌≤◌, Option, None, Some, option_map, [], ◌∷◌, refl, sym, subst, ap, arith}
+use Rattle.std.proofs.Common.{◌≡◌, ℕ, ◌≤◌, Option, None, Some, option_map, List, [], ◌∷◌, refl, sym, subst, ap, arith}
 use Rattle.tp_sender.specs.Port.{Knows as KnowsPort}
 use Rattle.tp_receiver.specs.Port.{KnowsState}
 use Rattle.tp_receiver.specs.State.{LiesBy, RxState, WaitsIn, reception_in, rx_new, state_of as receiver_state}

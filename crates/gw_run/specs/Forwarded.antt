@@ -114,8 +114,8 @@ pub record Forwards (before after : Files) (config report : List ℕ) (summary :
   pub left : HasResults before after setup (output_text start setup.period setup.source.interface told.controls) (output_text start setup.period setup.destination.interface told.frames) report (report_text told.report)
   pub counted : Counts told.report summary
   -- each output can be read in one way only, as a log of just the frames that left
-  pub source_log : IsLogWhereDated start setup.period setup.source.interface told.controls
-  pub log : IsLogWhereDated start setup.period setup.destination.interface told.frames
+  pub source_log : IsLogWhereDated start setup.period setup.source.interface setup.source.fd told.controls
+  pub log : IsLogWhereDated start setup.period setup.destination.interface setup.destination.fd told.frames
 
 -- such a run has begun: the outputs and the report are beginnings of those that it leaves
 pub record BeginsToForward (before after : Files) (config report : List ℕ) : Type 0 where

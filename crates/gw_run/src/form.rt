@@ -1,5 +1,5 @@
 //! The one form of configuration that is run: a buffer, two classic buses with a channel on each, and a path from the one to the other.
-ghost use Rattle.std.specs.Prelude.{◌≡◌, ◌≢◌, List, ℕ, MatchBool, MatchOption};
+ghost use Rattle.std.specs.Prelude.{◌≡◌, ◌≢◌, [], ◌∷◌, ℕ, MatchBool, MatchOption};
 ghost use Rattle.gw_run.specs.Setup.{IsBaseBus, IsBaseChannel, IsBasePath, IsBuiltConfig, HasBaseTop};
 ghost use Rattle.gw_run.specs.Setup.{Setup as SetupOfRun};
 
@@ -60,6 +60,16 @@ fn has_base_top(config: &Config) -> bool
     config.cancel.items().is_empty()
 }
 
+/// The cells of the one buffer; None exactly where there are several.
+fn one_buffer(config: &Config) -> Option<u32>
+    ensures { MatchOption result ((cells : ℕ) → config.now.buffers ≢ cells ∷ []) (λ cells. config.now.buffers ≡ cells ∷ []) }
+{
+    let [cells] = config.buffers.items() else {
+        return None;
+    };
+    Some(*cells)
+}
+
 /// What a run takes from the configuration, where it is built; None exactly where it isn't.
 pub(crate) fn built(config: &Config) -> Option<Setup<'_>>
     ensures { MatchOption result ((setup : SetupOfRun) → ¬ IsBuiltConfig config.now setup) (IsBuiltConfig config.now) }
@@ -67,7 +77,7 @@ pub(crate) fn built(config: &Config) -> Option<Setup<'_>>
     if !has_base_top(config) {
         return None;
     }
-    let [cells] = config.buffers.items() else {
+    let Some(cells) = one_buffer(config) else {
         return None;
     };
     let [source, destination] = config.bus.items() else {
@@ -100,7 +110,7 @@ pub(crate) fn built(config: &Config) -> Option<Setup<'_>>
         receiver,
         sender,
         path,
-        cells: *cells,
+        cells,
         period: config.period,
         linger: config.linger,
     })

@@ -12,6 +12,8 @@ mod configurations;
 #[cfg(test)]
 mod faults;
 #[cfg(test)]
+mod long;
+#[cfg(test)]
 mod names_and_timers;
 #[cfg(test)]
 mod refusals;

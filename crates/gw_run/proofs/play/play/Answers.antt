@@ -19,9 +19,11 @@ pub work_on_source-requires-clause-at : goal.work_on_source-requires-clause-at
 work_on_source-requires-clause-at c = (c.args.machines.now.cells ∷ [], works_on_source c.loop-tick.gateway c.args.machines.now _ _ c.loop-tick.tick.0 c.args.last.0 c.loop-tick.source_coming c.loop-tick.destination_coming c.loop-tick.invariant.1)
 
 pub work_on_destination-requires-clause-at : goal.work_on_destination-requires-clause-at
-work_on_destination-requires-clause-at c =
-    (c.args.machines.now.cells ∷ [], works_on_destination c.loop-tick.gateway c.work_on_source.new.gateway c.args.machines.now _ _ c.loop-tick.tick.0 c.args.last.0
-    c.loop-tick.source_coming c.loop-tick.destination_coming c.work_on_source.new.coming c.loop-tick.invariant.1 (c.in_ok-work_on_source.ensures.works (c.args.machines.now.cells ∷ [])))
+work_on_destination-requires-clause-at c = (
+  c.args.machines.now.cells ∷ [],
+  works_on_destination c.loop-tick.gateway c.work_on_source.new.gateway c.args.machines.now _ _ c.loop-tick.tick.0 c.args.last.0
+      c.loop-tick.source_coming c.loop-tick.destination_coming c.work_on_source.new.coming c.loop-tick.invariant.1 (c.in_ok-work_on_source.ensures.works (c.args.machines.now.cells ∷ [])),
+)
 
 pub loop-tick-preserved : goal.loop-tick-preserved
 loop-tick-preserved c =

@@ -1,5 +1,5 @@
 -- A gateway that is new stands at the barrier before tick 0.
-use Rattle.std.proofs.Common.{◌≡◌, ℕ, ◌≤◌, Option, None, Some, option_map, [], ◌∷◌, refl, sym, subst, ap, arith}
+use Rattle.std.proofs.Common.{◌≡◌, ℕ, ◌≤◌, Option, None, Some, option_map, List, [], ◌∷◌, refl, sym, subst, ap, arith}
 use Rattle.tp_sender.specs.Port.{Knows as KnowsPort}
 use Rattle.tp_receiver.specs.Port.{KnowsState}
 use Rattle.tp_receiver.specs.State.{LiesBy, RxState, WaitsIn, reception_in, rx_new, state_of as receiver_state}
@@ -14,7 +14,6 @@ use Rattle.tp_unit.specs.Unit.{Meaning}
 use Rattle.gw_run.specs.Standing.{groups_in, AtBarrier, FitsIn, Lies, lying, view_in}
 use Rattle.gw_run.specs.Telling.{means_in}
 use Rattle.gw_run.specs.declared.gateway.Gateway.{Gateway}
-use Rattle.gw_run.specs.declared.machines.TheConstants.{BUFFER_CELLS}
 
 idle-knows : (view : View) (path : ℕ) (state : State) → reception_in state ≡ None → KnowsState view path state
 idle-knows view path Idle is = tt
@@ -28,16 +27,16 @@ none-lies : (refusing : Option Tick) (tick : ℕ) → option_map (λ (since : Ti
 none-lies None tick is = tt
 none-lies (Some since) tick is = cc
 
-pub begins : (g : Gateway) → view_in g.hub ≡ empty_view → means_in g.hub ≡ hub_means ((BUFFER_CELLS ∷ []) ∷ []) 1000000 → g.receiver.set ≡ g.machines.rx → receiver_state g.receiver ≡ rx_new →
+pub begins : (sizes : List ℕ) (g : Gateway) → view_in g.hub ≡ empty_view → means_in g.hub ≡ hub_means (sizes ∷ []) 1000000 → g.receiver.set ≡ g.machines.rx → receiver_state g.receiver ≡ rx_new →
     set_of g.sender ≡ g.machines.tx → sender_state g.sender ≡ tx_new → KnowsPort empty_view g.sender → lying g.control ≡ None → lying g.frame ≡ None →
-    g.controls ≡ [] → g.frames ≡ [] → g.sessions ≡ [] → g.dests ≡ [] → g.moves ≡ [] → AtBarrier g [] [] 0
-begins g view means rx rx_state tx tx_state knows control frame controls frames sessions dests moves =
+    g.controls ≡ [] → g.frames ≡ [] → g.sessions ≡ [] → g.dests ≡ [] → g.moves ≡ [] → AtBarrier sizes g [] [] 0
+begins sizes g view means rx rx_state tx tx_state knows control frame controls frames sessions dests moves =
     let busy : reception_in g.receiver.state ≡ None = ap (λ (s : RxState). s.busy) rx_state in
     let next : g.receiver.next_n ≡ 0 = ap (λ (s : RxState). s.next) rx_state in
     let seq : g.receiver.next_seq ≡ 0 = ap (λ (s : RxState). s.seq) rx_state in
     let live : (sender_state g.sender).live ≡ None = ap (λ (s : TxState). s.live) tx_state in
     let takes : g.hub.takes ≡ 1000000 = ap (λ (m : Means). m.takes) means in
-    let groups : groups_in g.hub ≡ (BUFFER_CELLS ∷ []) ∷ [] = ap (λ (m : Means). m.groups) means in
+    let groups : groups_in g.hub ≡ sizes ∷ [] = ap (λ (m : Means). m.groups) means in
     let L : Option Transmission → Type 0 = λ l. HasFrame l → Lies (lying g.frame) in
     let N : Option Meaning → Type 0 = λ l. Lies l → HasFrame (sender_state g.sender).live in
     let S : Option Transmission → Type 0 = λ l. since_of l ≤ 0 in

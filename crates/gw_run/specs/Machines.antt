@@ -24,12 +24,10 @@ pub record AreMachines (rx : RxSet) (shape : Shape) (tx : TxSet) (source : Addre
   pub dest : tx.dest.0 ≡ 0
   pub readers : rx.readers ≡ 1
   pub address : rx.a ≡ bytes_of_address source.byte
-  pub separation : rx.st ≡ 0
-  pub threshold : tx.threshold ≡ 1
-  pub store : tx.store ≡ false
   pub controls : IsClassic shape
   pub frames : IsClassic tx.shape
   pub n_ar : 1 ≤ rx.n_ar
+  pub n_br : 1 ≤ rx.n_br
   pub n_cr : 1 ≤ rx.n_cr
   pub n_as : 1 ≤ tx.n_as
   pub n_bs : 1 ≤ tx.n_bs

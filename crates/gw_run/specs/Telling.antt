@@ -112,10 +112,10 @@ LeavesFrame None g h tick = h ≡ g
 LeavesFrame (Some meaning) g h tick = TellsSender g h Left tick None (g.frames ++ written_of g.machines.tx.shape tick (Some meaning))
 
 -- the sender was told of the run's end, perhaps many times, and all stands
-pub record EndsTelling (h : Gateway) (last : ℕ) (turns : List RxTurn) (moments : List TxTurn) (view : View) : Type 0 where
+pub record EndsTelling (sizes : List ℕ) (h : Gateway) (last : ℕ) (turns : List RxTurn) (moments : List TxTurn) (view : View) : Type 0 where
   pub more : List TxTurn
   pub only : AllByRecursion (IsStepIn last RunEnd) more
-  pub stands : Stands h last turns (more ++ moments) (grows (calls_by more) view)
+  pub stands : Stands sizes h last turns (more ++ moments) (grows (calls_by more) view)
 
 -- nothing is sent any more, and each session that was entered was joined
 pub record IsOver (h : Gateway) : Type 0 where

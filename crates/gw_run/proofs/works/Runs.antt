@@ -9,7 +9,7 @@ use Rattle.hub_core.specs.Turns.{came_by, records_by, state_after}
 use Rattle.hub_core.specs.View.{View}
 use Rattle.hub_core.specs.declared.record.DestRecord.{DestRecord}
 use Rattle.hub_core.specs.declared.record.SessionRecord.{SessionRecord}
-use Rattle.receiver_law.proofs.runs.RxRuns.{controls-of-run-rise}
+use Rattle.receiver_law.proofs.runs.RxRises.{controls-of-run-rise}
 use Rattle.receiver_law.proofs.runs.RxWritten.{are-controls}
 use Rattle.receiver_law.specs.Channel.{SourceChannel, WritesControl}
 use Rattle.receiver_law.specs.RxRun.{RxRun, source_of, turns_in as received_in}
@@ -35,14 +35,14 @@ use Rattle.gw_law.specs.Emission.{AreByPriority, BusLaw, IsControlOn, IsDataOn, 
 use Rattle.gw_law.specs.Plan.{IsLawfulPlan, Receiving, Sending}
 use Rattle.gw_law.proofs.pools.Changes.{grouped-moves}
 use Rattle.gw_law.specs.Pool.{moves_of}
-use Rattle.gw_law.specs.Run.{IsNeverBusy, IsRun, TellsPool}
+use Rattle.gw_law.specs.Run.{IsRun, TellsPool}
 use Rattle.candump_log.specs.declared.log.Stamped.{Stamped}
 use Rattle.tick_clock.specs.declared.clock.Clock.{Clock}
 use Rattle.gw_run.specs.Machines.{AreMachines}
 use Rattle.gw_run.specs.Played.{Plays, Told, account_of, destination_answers, plan_of, receiving_of, sending_of, source_seen}
 use Rattle.gw_run.specs.Works.{RunTold, told_by, view_of}
 use Rattle.gw_run.specs.declared.machines.Machines.{Machines}
-use Rattle.gw_run.specs.declared.machines.TheConstants.{BUDGET, BUFFER_CELLS}
+use Rattle.gw_run.specs.declared.machines.TheConstants.{BUDGET}
 use Rattle.gw_run.proofs.works.RxParts.{is-rx-run, never, rx_run, turns-are}
 use Rattle.gw_run.proofs.works.SerialRun.{SerialRun, works_of}
 use Rattle.gw_run.proofs.works.TxParts.{is-tx-run, run-turns, tx_run}
@@ -64,7 +64,7 @@ run_of p = record {
   rx = p.m.rx;
   tx = p.m.tx;
   shape = p.m.shape;
-  sizes = BUFFER_CELLS ∷ [];
+  sizes = p.m.cells ∷ [];
   last = p.last;
   count = p.told.report.pool.changes;
   free = p.told.report.pool.free;
@@ -183,7 +183,7 @@ bus-by p bus end left is by rise own =
 controls-rise : (p : Played) → Rise 0 p.told.controls (p.last + 1)
 controls-rise p =
     let R : List Written → Type 0 = λ l. Rise 0 l (p.last + 1) in
-    subst R (ap (λ (c : SourceChannel). c.controls) (rx-told p)) (controls-of-run-rise (rx_run (run_of p)) (λ tick. refl) (is-rx-run (run_of p)))
+    subst R (ap (λ (c : SourceChannel). c.controls) (rx-told p)) (controls-of-run-rise (rx_run (run_of p)) (is-rx-run (run_of p)))
 
 frames-rise : (p : Played) → Rise 0 p.told.frames (p.last + 1)
 frames-rise p =
@@ -210,7 +210,7 @@ same-path p = ap (λ (n : PathNo). n.0) p.are.same_path
 plan-is : (p : Played) → IsLawfulPlan (plan_of p.m p.last)
 plan-is p = record {
   window = omega arith;
-  receivers = (record { shape = p.are.controls.shape_is; group = omega (arith, p.are.group); n_ar = p.are.n_ar; n_cr = p.are.n_cr; budget = omega arith }, tt);
+  receivers = (record { shape = p.are.controls.shape_is; group = omega (arith, p.are.group); n_ar = p.are.n_ar; n_br = p.are.n_br; n_cr = p.are.n_cr; budget = omega arith }, tt);
   senders = (record { shape = p.are.frames.shape_is; n_as = p.are.n_as; n_bs = p.are.n_bs; budget = omega arith }, tt);
   apart = λ place other r another at there same. (only-one (receiving_of p.m) r place at).0 ∙ sym (only-one (receiving_of p.m) another other there).0;
   each_dest = λ place dest r at below.
@@ -244,7 +244,7 @@ is-run p =
       sent_within = (tx-lies p.plays.ticks, tt);
       joint = o.run.joint;
       in_groups = (λ seq s at. omega (arith, (its o.sizes (view_of (works_of o)) o.run.joint o.rx.path.0 seq s at).0, p.are.group), tt);
-      moves = λ group. ap (moves_of ((BUFFER_CELLS ∷ []) ∷ []) group) (sym (ap (λ (r : RunTold). r.moves) p.plays.tells)) ∙ grouped-moves ((BUFFER_CELLS ∷ []) ∷ []) group (view_of (works_of o)).changes;
+      moves = λ group. ap (moves_of ((p.m.cells ∷ []) ∷ []) group) (sym (ap (λ (r : RunTold). r.moves) p.plays.tells)) ∙ grouped-moves ((p.m.cells ∷ []) ∷ []) group (view_of (works_of o)).changes;
       pools = λ group there. one-pool p group (omega (arith, there));
       joined = joined-in o received_in sent_in (works_of o) (turns-are o) (run-turns o) o.run.received o.run.sent;
       served = (served-by p, tt);
@@ -259,6 +259,3 @@ is-run p =
     served-by : (p : Played) → length ((view_of (works_of (run_of p))).sessions p.m.tx.path.0) ≤ (state_after tx_new (sent_in (tx_run (run_of p)))).next
     served-by p =
         omega (arith, p.plays.run.ends.joined, ap (λ (n : ℕ). length ((view_of (works_of (run_of p))).sessions n)) (same-path p), ap (λ t. (state_after tx_new t).next) (run-turns (run_of p)))
-
-pub never-busy : (p : Played) → IsNeverBusy (deeds_of (run_of p))
-never-busy p = record { receivers = ((λ tick. refl), tt) }

@@ -1,15 +1,10 @@
--- The two outputs differ, and what is left free is that of the configuration's entries.
+-- The two outputs differ, the numbers are in their ranges, and what is taken is that of the configuration's entries.
 use Rattle.std.proofs.Common.{◌≡◌, [], ◌∷◌, None, ◌∙◌, ap, sym, subst}
+use Rattle.gw_config.specs.Lawful.{IsLawful, IsLawfulChannel}
 use Rattle.gw_config.specs.Repeated.{repeated_in}
 use Rattle.gw_run.specs.Setup.{IsBaseChannel}
-use Rattle.gw_run.proofs.Setups.{one-item, outs_apart, two-items}
-use Rattle.gw_run.proofs.setup.built.Goals as goal
-
-pub setup_of-requires : goal.setup_of-requires
-setup_of-requires c =
-    let listed : c.items.result.now ≡ c.source-item.result ∷ c.destination-item.result ∷ [] = two-items _ _ _ c.in-len2.len_at_least c.in-len2.len_below c.source-item.is c.destination-item.is in
-    let buses : c.args.config.now.bus ≡ c.source-item.result ∷ c.destination-item.result ∷ [] = ap (λ v. v.bus) (sym c.config.view_is) ∙ sym c.items.ensures ∙ listed in
-    outs_apart c.args.config.now c.source-item.result c.destination-item.result (subst (λ v. repeated_in v ≡ None) c.config.view_is c.config.invariant.repeated) buses
+use Rattle.gw_run.proofs.Setups.{lawful_numbers, one-item, outs_apart, two-items}
+use Rattle.gw_run.proofs.form.built.Goals as goal
 
 pub returns : goal.returns
 returns c =
@@ -20,9 +15,7 @@ returns c =
       top = c.if-not-has_base_top.ensures;
       source = c.source-item.result;
       destination = c.destination-item.result;
-      receiver = c.receiver-item.result;
-      sender = c.sender-item.result;
-      path = c.path-item.result;
+      buffer = c.in-Some.ensures;
       buses = ap (λ v. v.bus) (sym c.config.view_is) ∙ sym c.items.ensures ∙ buses;
       channels = ap (λ v. v.channel) (sym c.config.view_is) ∙ sym c.items-2.ensures ∙ channels;
       paths = ap (λ v. v.path) (sym c.config.view_is) ∙ sym c.items-3.ensures ∙ paths;
@@ -31,5 +24,17 @@ returns c =
       receiver_is = subst (λ name. IsBaseChannel name c.receiver-item.result) (c.items-4.ensures ∙ ap (λ b. b.name) c.source.view_is) c.if-not-is_base_channel.ensures;
       sender_is = subst (λ name. IsBaseChannel name c.sender-item.result) (c.items-5.ensures ∙ ap (λ b. b.name) c.destination.view_is) c.if-not-is_base_channel-2.ensures;
       path_is = rw (← ap (λ b. b.name) c.receiver.view_is, ← ap (λ b. b.name) c.sender.view_is, ← c.items-6.ensures, ← c.items-7.ensures) c.if-not-is_base_path.ensures;
-      setup_is = c.setup_of.ensures;
+      source_bus = c.bus_of.ensures;
+      destination_bus = c.bus_of-2.ensures;
+      period = ap (λ v. v.period) c.config.view_is;
+      linger = ap (λ v. v.linger) c.config.view_is;
     }
+
+pub invariant_of-result : goal.invariant_of-result
+invariant_of-result c =
+    let listed : c.items.result.now ≡ c.source-item.result ∷ c.destination-item.result ∷ [] = two-items _ _ _ c.in-len2.len_at_least c.in-len2.len_below c.source-item.is c.destination-item.is in
+    let buses : c.args.config.now.bus ≡ c.source-item.result ∷ c.destination-item.result ∷ [] = ap (λ v. v.bus) (sym c.config.view_is) ∙ sym c.items.ensures ∙ listed in
+    rw (c.bus_of.ensures, c.bus_of-2.ensures)
+    (lawful_numbers c.args.config.now _ (subst IsLawful c.config.view_is c.config.invariant) c.in-Some.ensures (ap (λ v. v.period) c.config.view_is) (ap (λ v. v.linger) c.config.view_is)
+    (subst IsLawfulChannel c.receiver.view_is c.receiver.invariant) (subst IsLawfulChannel c.sender.view_is c.sender.invariant)
+    (outs_apart c.args.config.now c.source-item.result c.destination-item.result (subst (λ v. repeated_in v ≡ None) c.config.view_is c.config.invariant.repeated) buses))

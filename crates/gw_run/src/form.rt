@@ -1,0 +1,117 @@
+//! The one form of configuration that is run: a buffer, two classic buses with a channel on each, and a path from the one to the other.
+ghost use Rattle.std.specs.Prelude.{◌≡◌, ◌≢◌, [], ◌∷◌, ℕ, MatchBool, MatchOption};
+ghost use Rattle.gw_run.specs.Setup.{IsBaseBus, IsBaseChannel, IsBasePath, IsBuiltConfig, HasBaseTop};
+ghost use Rattle.gw_run.specs.Setup.{Setup as SetupOfRun};
+
+use crate::files::are_same;
+use crate::machines::BUDGET;
+use crate::setup::{CLASSIC_BYTES, Setup, bus_of};
+use gw_config::{BusKeys, ChannelKeys, Config, Mode, PathKeys};
+
+/// Whether it is a classic bus with the default budget.
+fn is_base_bus(bus: &BusKeys) -> bool
+    ensures { MatchBool result (IsBaseBus bus.now) (¬ IsBaseBus bus.now) }
+{
+    if bus.fd {
+        return false;
+    }
+    if bus.brs {
+        return false;
+    }
+    bus.budget == BUDGET
+}
+
+/// Whether the channel is on the bus with that name, and has classic frames.
+fn is_base_channel(bus: &[u8], channel: &ChannelKeys) -> bool
+    ensures { MatchBool result (IsBaseChannel bus.now channel.now) (¬ IsBaseChannel bus.now channel.now) }
+{
+    if !are_same(channel.bus.items(), bus) {
+        return false;
+    }
+    channel.dl == CLASSIC_BYTES
+}
+
+/// Whether the path leads from the one channel to the other alone.
+fn is_base_path(from: &[u8], to: &[u8], path: &PathKeys) -> bool
+    ensures { MatchBool result (IsBasePath from.now to.now path.now) (¬ IsBasePath from.now to.now path.now) }
+{
+    let [destination] = path.to.items() else {
+        return false;
+    };
+    if !are_same(path.from.items(), from) {
+        return false;
+    }
+    are_same(destination.items(), to)
+}
+
+/// Whether the window is one tick, the workers run one after another, and nothing is cancelled or sent on interface paths.
+fn has_base_top(config: &Config) -> bool
+    ensures { MatchBool result (HasBaseTop config.now) (¬ HasBaseTop config.now) }
+{
+    if config.window != 1 {
+        return false;
+    }
+    if !matches!(config.mode, Mode::Serial) {
+        return false;
+    }
+    if !config.interface.items().is_empty() {
+        return false;
+    }
+    config.cancel.items().is_empty()
+}
+
+/// The cells of the one buffer; None exactly where there are several.
+fn one_buffer(config: &Config) -> Option<u32>
+    ensures { MatchOption result ((cells : ℕ) → config.now.buffers ≢ cells ∷ []) (λ cells. config.now.buffers ≡ cells ∷ []) }
+{
+    let [cells] = config.buffers.items() else {
+        return None;
+    };
+    Some(*cells)
+}
+
+/// What a run takes from the configuration, where it is built; None exactly where it isn't.
+pub(crate) fn built(config: &Config) -> Option<Setup<'_>>
+    ensures { MatchOption result ((setup : SetupOfRun) → ¬ IsBuiltConfig config.now setup) (IsBuiltConfig config.now) }
+{
+    if !has_base_top(config) {
+        return None;
+    }
+    let Some(cells) = one_buffer(config) else {
+        return None;
+    };
+    let [source, destination] = config.bus.items() else {
+        return None;
+    };
+    let [receiver, sender] = config.channel.items() else {
+        return None;
+    };
+    let [path] = config.path.items() else {
+        return None;
+    };
+    if !is_base_bus(source) {
+        return None;
+    }
+    if !is_base_bus(destination) {
+        return None;
+    }
+    if !is_base_channel(source.name.items(), receiver) {
+        return None;
+    }
+    if !is_base_channel(destination.name.items(), sender) {
+        return None;
+    }
+    if !is_base_path(receiver.name.items(), sender.name.items(), path) {
+        return None;
+    }
+    Some(Setup {
+        source: bus_of(source),
+        destination: bus_of(destination),
+        receiver,
+        sender,
+        path,
+        cells,
+        period: config.period,
+        linger: config.linger,
+    })
+}

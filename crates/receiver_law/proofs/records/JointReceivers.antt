@@ -15,7 +15,7 @@ use Rattle.hub_core.specs.declared.port.Room.{Room}
 use Rattle.hub_core.specs.declared.record.OpenedAt.{OpenedAt}
 use Rattle.hub_core.specs.declared.record.SessionRecord.{SessionRecord}
 use Rattle.hub_core.specs.declared.record.SessionResult.{SessionResult}
-use Rattle.hub_core.specs.declared.record.SessionResult.TheVariants.{NoReaders}
+use Rattle.hub_core.specs.declared.record.SessionResult.TheVariants.{NoReaders, NoRoom}
 use Rattle.tp_receiver.specs.declared.set.RxSet.{RxSet}
 use Rattle.tp_receiver.specs.Effects.{Ends, EndsAt, Forgets, Looks, Opens, Puts, Refuses, RxDone, RxEffect, RxStage, Waits}
 use Rattle.tp_receiver.specs.Runs.{HasReceived}
@@ -119,9 +119,9 @@ opens-so set next seq len size tick bytes opened opening v records row known =
     let two : Known set ((grows (puts path seq row.cells) w).sessions path) records (seq + 1) (Some (record { at = seq; len = len; bytes = length bytes })) = known-puts set w records (seq + 1) (length bytes) (record { at = seq; len = len; bytes = 0 }) bytes row.cells (omega arith) row.packed one in
     rw (row.calls_are, row.seq_is) two
 
--- what the last look at the room answered, the session of the reception says of its destinations
+-- what the last look at the room answered, the session of the reception says of its destinations and of its room
 abbrev IsLookedOf : Option Reception → Option Room → List Session → Type 0
-IsLookedOf busy look sessions = (going : Reception) (room : Room) (s : Session) → busy ≡ Some going → look ≡ Some room → slice_get sessions going.opened.seq ≡ Some s → s.readers ≡ room.readers
+IsLookedOf busy look sessions = (going : Reception) (room : Room) (s : Session) → busy ≡ Some going → look ≡ Some room → slice_get sessions going.opened.seq ≡ Some s → (s.readers ≡ room.readers) × (s.room ≡ room.cells)
 
 -- a stage: what is known of the path's sessions
 record KnownAt (set : RxSet) (v : View) (records : List SessionRecord) (stage : RxStage) : Type 0 where
@@ -143,7 +143,7 @@ looks-at set v records seq busy look known going room s is answers there =
     let place : busy.opened.seq ≡ going.opened.seq = ap (λ (b : Reception). b.opened.seq) same_busy in
     let same : Some s ≡ Some (f known.going.session) = sym there ∙ ap (λ n. slice_get ((grow (Asked set.path.0 busy.opened.seq look.cells look.readers) v).sessions set.path.0) n) (sym place) ∙ here in
     let at : s ≡ f known.going.session = cc in
-    ap (λ (x : Session). x.readers) at ∙ ap (λ (r : Room). r.readers) same_room
+    (ap (λ (x : Session). x.readers) at ∙ ap (λ (r : Room). r.readers) same_room, ap (λ (x : Session). x.room) at ∙ ap (λ (r : Room). r.cells) same_room)
 
 asked : (set : RxSet) (v : View) (records : List SessionRecord) (seq room readers : ℕ) (busy : Reception) → KnownIn set v records seq (Some busy) → KnownIn set (grow (Asked set.path.0 busy.opened.seq room readers) v) records seq (Some busy)
 asked set v records seq room readers busy known =
@@ -156,7 +156,11 @@ unlooked busy sessions going room s is none there = cc
 
 none-read : (set : RxSet) (event : RxEvent) (old : RxStage) (busy : Reception) (result : SessionResult) (sessions : List Session) → old.state.busy ≡ Some busy → EndsAt set event old busy result → IsLookedOf old.state.busy old.look sessions →
     (s : Session) → slice_get sessions busy.opened.seq ≡ Some s → result ≡ NoReaders → s.readers ≡ 0
-none-read set event old busy result sessions was at looked s there is = let gone = subst (EndsAt set event old busy) is at in looked busy gone.0 s was gone.1 there ∙ gone.2
+none-read set event old busy result sessions was at looked s there is = let gone = subst (EndsAt set event old busy) is at in (looked busy gone.0 s was gone.1 there).0 ∙ gone.2
+
+none-fits : (set : RxSet) (event : RxEvent) (old : RxStage) (busy : Reception) (result : SessionResult) (sessions : List Session) → old.state.busy ≡ Some busy → EndsAt set event old busy result → IsLookedOf old.state.busy old.look sessions →
+    (s : Session) → slice_get sessions busy.opened.seq ≡ Some s → (room need : ℕ) → result ≡ NoRoom room need → s.room ≡ room
+none-fits set event old busy result sessions was at looked s there room need is = let full = subst (EndsAt set event old busy) is at in (looked busy full.0 s was full.1 there).1 ∙ full.3
 
 -- each effect
 known-effect : (set : RxSet) (event : RxEvent) (tick : ℕ) (old : RxStage) (done : RxDone) (v : View) (records : List SessionRecord) → RxEffect set event tick old done → KnownAt set v records old → KnownAt set (grows done.calls v) (records ++ done.records) done.new
@@ -183,7 +187,7 @@ known-effect set event tick old done v records (Ends e) so =
     let known : KnownIn set v records old.state.seq (Some e.busy) = subst (KnownIn set v records old.state.seq) e.was so.known in
     rw (e.calls, e.records, e.new) (record {
       known = rw (grow-closed set.path.0 e.busy.opened.seq (freed_by e.left) v)
-          (known-closed set (v.sessions set.path.0) records old.state.seq (filling_of e.busy) _ e.busy.opened refl refl refl refl (none-read set event old e.busy e.result (v.sessions set.path.0) e.was e.at so.looked) known);
+          (known-closed set (v.sessions set.path.0) records old.state.seq (filling_of e.busy) _ e.busy.opened refl refl refl refl (none-read set event old e.busy e.result (v.sessions set.path.0) e.was e.at so.looked) (none-fits set event old e.busy e.result (v.sessions set.path.0) e.was e.at so.looked) known);
       looked = unlooked None _;
     })
 

@@ -22,15 +22,16 @@ IsOfSession set (Continue frames) = IsBlock set frames
 IsOfSession set Wait = Unit {0}
 IsOfSession set Refuse = ⊥
 
--- so many frames came by a tick since a flow control was put into its box: in that tick, or before it while the bus was full
+-- so many frames came by a tick since a flow control was put into its box: in that tick, or before it while the bus
+-- was full
 pub record HaveCome (full : ℕ → Bool) (frames : List Piece) (block left tick : ℕ) : Type 0 where
   pub from : ℕ
   pub by : from ≤ left
   pub boxed : IsFullFrom full from left
   pub enough : block ≤ counted from tick frames
 
--- what a flow control that left asks for is over by a tick: its block came, or its pause was waited for; after one that lets all frames
--- come no further one leaves
+-- what a flow control that left asks for is over by a tick: its block came, or its pause was waited for; after one
+-- that lets all frames come no further one leaves
 abbrev pub IsOver : (full : ℕ → Bool) → RxSet → List Piece → (left : ℕ) → ControlKind → (tick : ℕ) → Type 0
 IsOver full set frames left (Continue block) tick = (0 < block) × HaveCome full frames block left tick
 IsOver full set frames left Wait tick = left + set.n_br ≤ tick
@@ -55,12 +56,14 @@ LetsNoneCome full frames (control ∷ earlier) tick = IsSpent full frames contro
 -- each one leaves once what the one before it asks for is over
 abbrev pub FollowOneAnother : (full : ℕ → Bool) → RxSet → List Piece → List ControlLeft → Type 0
 FollowOneAnother full set frames [] = Unit {0}
-FollowOneAnother full set frames (control ∷ earlier) = MayFollow full set frames earlier control.tick × FollowOneAnother full set frames earlier
+FollowOneAnother full set frames (control ∷ earlier) = MayFollow full set frames earlier control.tick ×
+    FollowOneAnother full set frames earlier
 
 -- no more than so many that ask to wait follow one another with no frame between
 abbrev pub WaitsAreFew : (most : ℕ) → List Piece → List ControlLeft → Type 0
 WaitsAreFew most frames [] = Unit {0}
-WaitsAreFew most frames (control ∷ earlier) = (waits_in control.tick frames (control ∷ earlier) ≤ most) × WaitsAreFew most frames earlier
+WaitsAreFew most frames (control ∷ earlier) = (waits_in control.tick frames (control ∷ earlier) ≤ most) ×
+    WaitsAreFew most frames earlier
 
 -- in that tick a further flow control is owed: none left yet, the block of the newest one is over, or so is its pause
 abbrev pub IsOwedAfter : RxSet → List Piece → (left : ℕ) → ControlKind → (tick : ℕ) → Type 0
@@ -100,7 +103,8 @@ pub record AreAnswers (full : ℕ → Bool) (set : RxSet) (frames : List Piece) 
   -- where one is owed and doesn't leave, its bus is full for it
   pub owed : (tick : ℕ) → begin ≤ tick → tick < end → IsOwed set frames (last_by tick controls) tick → full tick ≡ true
   -- no frame is late, unless the bus is full for the flow control that asks for a further block
-  pub in_time : (tick : ℕ) → begin ≤ tick → tick < end → IsLate set frames (last_by tick controls) tick → full tick ≡ true
+  pub in_time : (tick : ℕ) → begin ≤ tick → tick < end → IsLate set frames (last_by tick controls) tick →
+      full tick ≡ true
 
 -- a first frame
 abbrev pub IsFirst : Meaning → Type 0
@@ -116,19 +120,24 @@ bound_of told = if is_run_end told.result then told.end.0 + 1 else told.end.0
 
 -- the record of no later start of the channel begins up to that tick
 abbrev pub NoneBegins : List SessionRecord → (n tick : ℕ) → Type 0
-NoneBegins records n tick = (later : ℕ) (next : SessionRecord) → n < later → slice_get records later ≡ Some next → tick < next.begin.0
+NoneBegins records n tick = (later : ℕ) (next : SessionRecord) → n < later → slice_get records later ≡ Some next →
+    tick < next.begin.0
 
--- the flow controls of a first frame that found no buffer: at most one leaves, and it refuses the message, within N_Ar; it is owed until the
--- next start or the run's end
+-- the flow controls of a first frame that found no buffer: at most one leaves, and it refuses the message, within
+-- N_Ar; it is owed until the next start or the run's end
 pub record AreRefusals (full : ℕ → Bool) (set : RxSet) (records : List SessionRecord) (last : ℕ) (told : SessionRecord) (controls : List ControlLeft) : Type 0 where
   pub kinds : AllByRecursion (λ (control : ControlLeft). control.kind ≡ Refuse) controls
-  pub within : AllByRecursion (λ (control : ControlLeft). (told.begin.0 ≤ control.tick) × (control.tick < told.begin.0 + set.n_ar)) controls
+  pub within : AllByRecursion (λ (control : ControlLeft). (told.begin.0 ≤ control.tick) ×
+      (control.tick < told.begin.0 + set.n_ar)) controls
   pub once : length controls ≤ 1
-  pub owed : (tick : ℕ) → told.begin.0 ≤ tick → tick < told.begin.0 + set.n_ar → tick ≤ last → NoneBegins records told.n tick → last_by tick controls ≡ None → full tick ≡ true
+  pub owed : (tick : ℕ) → told.begin.0 ≤ tick → tick < told.begin.0 + set.n_ar → tick ≤ last →
+      NoneBegins records told.n tick → last_by tick controls ≡ None → full tick ≡ true
 
 -- the flow controls of a reception: none of a single frame; those of a session; or those of an overflow
 pub record IsAnswered (full : ℕ → Bool) (r : SourceChannel) (attempt : Cut Seen) (one : Received) : Type 0 where
   pub start : one.start ≡ attempt.start
   pub none : (IsFirst one.start.meaning → ⊥) → one.controls ≡ []
-  pub session : IsFirst one.start.meaning → is_overflow one.told.result ≡ false → AreAnswers full r.rx (frames_of r.rx.a attempt) one.told.begin.0 (bound_of one.told) one.controls
-  pub refusal : IsFirst one.start.meaning → is_overflow one.told.result ≡ true → AreRefusals full r.rx r.sessions r.last one.told one.controls
+  pub session : IsFirst one.start.meaning → is_overflow one.told.result ≡ false →
+      AreAnswers full r.rx (frames_of r.rx.a attempt) one.told.begin.0 (bound_of one.told) one.controls
+  pub refusal : IsFirst one.start.meaning → is_overflow one.told.result ≡ true →
+      AreRefusals full r.rx r.sessions r.last one.told one.controls

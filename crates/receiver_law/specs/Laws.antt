@@ -13,12 +13,14 @@ use Rattle.tp_receiver.specs.declared.set.RxSet.{RxSet}
 
 -- a receiver that is idle after any steps has made one record for each start that came
 abbrev pub StepsTellSources : Type 0
-StepsTellSources = (set : RxSet) (turns : List RxTurn) → HasReceived set turns → (state_after rx_new turns).busy ≡ None →
+StepsTellSources = (set : RxSet) (turns : List RxTurn) → HasReceived set turns →
+    (state_after rx_new turns).busy ≡ None →
     SourceLaw set.chan.0 set.a set.functional (came_by frames_in turns) (records_by turns)
 
 -- and has put into the sessions just the bytes that the records tell
 abbrev pub StepsStoreWhatIsTold : Type 0
-StepsStoreWhatIsTold = (set : RxSet) (turns : List RxTurn) → HasReceived set turns → (state_after rx_new turns).busy ≡ None →
+StepsStoreWhatIsTold = (set : RxSet) (turns : List RxTurn) → HasReceived set turns →
+    (state_after rx_new turns).busy ≡ None →
     StoredLaw set.a set.functional (λ seq. bytes_of (put_in set turns seq)) (came_by frames_in turns) (records_by turns)
 
 -- after any steps each session of the path has just the cells that were put into it
@@ -28,7 +30,8 @@ SessionsHoldWhatIsPut = (set : RxSet) (turns : List RxTurn) → HasReceived set 
 
 -- after each run there is one record for each start that came
 abbrev pub RunsTellSources : Type 0
-RunsTellSources = (run : RxRun) (budget : ℕ) → IsRxRun run → SourceLaw run.set.chan.0 run.set.a run.set.functional (source_of budget run).seen (source_of budget run).sessions
+RunsTellSources = (run : RxRun) (budget : ℕ) → IsRxRun run →
+    SourceLaw run.set.chan.0 run.set.a run.set.functional (source_of budget run).seen (source_of budget run).sessions
 
 -- the limits of a channel's flow controls and frames are at least a tick
 pub record HasLimits (set : RxSet) : Type 0 where
@@ -36,6 +39,8 @@ pub record HasLimits (set : RxSet) : Type 0 where
   pub n_br : 1 ≤ set.n_br
   pub n_cr : 1 ≤ set.n_cr
 
--- in each run whose looks keep the room, the flow controls that leave are those of the receptions, and each record comes of its cause
+-- in each run whose looks keep the room, the flow controls that leave are those of the receptions, and each record
+-- comes of its cause
 abbrev pub RunsHaveReceptions : Type 0
-RunsHaveReceptions = (run : RxRun) (budget : ℕ) → IsRxRun run → HasLimits run.set → LooksKeepRoom run.set (calls_by (turns_in run)) → ReceptionLaw run.full (source_of budget run)
+RunsHaveReceptions = (run : RxRun) (budget : ℕ) → IsRxRun run → HasLimits run.set →
+    LooksKeepRoom run.set (calls_by (turns_in run)) → ReceptionLaw run.full (source_of budget run)

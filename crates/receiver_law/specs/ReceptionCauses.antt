@@ -38,10 +38,12 @@ pub record IsNextIn (pieces : List Piece) (bytes tick : ℕ) (piece : Piece) : T
   pub sum : bytes ≡ length (joined put)
   pub at : piece.at ≡ tick
 
--- a flow control was asked for in that tick: after the start or the last frame put, or as the pause was over that the newest one asked for
+-- a flow control was asked for in that tick: after the start or the last frame put, or as the pause was over that the
+-- newest one asked for
 pub data IsAskedIn (set : RxSet) (put : List Piece) (begin tick : ℕ) (controls : List ControlLeft) : Type 0 where
   AfterFrame : last_place begin put ≡ tick → IsAskedIn set put begin tick controls
-  AfterPause : (control : ControlLeft) (earlier : List ControlLeft) → controls ≡ control ∷ earlier → control.kind ≡ Wait → control.tick + set.n_br ≡ tick → IsAskedIn set put begin tick controls
+  AfterPause : (control : ControlLeft) (earlier : List ControlLeft) → controls ≡ control ∷ earlier →
+      control.kind ≡ Wait → control.tick + set.n_br ≡ tick → IsAskedIn set put begin tick controls
 
 -- a flow control lay in the box from that tick on, and none of the session leaves from then on
 pub record LiesSince (full : ℕ → Bool) (begin since to : ℕ) (controls : List ControlLeft) : Type 0 where
@@ -59,7 +61,8 @@ abbrev pub IsOverLimit : (full : ℕ → Bool) → RxSet → Cut Seen → Receiv
 IsOverLimit full set attempt one BoxLimit = IsBoxLate full set one
 IsOverLimit full set attempt one CfLimit = IsLate set (frames_of set.a attempt) (last_by one.told.end.0 one.controls) one.told.end.0
 
--- as many flow controls as are configured asked to wait, one after another, since the last frame put, as a further one was asked for
+-- as many flow controls as are configured asked to wait, one after another, since the last frame put, as a further one
+-- was asked for
 pub record IsWaitOver (set : RxSet) (attempt : Cut Seen) (one : Received) : Type 0 where
   pub put : List Piece
   pub are_put : ArePut (walk_of set.a attempt).pieces one.told.bytes put
@@ -68,8 +71,10 @@ pub record IsWaitOver (set : RxSet) (attempt : Cut Seen) (one : Received) : Type
 
 -- no destination reads, as the next counted frame found, or as a flow control was asked for
 pub data IsUnread (set : RxSet) (attempt : Cut Seen) (one : Received) : Type 0 where
-  FoundByFrame : (piece : Piece) → IsNextIn (walk_of set.a attempt).pieces one.told.bytes one.told.end.0 piece → IsUnread set attempt one
-  FoundByGrant : (put : List Piece) → ArePut (walk_of set.a attempt).pieces one.told.bytes put → IsAskedIn set put one.told.begin.0 one.told.end.0 one.controls → IsUnread set attempt one
+  FoundByFrame : (piece : Piece) → IsNextIn (walk_of set.a attempt).pieces one.told.bytes one.told.end.0 piece →
+      IsUnread set attempt one
+  FoundByGrant : (put : List Piece) → ArePut (walk_of set.a attempt).pieces one.told.bytes put →
+      IsAskedIn set put one.told.begin.0 one.told.end.0 one.controls → IsUnread set attempt one
 
 -- the next counted frame takes so many cells, and fewer had room; it wasn't let come
 pub record IsTooFull (full : ℕ → Bool) (set : RxSet) (attempt : Cut Seen) (one : Received) (room need : ℕ) : Type 0 where
@@ -79,7 +84,8 @@ pub record IsTooFull (full : ℕ → Bool) (set : RxSet) (attempt : Cut Seen) (o
   pub little : room < need
   pub none : LetsNoneCome full (drop 1 next.put) one.controls one.told.end.0
 
--- a consecutive frame is awaited since the newest flow control left that lets frames come, or since the last counted frame
+-- a consecutive frame is awaited since the newest flow control left that lets frames come, or since the last counted
+-- frame
 pub record IsAwaited (set : RxSet) (attempt : Cut Seen) (one : Received) (since last : ℕ) : Type 0 where
   pub left : ℕ
   pub block : ℕ
@@ -97,11 +103,13 @@ pub record IsPaused (set : RxSet) (one : Received) (since last : ℕ) : Type 0 w
 
 -- what is waited for at the run's end, since a tick
 abbrev pub StillWaits : (full : ℕ → Bool) → RxSet → (last : ℕ) → Cut Seen → Received → ℕ → RxWait → Type 0
-StillWaits full set last attempt one since Box = LiesSince full one.told.begin.0 since (last + 1) one.controls × (last < since + set.n_ar)
+StillWaits full set last attempt one since Box = LiesSince full one.told.begin.0 since (last + 1) one.controls ×
+    (last < since + set.n_ar)
 StillWaits full set last attempt one since Room = IsPaused set one since last
 StillWaits full set last attempt one since Cf = IsAwaited set attempt one since last
 
--- what a result comes of; that a buffer was missing, which need a start has and which number was wrong is told by other laws
+-- what a result comes of; that a buffer was missing, which need a start has and which number was wrong is told by
+-- other laws
 abbrev pub HasCause : (full : ℕ → Bool) → SourceChannel → Cut Seen → Received → SessionResult → Type 0
 HasCause full r attempt one Whole = one.told.end.0 ≡ last_place one.told.begin.0 (walk_of r.rx.a attempt).pieces
 HasCause full r attempt one (Overflow change free need) = Unit {0}
@@ -112,15 +120,16 @@ HasCause full r attempt one (NoRoom room need) = IsTooFull full r.rx attempt one
 HasCause full r attempt one WaitOver = IsWaitOver r.rx attempt one
 HasCause full r attempt one NoReaders = IsUnread r.rx attempt one
 HasCause full r attempt one Cancelled = ⊥
-HasCause full r attempt one (RunEnd wait since) = (one.told.end.0 ≡ r.last) × (since.0 ≤ r.last) × StillWaits full r.rx r.last attempt one since.0 wait
+HasCause full r attempt one (RunEnd wait since) = (one.told.end.0 ≡ r.last) × (since.0 ≤ r.last) ×
+    StillWaits full r.rx r.last attempt one since.0 wait
 
 -- a reception has its flow controls, and its record comes of its cause
 pub record IsReception (full : ℕ → Bool) (r : SourceChannel) (attempt : Cut Seen) (one : Received) : Type 0 where
   pub answered : IsAnswered full r attempt one
   pub caused : HasCause full r attempt one one.told.result
 
--- each attempt of the channel is a reception, whose record is told; and the flow controls that left are those of the receptions, in order,
--- written in the channel's shape
+-- each attempt of the channel is a reception, whose record is told; and the flow controls that left are those of the
+-- receptions, in order, written in the channel's shape
 pub record ReceptionLaw (full : ℕ → Bool) (r : SourceChannel) : Type 0 where
   pub receptions : List Received
   pub are : AllZip (IsReception full r) (attempts_in r.rx.functional r.seen) receptions

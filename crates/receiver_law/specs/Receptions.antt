@@ -1,4 +1,5 @@
--- The receptions of a source channel: each with the frame that starts it, its record, and its flow controls that left (ISO 15765-2, flow control).
+-- The receptions of a source channel: each with the frame that starts it, its record, and its flow controls
+-- that left (ISO 15765-2, flow control).
 use Rattle.std.specs.Prelude.{ℕ, ◌+◌, ◌==◌, ◌&&◌, if◌then◌else◌, nat_le, Bool, true, false, Option, Some, None, List, [], ◌∷◌, drop, reverse}
 use Rattle.std.specs.List.{flat_map}
 use Rattle.hub_core.specs.declared.record.SessionRecord.{SessionRecord}
@@ -12,7 +13,8 @@ use Rattle.tp_unit.specs.Unit.{Meaning}
 use Rattle.tp_unit.specs.Writing.{frame_of}
 use Rattle.tp_unit.specs.declared.shape.Shape.{Shape}
 
--- a flow control lets so many frames come, or all that remain where that is 0; it asks to wait; or it refuses the message
+-- a flow control lets so many frames come, or all that remain where that is 0; it asks to wait; or it refuses the
+-- message
 pub data ControlKind : Type 0 where
   Continue : (frames : ℕ) → ControlKind
   Wait : ControlKind
@@ -60,7 +62,8 @@ abbrev pub last_by : ℕ → List ControlLeft → Option ControlLeft
 last_by tick [] = None
 last_by tick (control ∷ earlier) = if nat_le control.tick tick then Some control else last_by tick earlier
 
--- how many of the newest flow controls ask to wait, one after another, with no frame up to that tick that came after one of them
+-- how many of the newest flow controls ask to wait, one after another, with no frame up to that tick that came after
+-- one of them
 abbrev pub waits_in : (tick : ℕ) → List Piece → List ControlLeft → ℕ
 waits_in tick frames [] = 0
 waits_in tick frames (control ∷ earlier) = if is_wait control.kind && (counted (control.tick + 1) tick frames == 0) then 1 + waits_in tick frames earlier else 0

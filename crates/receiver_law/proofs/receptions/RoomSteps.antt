@@ -186,7 +186,7 @@ room-step set old event m v row keep so =
     let by : IsThrough set event m (λ last. LooksKeep set v ([] ++ m.calls) → RoomsAt set event last (grows ([] ++ m.calls) v)) =
     step-through set old event m (λ stage calls records. LooksKeep set v calls → RoomsAt set event stage (grows calls v))
     (λ stage done calls records effect holds all. subst (RoomsAt set event done.new) (sym (grows-append calls done.calls v))
-        (room-effect set event m.tick stage done (grows calls v) effect (keep-back set v calls done.calls all) (holds (keep-front set v calls done.calls all)))) row [] [] (λ all. so) in
+    (room-effect set event m.tick stage done (grows calls v) effect (keep-back set v calls done.calls all) (holds (keep-front set v calls done.calls all)))) row [] [] (λ all. so) in
     record { last = by.last; state = by.state; holds = by.holds keep; unused = by.unused; more = by.more; asked = by.asked }
 
 -- between two steps what is let come has room

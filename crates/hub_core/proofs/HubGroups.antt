@@ -7,7 +7,7 @@ use Rattle.std.specs.Vec.{vec_len}
 use Rattle.gw_base.proofs.Lists.{there-at}
 use Rattle.gw_base.specs.Fit.{IsSmallest}
 use Rattle.hub_core.proofs.Cut.{all-cut, groups-cut, group-cut, count-cut, buffer-cut, IsThere, there-cut, few-buffers, size-in, last-within, part-get, all-there}
-use Rattle.hub_core.proofs.Leaving.{pool_freed}
+use Rattle.hub_core.proofs.Freeing.{pool_freed}
 use Rattle.hub_core.proofs.Ledger.{order, session-size}
 use Rattle.hub_core.proofs.Pools.{fewer-changes}
 use Rattle.hub_core.specs.Core.{MayTake}

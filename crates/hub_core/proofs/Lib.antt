@@ -2,6 +2,7 @@ mod Beginnings
 mod Bits
 mod Cut
 mod EveryStep
+mod Freeing
 mod Grouped
 mod Kept
 pub mod HubGroups
@@ -12,6 +13,7 @@ mod Merging
 mod Owning
 mod Places
 mod Pools
+mod Positions
 pub mod Quiet
 mod Rows
 mod Scans

@@ -1,12 +1,12 @@
 -- Each step of the machine that may happen keeps all that its law says.
-use Rattle.std.proofs.Common.{◌≡◌, ℕ, ◌<◌, inl, inr, List, [], ◌∷◌, ◌++◌, length, Some, All, refl, ap, sym, ◌∙◌, subst, arith, append-nil}
+use Rattle.std.proofs.Common.{◌≡◌, ℕ, ◌<◌, inl, inr, List, [], ◌∷◌, ◌++◌, length, All, refl, ap, sym, ◌∙◌, subst, arith, append-nil}
 use Rattle.std.proofs.lemmas.List.Elements.{All-nil, All-push, All-weaker}
 use Rattle.std.proofs.lemmas.Option.{slice_get_within}
 use Rattle.gw_base.proofs.Lists.{same-some}
 use Rattle.hub_core.proofs.Grouped.{Journals, ComesNext, journals-pushed, overflow-stays}
 use Rattle.hub_core.proofs.Numbered.{own-numbers, taken-clear}
-use Rattle.hub_core.proofs.Owning.{Owner, Holder, Writer, OwnedIn, OwnedBy, taken_by, goes-on, changed, entered, took, freed, session-taken, session-own, session-turn, unused, free-next}
-use Rattle.hub_core.proofs.Streamed.{Take, Streamed, Goes, calls, streams, own, roomy, none}
+use Rattle.hub_core.proofs.Owning.{OwnedIn, OwnedBy, taken_by, goes-on, changed, entered, took, freed, session-taken, session-own, session-turn, unused, free-next}
+use Rattle.hub_core.proofs.Streamed.{Streamed, Goes, calls, streams, own, roomy, none}
 use Rattle.hub_core.specs.Core.{Step, after, May, MayDo, Leads, AreJoint, CoreLaw}
 use Rattle.hub_core.specs.Core.{Takes, Refuses, Does, Frees}
 use Rattle.hub_core.specs.Groups.{group_of, place_of, sizes_of, journal_of, changes_in}
@@ -33,15 +33,11 @@ begins groups = record {
   overflows = All-nil (IsOverflowOf groups []);
   streamed = λ path dest seq. refl;
   owned = record {
-    taken = λ o t at. absurd (nobody o t at);
-    own = λ o p t u at. absurd (nobody o t at);
+    taken = λ o t at. grind (arith, at);
+    own = λ o p t u at. grind (arith, at);
     freed = λ g n buf need at. absurd cc;
   };
 }
-  where
-    nobody : (o : Owner) (t : Take) → taken_by empty_view.held empty_view.sessions o ≡ Some t → ⊥
-    nobody (Holder buf) t at = cc
-    nobody (Writer path seq) t at = cc
 
 -- a party that leaves frees nothing itself
 no-more : (changes left : List Change) → left ≡ [] → changes ≡ changes ++ left

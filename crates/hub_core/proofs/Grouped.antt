@@ -1,37 +1,15 @@
 -- The journals of groups, as one more change comes to one of them.
-use Rattle.std.proofs.Common.{◌≡◌, ◌≢◌, ℕ, suc, ◌-◌, ◌<◌, ◌≤◌, inl, inr, List, [], ◌∷◌, ◌++◌, length, Some, refl, sym, subst, arith}
+use Rattle.std.proofs.Common.{◌≡◌, ◌≢◌, ℕ, inl, inr, List, [], ◌∷◌, ◌++◌, Some, refl, sym, subst, arith}
 use Rattle.std.proofs.lemmas.Bool.Decides.{eqb_tells}
 use Rattle.hub_core.proofs.Numbered.{Journal, IsNext, numbered-old, journal-pushed, overflow-pushed}
-use Rattle.hub_core.specs.Groups.{group_of, place_of, sizes_of, in_group, journal_of}
+use Rattle.hub_core.specs.Groups.{group_of, sizes_of, in_group, journal_of}
 use Rattle.hub_core.specs.Journal.{number_of, numbered, IsOverflow, changed_buf}
 use Rattle.hub_core.specs.View.{Change, Taken, Freed, Refusal}
 
--- a buffer of the first group, and one of a later group
-pub first-group : (sizes : List ℕ) (groups : List (List ℕ)) (buf : ℕ) → buf < length sizes →
-    (group_of (sizes ∷ groups) buf ≡ 0) × (place_of (sizes ∷ groups) buf ≡ buf)
-first-group sizes groups buf below = grind arith
-
-pub later-group : (sizes : List ℕ) (groups : List (List ℕ)) (buf : ℕ) → length sizes ≤ buf →
-    (group_of (sizes ∷ groups) buf ≡ suc (group_of groups (buf - length sizes)))
-    × (place_of (sizes ∷ groups) buf ≡ place_of groups (buf - length sizes))
-later-group sizes groups buf past = grind arith
-
--- a buffer is known by its group and its number there
-pub same-buffer : (groups : List (List ℕ)) (a b : ℕ) → group_of groups a ≡ group_of groups b →
-    place_of groups a ≡ place_of groups b → a ≡ b
-same-buffer [] a b group place = place
-same-buffer (sizes ∷ groups) a b group place =
-    let rest = same-buffer groups (a - length sizes) (b - length sizes) in
-    grind (arith, rest, first-group sizes groups, later-group sizes groups)
-
--- a change's number is the same in its group, and its buffer is the one of its group
+-- a change's number is the same in its group
 pub group-number : (groups : List (List ℕ)) (c : Change) → number_of (in_group groups c) ≡ number_of c
 group-number groups (Taken number buf need) = refl
 group-number groups (Freed number buf) = refl
-
-group-buf : (groups : List (List ℕ)) (c : Change) → changed_buf (in_group groups c) ≡ place_of groups (changed_buf c)
-group-buf groups (Taken number buf need) = refl
-group-buf groups (Freed number buf) = refl
 
 -- one more change comes to the journal of its group alone
 pub pushed-same : (groups : List (List ℕ)) (group : ℕ) (changes : List Change) (c : Change) →

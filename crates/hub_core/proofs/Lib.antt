@@ -1,6 +1,7 @@
 mod Beginnings
 pub mod Cut
 pub mod EveryStep
+mod Freeing
 pub mod Grouped
 pub mod GroupReads
 mod Kept
@@ -12,6 +13,7 @@ mod Merging
 mod Owning
 mod Places
 pub mod Pools
+mod Positions
 pub mod Quiet
 mod Rows
 mod Scans

@@ -8,7 +8,7 @@ use Rattle.std.specs.Prelude.{nat_lt, if◌then◌else◌, slice_get, get_or}
 use Rattle.gw_base.proofs.Lists.{there-at}
 use Rattle.gw_base.specs.Cell.{IsCell, count_of, counted}
 use Rattle.hub_core.proofs.Cut.{all-there}
-use Rattle.hub_core.proofs.Leaving.{stands-there}
+use Rattle.hub_core.proofs.Positions.{stands-there}
 use Rattle.hub_core.proofs.Ledger.{streams, roomy, unfreed, session-size, freed-or}
 use Rattle.hub_core.proofs.Led.{led}
 use Rattle.hub_core.proofs.Rows.{occupied, sighted}

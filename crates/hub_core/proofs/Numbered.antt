@@ -1,6 +1,6 @@
 -- Changes in the order of their numbers, and the free set that they lead to, as one more change comes.
 use Rattle.std.proofs.Common.{◌≡◌, ◌≢◌, ℕ, zero, suc, ◌+◌, ◌<◌, ◌≤◌, ◌⊎◌, inl, inr, List, [], ◌∷◌, ◌++◌, length, map}
-use Rattle.std.proofs.Common.{Some, All, refl, ap, sym, ◌∙◌, subst, arith, length-append}
+use Rattle.std.proofs.Common.{Some, All, refl, ap, ◌∙◌, subst, arith, length-append}
 use Rattle.std.proofs.lemmas.Bool.{cases_lt}
 use Rattle.std.proofs.lemmas.Bool.Decides.{eqb_tells}
 use Rattle.std.proofs.lemmas.List.Folds.{find-append}
@@ -73,15 +73,11 @@ pub record IsNext (sizes : List ℕ) (changes : List Change) (c : Change) : Type
   pub lawful : IsLawful sizes (replay sizes changes (length changes)) c
 
 -- the next change of an ordered list is found by its number, and leaves the free sets before it
-module _ (changes : List Change) (c : Change) (order : AreInOrder changes)
-    (next : number_of c ≡ length changes + 1) where
-  pub order-pushed : AreInOrder (changes ++ c ∷ [])
-  order-pushed = counts-pushed 1 changes c order (omega (arith, next))
-
-  pub numbered-new : numbered (changes ++ c ∷ []) (number_of c) ≡ Some c
-  numbered-new =
-      let joined = find-append (λ (x : Change). number_of x == number_of c) changes (c ∷ []) in
-      grind (arith, joined, within changes (number_of c))
+pub numbered-new : (changes : List Change) (c : Change) → AreInOrder changes → number_of c ≡ length changes + 1 →
+    numbered (changes ++ c ∷ []) (number_of c) ≡ Some c
+numbered-new changes c order next =
+    let joined = find-append (λ (x : Change). number_of x == number_of c) changes (c ∷ []) in
+    grind (arith, joined, within changes (number_of c))
 
 pub replay-old : (sizes : List ℕ) (changes : List Change) (c : Change) (number : ℕ) → AreInOrder changes →
     number ≤ length changes → replay sizes (changes ++ c ∷ []) number ≡ replay sizes changes number
@@ -93,20 +89,16 @@ replay-old sizes changes c (suc number) order most =
 pub journal-pushed : (sizes : List ℕ) (changes : List Change) (c : Change) → Journal sizes changes →
     IsNext sizes changes c → Journal sizes (changes ++ c ∷ [])
 journal-pushed sizes changes c was next = record {
-  order = order-pushed changes c was.order next.number;
+  order = counts-pushed 1 changes c was.order (omega (arith, next.number));
   lawful = λ number below. elim (cases_lt number (length changes)) [
     | inl before ↦
-        let old = was.lawful number before in
-        let still = replay-old sizes changes c number was.order (omega arith) in
-        (old.0, numbered-old changes c (number + 1) old.0 old.1, subst (λ f. IsLawful sizes f old.0) (sym still) old.2)
+        let still = replay-old sizes changes c number was.order in
+        grind (arith, was.lawful number before, numbered-old changes c (number + 1), still)
     | inr past ↦
         let last : number ≡ length changes = omega (arith, length-append changes (c ∷ [])) in
         let its : number_of c ≡ number + 1 = omega (arith, next.number) in
-        let still = replay-old sizes changes c number was.order (omega arith) ∙ ap (replay sizes changes) last in (
-          c,
-          ap (numbered (changes ++ c ∷ [])) (sym its) ∙ numbered-new changes c was.order next.number,
-          subst (λ f. IsLawful sizes f c) (sym still) next.lawful,
-        )
+        let still = replay-old sizes changes c number was.order (omega arith) ∙ ap (replay sizes changes) last in
+        (c, rw (← its) (numbered-new changes c was.order next.number), rw still next.lawful)
   ];
 }
 

@@ -1,5 +1,5 @@
 -- Who has each buffer: as one more change comes, as a session is entered, and as parties go on.
-use Rattle.std.proofs.Common.{◌≡◌, ℕ, ◌≤◌, ◌⊎◌, inl, inr, List, [], ◌∷◌, ◌++◌, length, Option, Some, None, refl, ap, sym, subst, arith}
+use Rattle.std.proofs.Common.{◌≡◌, ℕ, ◌≤◌, ◌⊎◌, inl, inr, List, [], ◌∷◌, ◌++◌, length, Option, Some, None, refl, ap, subst, arith}
 use Rattle.std.specs.Prelude.{slice_get, option_map}
 use Rattle.gw_base.proofs.Lists.{same-some}
 use Rattle.hub_core.proofs.Grouped.{Journals, ComesNext, pushed-same, each-group, found-old}
@@ -49,10 +49,7 @@ module _ (groups : List (List ℕ)) (changes : List Change) (takes : Owner → O
       (let g : ℕ = group_of groups (changed_buf c) in Ends (Done g) (journal_of groups g changes) (in_group groups c)) →
       Owned groups (changes ++ c ∷ []) takes Done
   pushed c journals next ends = record {
-    taken = λ o t at.
-        let old = owned.taken o t at in
-        let still = found-old groups changes c (group_of groups t.buf) t.number _ old.take in
-        record { need = old.need; take = still; size_is = old.size_is };
+    taken = λ o t at. grind (arith, owned.taken o t at, found-old groups changes c (group_of groups t.buf) t.number);
     own = owned.own;
     freed =
         let g = group_of groups (changed_buf c) in
@@ -68,10 +65,7 @@ module _ (groups : List (List ℕ)) (changes : List Change) (takes : Owner → O
   comes : (now : Owner → Option Take) (new : Owner) (t : Take) → IsTake groups changes t →
       ((o : Owner) → Has new t o (now o)) → Owned groups changes now Done
   comes now new t is has = record {
-    taken = λ o u at. elim (has o u at) [
-      | inl fresh ↦ subst (IsTake groups changes) (sym fresh.1) is
-      | inr old ↦ owned.taken o u old.0
-    ];
+    taken = λ o u at. grind (arith, has o u at, is, owned.taken o u);
     own = λ o p u w at there one. grind (arith, has o u at, has p w there, owned.own o p u w, one);
     freed = owned.freed;
   }
@@ -190,8 +184,7 @@ module _ (groups : List (List ℕ)) (v : View) (owned : OwnedIn groups v) where
           at,
           λ one.
               let h = group_of groups u.buf in
-              let its = (owned.taken o u at).take in
-              let low = within (journal_of groups h v.changes) u.number _ (journals h).order its in
+              let low = within (journal_of groups h v.changes) u.number _ (journals h).order (owned.taken o u at).take in
               omega (arith, low, one, next.number, ap (λ g. length (journal_of groups g v.changes)) one.0),
         )
 
@@ -217,16 +210,12 @@ module _ (groups : List (List ℕ)) (v : View) (owned : OwnedIn groups v) where
 
   -- what this says of sessions
   pub session-taken : (path seq : ℕ) (s : Session) → session_at v path seq ≡ Some s → IsTaken groups v s
-  session-taken path seq s at =
-      let its = owned.taken (Writer path seq) (take_of s) (ap (option_map take_of) at) in
-      record { need = its.need; take = its.take; size = its.size_is }
+  session-taken path seq s at = grind (arith, owned.taken (Writer path seq) (take_of s), at)
 
   pub session-own : (path seq p k : ℕ) (s t : Session) → session_at v path seq ≡ Some s → session_at v p k ≡ Some t →
       IsSessionOf groups (group_of groups s.buf) s.number t → (path ≡ p) × (seq ≡ k)
   session-own path seq p k s t at there one =
-      let same = owned.own (Writer path seq) (Writer p k) (take_of s) (take_of t)
-      (ap (option_map take_of) at) (ap (option_map take_of) there) (sym one.0, sym one.1) in
-      (cc, cc)
+      grind (arith, owned.own (Writer path seq) (Writer p k) (take_of s) (take_of t), at, there, one)
 
   -- a take that is done with has a session that is over
   done-session : (group number : ℕ) → IsDone groups v group number → (path seq : ℕ) × (s : Session)
@@ -275,10 +264,8 @@ module _ (groups : List (List ℕ)) (v : View) (owned : OwnedIn groups v) where
       IsNextChange (changes_in groups group v) place number next →
       numbered (changes_in groups group v) next ≡ Some (Freed next place)
   free-next g n p need next take is = elim (owned.freed g n p need take) [
-    | inl last ↦ absurd (let h = last next is.changes_buf in omega (arith, h, is.after))
+    | inl last ↦ absurd (grind (arith, last next is.changes_buf, is))
     | inr e ↦
         let low = is.first e.1.free (Freed e.1.free p, e.1.freed, refl) e.1.after in
-        let high = e.1.first next is.changes_buf is.after in
-        let same : next ≡ e.1.free = omega arith in
-        rw same e.1.freed
+        grind (arith, e.1, low, e.1.first next is.changes_buf is.after)
   ]

@@ -1,5 +1,6 @@
 -- When a destination's frames leave, and what they are: none leaves before its bytes came (ISO 15765-2, segmentation and reassembly).
-use Rattle.std.specs.Prelude.{◌≡◌, ℕ, ◌+◌, ◌<◌, ◌≤◌, false, nat_le, nat_lt, List, filter, length, map}
+use Rattle.std.specs.Prelude.{◌≡◌, ℕ, ◌+◌, ◌<◌, ◌≤◌, false, nat_le, nat_lt, sum_by, List, filter, length, map}
+use Rattle.tp_receiver.specs.Table.{cells_of}
 use Rattle.tp_unit.specs.Box.{Written}
 use Rattle.std.specs.List.{AllByRecursion, AllZip, flat_map}
 use Rattle.hub_core.specs.declared.record.DestRecord.{DestRecord}
@@ -34,6 +35,13 @@ bytes_to tick pieces = length (joined (filter (λ (piece : Piece). nat_le piece.
 
 abbrev pub bytes_below : ℕ → List Piece → ℕ
 bytes_below tick pieces = length (joined (filter (λ (piece : Piece). nat_lt piece.at tick) pieces))
+
+-- the cells that pieces fill, each of its own with up to seven bytes, and those of earlier ticks
+abbrev pub cells_of_all : List Piece → ℕ
+cells_of_all pieces = sum_by (λ (piece : Piece). cells_of (length piece.bytes)) pieces
+
+abbrev pub cells_below : ℕ → List Piece → ℕ
+cells_below tick pieces = cells_of_all (filter (λ (piece : Piece). nat_lt piece.at tick) pieces)
 
 -- a destination's record begins by less than a window earlier than the record of the session that it names, and in windows of one
 -- tick no earlier

@@ -18,7 +18,7 @@ use Rattle.tp_sender.specs.declared.transmission.Phase.TheVariants.{Start, Bytes
 use Rattle.sender_law.specs.Starts.{HasLooked, IsBegun, StartLaw, look_of}
 
 -- more calls
-looked-more : (set : TxSet) (calls more : List Event) (seq len : ℕ) → HasLooked set calls seq len → HasLooked set (calls ++ more) seq len
+pub looked-more : (set : TxSet) (calls more : List Event) (seq len : ℕ) → HasLooked set calls seq len → HasLooked set (calls ++ more) seq len
 looked-more set calls more seq len has = record {
   look = has.look;
   among = record { before = has.among.before; after = has.among.after ++ more; are = ap (λ l. l ++ more) has.among.are ∙ append_assoc has.among.before (look_of set seq has.look ∷ has.among.after) more };
@@ -34,7 +34,7 @@ looked-now : (set : TxSet) (calls more : List Event) (s : Transmission) (look : 
 looked-now set calls more s look is = record { look = look; among = record { before = calls; after = more; are = refl }; enough = enough-by look.bytes s.len set.threshold look.cells set.store is }
 
 -- of the session that is sent, unless it still waits to be begun
-abbrev Looks : TxSet → List Event → Option Transmission → Type 0
+abbrev pub Looks : TxSet → List Event → Option Transmission → Type 0
 Looks set calls None = Unit {0}
 Looks set calls (Some s) = (s.phase ≡ Start) ⊎ HasLooked set calls s.seq s.len
 
@@ -133,7 +133,7 @@ of-row : (set : TxSet) (before : List Event) (next : ℕ) (live : Option Transmi
 of-row set before next None event did looks row = of-idle set before next event did row
 of-row set before next (Some s) event did looks row = of-live set before s event did.calls did looks row.0
 
-looks : (set : TxSet) (turns : List TxTurn) → HasSent set turns → Looks set (calls_by turns) (state_after tx_new turns).live
+pub looks : (set : TxSet) (turns : List TxTurn) → HasSent set turns → Looks set (calls_by turns) (state_after tx_new turns).live
 looks set [] happened = tt
 looks set (turn ∷ earlier) happened = of-row set (calls_by earlier) (state_after tx_new earlier).next (state_after tx_new earlier).live turn.event turn.did (looks set earlier happened.2) happened.1.1
 

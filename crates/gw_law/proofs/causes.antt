@@ -1,4 +1,5 @@
 -- Causes of records that need both parties.
+pub mod FirstFrames
 pub mod Held
 pub mod HeldBytes
 pub mod JointCauses

@@ -5,4 +5,4 @@ mod RxPlaces
 pub mod RxUpTo
 pub mod Timely
 pub mod TxHeld
-mod TxUpTo
+pub mod TxUpTo

@@ -179,8 +179,7 @@ module _ (groups : List (List ℕ)) (places : List Place) (words : List ℕ) (po
     seen-fresh =
         let its = reader-session groups places words pools takes v shown t known in
         let exact = seen-exact its.0 its.1 in
-        let written = (streams groups v shown.led).written t.path.0 t.seq its.0 its.1 in
-        (
+        let written = (streams groups v shown.led).written t.path.0 t.seq its.0 its.1 in (
           omega (arith, ap (number_in (λ (s : Session). s.shown)) its.1, exact.0),
           λ stood. ap (has_left (λ (s : Session). s.stands)) its.1 ∙ ap (λ (b : Bool). if b then false else true) (sym exact.2 ∙ stood),
           record {

@@ -25,11 +25,11 @@ use Rattle.tp_unit.specs.Unit.{Meaning, SingleFrame, FirstFrame, ConsecutiveFram
 use Rattle.tp_unit.specs.Writing.{frame_of, read_back}
 use Rattle.tp_unit.specs.declared.shape.Shape.{Shape}
 use Rattle.gw_law.specs.Delivery.{Delivers, DeliveryLaw, IsNamed}
-use Rattle.gw_law.specs.JointCauses.{EndsInTime, NoneWaitsTooLong, WaitsTooLong, came_by, left_before}
+use Rattle.gw_law.specs.JointCauses.{EndsInTime, NoneWaitsTooLong, WaitsTooLong, left_before}
 use Rattle.gw_law.specs.Account.{Route}
 use Rattle.receiver_law.specs.Source.{SourceLaw, Tells}
 use Rattle.sender_law.specs.Channel.{IsOfChannel}
-use Rattle.gw_law.specs.Timely.{IsTimely, TimelyLaw, bytes_below, bytes_to, delivery_of_route}
+use Rattle.gw_law.specs.Timely.{IsTimely, TimelyLaw, bytes_below, bytes_to, came_by, delivery_of_route}
 use Rattle.sender_law.specs.Transfer.{has_sent, seen_of}
 use Rattle.sender_law.specs.Pacing.{Paced, controls_of}
 use Rattle.sender_law.specs.TransmissionCauses.{IsCausedWith, IsLate, TransmissionCauses, left_in, left_up_to}
@@ -268,14 +268,14 @@ late-by r full unit cut session told tick split (piece ∷ rest) so is below wai
 ]
 
 -- a unit and a session that a number names are the only ones, of one length
-named-once : (r : Route) (seq : ℕ) (unit other : Cut Seen) (session also : SessionRecord) → DeliveryLaw (delivery_of_route r) → IsNamed (delivery_of_route r) seq unit session → IsNamed (delivery_of_route r) seq other also → (unit ≡ other) × (session ≡ also)
+pub named-once : (r : Route) (seq : ℕ) (unit other : Cut Seen) (session also : SessionRecord) → DeliveryLaw (delivery_of_route r) → IsNamed (delivery_of_route r) seq unit session → IsNamed (delivery_of_route r) seq other also → (unit ≡ other) × (session ≡ also)
 named-once r seq unit other session also law one two =
     let same : one.place ≡ two.place = once 0 r.source.sessions one.place two.place session also one.opened two.opened law.sessions one.session_is two.session_is one.opened_is two.opened_is (one.seq_is ∙ sym two.seq_is) in
     let units : Some unit ≡ Some other = sym one.unit_is ∙ ap (slice_get (attempts_in r.source.rx.functional r.source.seen)) same ∙ two.unit_is in
     let sessions : Some session ≡ Some also = sym one.session_is ∙ ap (slice_get r.source.sessions) same ∙ two.session_is in
     (cc, cc)
 
-len-named : (r : Route) (seq : ℕ) (unit : Cut Seen) (session : SessionRecord) → SourceLaw r.source.rx.chan.0 r.source.rx.a r.source.rx.functional r.source.seen r.source.sessions → IsNamed (delivery_of_route r) seq unit session → session.len ≡ len_of unit.start.meaning
+pub len-named : (r : Route) (seq : ℕ) (unit : Cut Seen) (session : SessionRecord) → SourceLaw r.source.rx.chan.0 r.source.rx.a r.source.rx.functional r.source.seen r.source.sessions → IsNamed (delivery_of_route r) seq unit session → session.len ≡ len_of unit.start.meaning
 len-named r seq unit session law named = (zip-pair (Tells r.source.rx.chan.0 r.source.rx.a) (attempts_in r.source.rx.functional r.source.seen) r.source.sessions named.place unit session law.tells named.unit_is named.session_is).len
 
 -- by the laws of the source, of a destination's ends, of time and of delivery

@@ -8,6 +8,7 @@ use Rattle.std.proofs.lemmas.List.{length-append}
 use Rattle.std.proofs.lemmas.List.Sums.{sum_by-append, sum_by-cons}
 use Rattle.std.proofs.lemmas.Option.{slice_get_past}
 use Rattle.gw_base.proofs.Lists.{all-at}
+use Rattle.gw_base.specs.Cell.{count_of, counted}
 use Rattle.hub_core.proofs.Turns.{calls-append}
 use Rattle.hub_core.specs.Turns.{calls_by, came_by, records_by, state_after}
 use Rattle.hub_core.specs.declared.record.OpenedAt.{OpenedAt}
@@ -25,7 +26,7 @@ use Rattle.tp_receiver.specs.State.{Came, FcLeft, RunEnd, RxEvent, RxTurn, Timer
 use Rattle.tp_receiver.specs.Table.{cells_of}
 use Rattle.tp_receiver.specs.declared.set.RxSet.{RxSet}
 use Rattle.tp_unit.specs.Unit.{Meaning, SingleFrame, FirstFrame, ConsecutiveFrame, FlowControl, NoUnit}
-use Rattle.gw_law.specs.Timely.{cells_below, cells_of_all}
+use Rattle.gw_law.specs.Timely.{bytes_below, cells_below, cells_of_all}
 use Rattle.gw_law.proofs.runs.Fronts.{More, TurnIn, received-more, seen-more}
 use Rattle.gw_law.proofs.times.Pieces.{After, CutFront, CutIn, Within, cut-front, cuts-in, pieces-in}
 use Rattle.gw_law.proofs.times.RxCells.{step-few}
@@ -146,7 +147,7 @@ front-cells set later (turn ∷ front) place session opened whole idle counts is
     let P : ℕ → Type 0 = λ n. IsPutSo (length (records_by (turn ∷ front))) place session.bytes n (length (joined (pieces_of set.a (slice_get (attempts_in set.functional (came_by frames_in (turn ∷ front))) place)))) in
     let sum = turn-cells _ _ (length (records_by front)) (length (records_by (turn ∷ front))) place session.bytes (length (store path (calls_by front) seq)) (length (store path turn.did.calls seq)) (length (put_in set front seq)) (length (cells_in path seq turn.did.calls))
     (more-event set.a set.functional (came_by frames_in front) place turn.did.tick turn.event) (omega (arith, length-append (records_by front) turn.did.records)) old (subst P bytes new)
-    (front-cells set (later ++ turn ∷ []) front place session opened (subst H all whole) (subst I all idle) (subst C all counts) (subst S all is) opened_is happened.2) (step-few set (state_after rx_new front) turn.event turn.did happened.1 seq) in
+    (front-cells set (later ++ turn ∷ []) front place session opened (subst H all whole) (subst I all idle) (subst C all counts) (subst S all is) opened_is happened.2) (step-few set (state_after rx_new front) turn.event turn.did happened.1 seq).0 in
     omega (arith, cells, sum)
 
 -- the pieces of an attempt's front are the first of its pieces
@@ -157,46 +158,88 @@ fold-more address walk (x ∷ frames) =
     let rest = fold-more address (look address walk x) frames in
     (one.more ++ rest.0, rest.1 ∙ ap (λ l. l ++ rest.0) one.is ∙ append_assoc walk.pieces one.more rest.0)
 
-kept-all : (bound : ℕ) (pieces more : List Piece) → AllByRecursion (λ (p : Piece). p.at < bound) pieces → cells_of_all pieces ≤ cells_below bound (pieces ++ more)
-kept-all bound [] more all = omega arith
-kept-all bound (piece ∷ pieces) more all =
+-- a measure of the pieces of earlier ticks
+abbrev sum_below : (Piece → ℕ) → ℕ → List Piece → ℕ
+sum_below size bound pieces = sum_by size (filter (λ (p : Piece). nat_lt p.at bound) pieces)
+
+kept-all : (size : Piece → ℕ) (bound : ℕ) (pieces more : List Piece) → AllByRecursion (λ (p : Piece). p.at < bound) pieces → sum_by size pieces ≤ sum_below size bound (pieces ++ more)
+kept-all size bound [] more all = omega arith
+kept-all size bound (piece ∷ pieces) more all =
     let keeps : nat_lt piece.at bound ≡ true = grind (arith, nat_tests, all.0) in
     let rest : List Piece = filter (λ (p : Piece). nat_lt p.at bound) (pieces ++ more) in
-    let is : cells_below bound (piece ∷ (pieces ++ more)) ≡ cells_of_all (piece ∷ rest) = ap (λ b. cells_of_all (cond b (piece ∷ rest) rest)) keeps in
-    omega (arith, is, sum_by-cons (λ (p : Piece). cells_of (length p.bytes)) piece rest, sum_by-cons (λ (p : Piece). cells_of (length p.bytes)) piece pieces, kept-all bound pieces more all.1)
+    let is : sum_below size bound (piece ∷ (pieces ++ more)) ≡ sum_by size (piece ∷ rest) = ap (λ b. sum_by size (cond b (piece ∷ rest) rest)) keeps in
+    omega (arith, is, sum_by-cons size piece rest, sum_by-cons size piece pieces, kept-all size bound pieces more all.1)
 
-cells-later : (low high : ℕ) (pieces : List Piece) → low ≤ high → cells_below low pieces ≤ cells_below high pieces
-cells-later low high [] le = omega arith
-cells-later low high (piece ∷ pieces) le =
-    later-by (nat_lt piece.at low) (nat_lt piece.at high) (λ is. grind (arith, nat_tests, is, le)) (cells-later low high pieces le)
+sum-later : (size : Piece → ℕ) (low high : ℕ) (pieces : List Piece) → low ≤ high → sum_below size low pieces ≤ sum_below size high pieces
+sum-later size low high [] le = omega arith
+sum-later size low high (piece ∷ pieces) le =
+    later-by (filter (λ (p : Piece). nat_lt p.at low) pieces) (filter (λ (p : Piece). nat_lt p.at high) pieces) (nat_lt piece.at low) (nat_lt piece.at high) (λ is. grind (arith, nat_tests, is, le)) (sum-later size low high pieces le)
   where
-    later-by : (early late : Bool) → (early ≡ true → late ≡ true) → cells_below low pieces ≤ cells_below high pieces →
-        cells_of_all (cond early (piece ∷ filter (λ (p : Piece). nat_lt p.at low) pieces) (filter (λ (p : Piece). nat_lt p.at low) pieces)) ≤ cells_of_all (cond late (piece ∷ filter (λ (p : Piece). nat_lt p.at high) pieces) (filter (λ (p : Piece). nat_lt p.at high) pieces))
-    later-by true true on le = omega (arith, le, sum_by-cons (λ (p : Piece). cells_of (length p.bytes)) piece (filter (λ (p : Piece). nat_lt p.at low) pieces), sum_by-cons (λ (p : Piece). cells_of (length p.bytes)) piece (filter (λ (p : Piece). nat_lt p.at high) pieces))
-    later-by true false on le = let no : false ≡ true = on refl in cc
-    later-by false true on le = omega (arith, le, sum_by-cons (λ (p : Piece). cells_of (length p.bytes)) piece (filter (λ (p : Piece). nat_lt p.at high) pieces))
-    later-by false false on le = le
+    later-by : (few many : List Piece) (early late : Bool) → (early ≡ true → late ≡ true) → sum_by size few ≤ sum_by size many → sum_by size (cond early (piece ∷ few) few) ≤ sum_by size (cond late (piece ∷ many) many)
+    later-by few many true true on le = omega (arith, le, sum_by-cons size piece few, sum_by-cons size piece many)
+    later-by few many true false on le = let no : false ≡ true = on refl in cc
+    later-by few many false true on le = omega (arith, le, sum_by-cons size piece many)
+    later-by few many false false on le = le
 
-front-pieces : (set : RxSet) (bound place : ℕ) (fronts : List (Cut Seen)) (unit : Cut Seen) → AllByRecursion (CutIn (λ (s : Seen). s.at < bound)) fronts → CutFront (λ (s : Seen). Unit {0}) fronts place unit → cells_of_all (pieces_of set.a (slice_get fronts place)) ≤ cells_below bound (walk_of set.a unit).pieces
-front-pieces set bound place fronts unit early (After long late) = omega (arith, ap (λ o. cells_of_all (pieces_of set.a o)) (slice_get_past fronts place long))
-front-pieces set bound place fronts unit early (Within before is start more) =
-    let grown = fold-more set.a (walk_of set.a before) more.more in
-    let walk : walk_of set.a unit ≡ fold (look set.a) (walk_of set.a before) more.more = ap (λ s. fold (look set.a) (begun s) unit.after) start ∙ ap (fold (look set.a) (begun before.start)) more.is ∙ fold-append (look set.a) (begun before.start) before.after more.more in
-    let all : (walk_of set.a unit).pieces ≡ (walk_of set.a before).pieces ++ grown.0 = ap (λ (w : Walk). w.pieces) walk ∙ grown.1 in
-    let ticks = pieces-in (λ (t : ℕ). t < bound) set.a before (all-at (CutIn (λ (s : Seen). s.at < bound)) fronts place before early is) in
-    omega (arith, ap (λ o. cells_of_all (pieces_of set.a o)) is, ap (cells_below bound) all, kept-all bound (walk_of set.a before).pieces grown.0 ticks)
+front-sum : (size : Piece → ℕ) (address bound place : ℕ) (fronts : List (Cut Seen)) (unit : Cut Seen) → AllByRecursion (CutIn (λ (s : Seen). s.at < bound)) fronts → CutFront (λ (s : Seen). Unit {0}) fronts place unit → sum_by size (pieces_of address (slice_get fronts place)) ≤ sum_below size bound (walk_of address unit).pieces
+front-sum size address bound place fronts unit early (After long late) = omega (arith, ap (λ o. sum_by size (pieces_of address o)) (slice_get_past fronts place long))
+front-sum size address bound place fronts unit early (Within before is start more) =
+    let grown = fold-more address (walk_of address before) more.more in
+    let walk : walk_of address unit ≡ fold (look address) (walk_of address before) more.more = ap (λ s. fold (look address) (begun s) unit.after) start ∙ ap (fold (look address) (begun before.start)) more.is ∙ fold-append (look address) (begun before.start) before.after more.more in
+    let all : (walk_of address unit).pieces ≡ (walk_of address before).pieces ++ grown.0 = ap (λ (w : Walk). w.pieces) walk ∙ grown.1 in
+    let ticks = pieces-in (λ (t : ℕ). t < bound) address before (all-at (CutIn (λ (s : Seen). s.at < bound)) fronts place before early is) in
+    omega (arith, ap (λ o. sum_by size (pieces_of address o)) is, ap (sum_below size bound) all, kept-all size bound (walk_of address before).pieces grown.0 ticks)
+
+-- the bytes of pieces, as such a sum
+joined-sum : (pieces : List Piece) → length (joined pieces) ≡ sum_by (λ (p : Piece). length p.bytes) pieces
+joined-sum [] = refl
+joined-sum (piece ∷ pieces) = length-append piece.bytes (joined pieces) ∙ ap (λ n. length piece.bytes + n) (joined-sum pieces) ∙ sym (sum_by-cons (λ (p : Piece). length p.bytes) piece pieces)
 
 any-turns : (turns : List RxTurn) → AllByRecursion (TurnIn (λ (t : ℕ). Unit {0})) turns
 any-turns [] = tt
 any-turns (turn ∷ turns) = (tt, any-turns turns)
 
--- the cells that the turns below a tick put into a session are no more than fill what its unit has of ticks below that one
-pub cells-up-to : (set : RxSet) (later front : List RxTurn) (bound high place : ℕ) (unit : Cut Seen) (session : SessionRecord) (opened : OpenedAt) → HasReceived set (later ++ front) → (state_after rx_new (later ++ front)).busy ≡ None → CountsFrom 0 (sessions_in (records_by (later ++ front))) →
+-- the cells that were put count no more bytes than were put
+pub front-counted : (set : RxSet) (front : List RxTurn) (seq : ℕ) → HasReceived set front → counted (put_in set front seq) ≤ length (store set.path.0 (calls_by front) seq)
+front-counted set [] seq happened = omega arith
+front-counted set (turn ∷ front) seq happened =
+    let path : ℕ = set.path.0 in
+    omega (
+      arith,
+      ap counted (flat_map-append (cell_in path seq) (calls_by front) turn.did.calls),
+      sum_by-append count_of (put_in set front seq) (cells_in path seq turn.did.calls),
+      ap length (store-more path seq (calls_by front) turn.did.calls),
+      length-append (store path (calls_by front) seq) (store path turn.did.calls seq),
+      front-counted set front seq happened.2,
+      (step-few set (state_after rx_new front) turn.event turn.did happened.1 seq).1,
+    )
+
+-- what the turns below a tick put into a session is no more than its unit has of ticks below that one: in cells, and in bytes
+pub record HasCome (set : RxSet) (front : List RxTurn) (high number : ℕ) (unit : Cut Seen) : Type 0 where
+  pub cells : length (put_in set front number) ≤ cells_below high (walk_of set.a unit).pieces
+  pub bytes : length (store set.path.0 (calls_by front) number) ≤ bytes_below high (walk_of set.a unit).pieces
+
+pub has-come : (set : RxSet) (later front : List RxTurn) (bound high place : ℕ) (unit : Cut Seen) (session : SessionRecord) (opened : OpenedAt) → HasReceived set (later ++ front) → (state_after rx_new (later ++ front)).busy ≡ None → CountsFrom 0 (sessions_in (records_by (later ++ front))) →
     AllByRecursion (TurnIn (λ (t : ℕ). t < bound)) front → bound ≤ high → slice_get (attempts_in set.functional (came_by frames_in (later ++ front))) place ≡ Some unit → slice_get (records_by (later ++ front)) place ≡ Some session → session.opened ≡ Some opened → HasReceived set front →
-    length (put_in set front opened.seq) ≤ cells_below high (walk_of set.a unit).pieces
-cells-up-to set later front bound high place unit session opened happened idle counts early le unit_is session_is opened_is past =
+    HasCome set front high opened.seq unit
+has-come set later front bound high place unit session opened happened idle counts early le unit_is session_is opened_is past =
     let fronts : List (Cut Seen) = attempts_in set.functional (came_by frames_in front) in
     let frames : More (λ (s : Seen). Unit {0}) (came_by frames_in front) (came_by frames_in (later ++ front)) = seen-more (λ (t : ℕ). Unit {0}) later front (any-turns later) in
     let cut = cut-front (λ (s : Seen). Unit {0}) (λ (s : Seen). is_start set.functional s.meaning) (came_by frames_in front) frames.more place unit frames.all (ap (λ l. slice_get (attempts_in set.functional l) place) (sym frames.is) ∙ unit_is) in
     let ticks = cuts-in (λ (s : Seen). s.at < bound) (λ (s : Seen). is_start set.functional s.meaning) (came_by frames_in front) (seen-all (λ (t : ℕ). t < bound) front early) in
-    omega (arith, front-cells set later front place session opened happened idle counts session_is opened_is past, front-pieces set bound place fronts unit ticks cut, cells-later bound high (walk_of set.a unit).pieces le)
+    let pieces : List Piece = (walk_of set.a unit).pieces in
+    let told = received-more later front in
+    let put = put-so set later front place told.more session opened happened idle told.is counts session_is opened_is in
+    let cells : Piece → ℕ = λ p. cells_of (length p.bytes) in
+    let bytes : Piece → ℕ = λ p. length p.bytes in
+    record {
+      cells = omega (arith, front-cells set later front place session opened happened idle counts session_is opened_is past, front-sum cells set.a bound place fronts unit ticks cut, sum-later cells bound high pieces le);
+      bytes = omega (
+        arith,
+        put.within,
+        joined-sum (pieces_of set.a (slice_get fronts place)),
+        front-sum bytes set.a bound place fronts unit ticks cut,
+        sum-later bytes bound high pieces le,
+        joined-sum (filter (λ (p : Piece). nat_lt p.at high) pieces),
+      );
+    }

@@ -28,12 +28,12 @@ packed-few (cell ∷ next ∷ cells) all full =
     let one : count_of cell ≡ 7 = full 0 (omega arith) in
     omega (arith, one, sum_by-cons count_of cell (next ∷ cells), packed-few (next ∷ cells) (All-tail IsCell cell (next ∷ cells) all) (λ k lt. full (suc k) (omega (arith, lt))))
 
--- calls that put nothing, and calls that put no more cells into a session than its bytes fill
+-- calls that put nothing, and calls that put no more cells into a session than its bytes fill, which count no more bytes
 abbrev pub PutNone : (path : ℕ) → List Event → Type 0
 PutNone path calls = (seq : ℕ) → cells_in path seq calls ≡ []
 
 abbrev pub PutFew : (path : ℕ) → List Event → Type 0
-PutFew path calls = (seq : ℕ) → length (cells_in path seq calls) ≤ cells_of (length (store path calls seq))
+PutFew path calls = (seq : ℕ) → (length (cells_in path seq calls) ≤ cells_of (length (store path calls seq))) × (counted (cells_in path seq calls) ≤ length (store path calls seq))
 
 keeps-none : (path : ℕ) (calls more : List Event) → PutNone path more → PutNone path calls → PutNone path (calls ++ more)
 keeps-none path calls more none so seq = flat_map-append (cell_in path seq) calls more ∙ ap (λ l. l ++ cells_in path seq more) (so seq) ∙ none seq
@@ -41,19 +41,19 @@ keeps-none path calls more none so seq = flat_map-append (cell_in path seq) call
 keeps-few : (path : ℕ) (calls more : List Event) → PutNone path more → PutFew path calls → PutFew path (calls ++ more)
 keeps-few path calls more none so seq =
     let same : cells_in path seq (calls ++ more) ≡ cells_in path seq calls = flat_map-append (cell_in path seq) calls more ∙ ap (λ l. cells_in path seq calls ++ l) (none seq) ∙ append-nil (cells_in path seq calls) in
-    let F : List ℕ → Type 0 = λ cells. length cells ≤ cells_of (length (bytes_of cells)) in
+    let F : List ℕ → Type 0 = λ cells. (length cells ≤ cells_of (length (bytes_of cells))) × (counted cells ≤ length (bytes_of cells)) in
     subst F (sym same) (so seq)
 
 puts-few : (path at : ℕ) (cells bytes : List ℕ) (calls more : List Event) → PutNone path calls → ((number : ℕ) → cells_in path number more ≡ cells_in path number (puts path at cells)) → IsPacked bytes cells → PutFew path (calls ++ more)
 puts-few path at cells bytes calls more none are packed seq =
-    let F : List ℕ → Type 0 = λ l. length l ≤ cells_of (length (bytes_of l)) in
+    let F : List ℕ → Type 0 = λ l. (length l ≤ cells_of (length (bytes_of l))) × (counted l ≤ length (bytes_of l)) in
     let all : cells_in path seq (calls ++ more) ≡ cells_in path seq (puts path at cells) = flat_map-append (cell_in path seq) calls more ∙ ap (λ l. l ++ cells_in path seq more) (none seq) ∙ are seq in
     elim (cases_eq seq at) [
       | inl same ↦
           let P : ℕ → Type 0 = λ n. F (cells_in path n (puts path at cells)) in
-          let few : F cells = omega (arith, packed-few cells packed.cells_only packed.full, length-bytes_of cells packed.cells_only) in
+          let few : F cells = (omega (arith, packed-few cells packed.cells_only packed.full, length-bytes_of cells packed.cells_only), omega (arith, length-bytes_of cells packed.cells_only)) in
           subst F (sym all) (subst P (sym same) (subst F (sym (cells_in-puts path at (counted cells) cells)) few))
-      | inr other ↦ subst F (sym (all ∙ cells_in-others path at seq (counted cells) cells other)) (omega arith)
+      | inr other ↦ subst F (sym (all ∙ cells_in-others path at seq (counted cells) cells other)) (omega arith, omega arith)
     ]
 
 unused-before : (result : SessionResult) (used : Bool) → used_after result used ≡ false → used ≡ false
@@ -84,4 +84,4 @@ puts-effect set event tick old done calls records (Ends e) so =
 
 -- a step
 pub step-few : (set : RxSet) (old : RxState) (event : RxEvent) (m : RxDid) → RxStep set old event m → PutFew set.path.0 m.calls
-step-few set old event m row = (step-through set old event m (PutsSo set.path.0) (puts-effect set event m.tick) row [] [] ((λ is seq. refl), λ seq. omega arith)).holds.1
+step-few set old event m row = (step-through set old event m (PutsSo set.path.0) (puts-effect set event m.tick) row [] [] ((λ is seq. refl), λ seq. (omega arith, omega arith))).holds.1

@@ -62,10 +62,12 @@ next-effect set event tick opened old done calls records (Ends e) (inl (busy, wa
 next-then : (set : RxSet) (later front : List RxTurn) (busy : Reception) → HasReceived set (later ++ front) → (state_after rx_new front).busy ≡ Some busy → (more : List SessionRecord) × (records_by (later ++ front) ≡ records_by front ++ more) × IsNext busy.opened (state_after rx_new (later ++ front)) more
 next-then set [] front busy happened is = ([], sym (append-nil (records_by front)), inl (busy, is, refl, refl))
 next-then set (turn ∷ later) front busy happened is =
-    let so = next-then set later front busy happened.2 is in
-    (so.0 ++ turn.did.records, ap (λ l. l ++ turn.did.records) so.1 ∙ append_assoc (records_by front) so.0 turn.did.records,
-    state-through set (state_after rx_new (later ++ front)) turn.event turn.did (λ state calls records. IsNext busy.opened state records)
-    (λ stage done calls records effect next. next-effect set turn.event turn.did.tick busy.opened stage done calls records effect next) happened.1 [] so.0 so.2)
+    let so = next-then set later front busy happened.2 is in (
+      so.0 ++ turn.did.records,
+      ap (λ l. l ++ turn.did.records) so.1 ∙ append_assoc (records_by front) so.0 turn.did.records,
+      state-through set (state_after rx_new (later ++ front)) turn.event turn.did (λ state calls records. IsNext busy.opened state records)
+          (λ stage done calls records effect next. next-effect set turn.event turn.did.tick busy.opened stage done calls records effect next) happened.1 [] so.0 so.2,
+    )
 
 -- at the end it is told
 next-told : (set : RxSet) (later front : List RxTurn) (busy : Reception) → HasReceived set (later ++ front) → (state_after rx_new (later ++ front)).busy ≡ None → (state_after rx_new front).busy ≡ Some busy →

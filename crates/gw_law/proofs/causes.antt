@@ -6,5 +6,6 @@ pub mod JointCauses
 mod JointEnds
 mod JointTicks
 pub mod JointWaits
+mod OrderedPieces
 mod SizedPieces
 pub mod SoonOver

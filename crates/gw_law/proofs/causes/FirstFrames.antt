@@ -1,5 +1,5 @@
 -- A transmission's first frame leaves only once enough of its unit came: its sender had looked, and no look shows more than was put.
-use Rattle.std.proofs.Common.{◌≡◌, ◌⊎◌, ℕ, ◌+◌, ◌<◌, ◌≤◌, inl, inr, Bool, true, false, nat_le, cond, None, Some, List, [], ◌∷◌, ◌++◌, length, take, refl, ap, sym, ◌∙◌, subst, arith, append-nil, append_assoc}
+use Rattle.std.proofs.Common.{◌≡◌, ◌⊎◌, ℕ, ◌+◌, ◌<◌, ◌≤◌, inl, inr, Bool, true, false, cond, None, Some, List, [], ◌∷◌, ◌++◌, length, refl, ap, sym, ◌∙◌, subst, arith, append-nil, append_assoc}
 use Rattle.std.specs.Prelude.{filter, map, nat_lt, slice_get}
 use Rattle.std.specs.List.{AllByRecursion, AllZip}
 use Rattle.std.proofs.lemmas.Bool.{cases_lt}
@@ -12,7 +12,7 @@ use Rattle.gw_base.specs.Cell.{bytes_of, count_of, counted}
 use Rattle.hub_core.proofs.Sides.{cells_at-there}
 use Rattle.hub_core.proofs.Turns.{calls-append, happened-front}
 use Rattle.hub_core.specs.Turns.{Part, calls_by, came_by as frames_came, records_by, state_after, tick_after, turns_of}
-use Rattle.hub_core.specs.View.{Event, Reading, Session, View, empty_view, grows}
+use Rattle.hub_core.specs.View.{Event, Session, empty_view, grows}
 use Rattle.hub_core.specs.declared.record.DestRecord.{DestRecord}
 use Rattle.hub_core.specs.declared.record.SessionRecord.{SessionRecord}
 use Rattle.receiver_law.proofs.records.SourceLaws.{source_law_of, stored_law_of}
@@ -20,13 +20,12 @@ use Rattle.receiver_law.proofs.sessions.Openings.{openings}
 use Rattle.receiver_law.proofs.sessions.Stores.{store, store-more}
 use Rattle.receiver_law.specs.Source.{CountsFrom, Puts, SourceLaw, sessions_in}
 use Rattle.receiver_law.specs.RxRun.{RxRun}
-use Rattle.sender_law.proofs.records.Origins.{InTicks}
-use Rattle.sender_law.proofs.transfers.TxBegun.{HasBegun, begun-live, begun-more, begun-told, end-told}
+use Rattle.sender_law.proofs.transfers.TxBegun.{HasBegun, begun-live, begun-told, end-told}
 use Rattle.sender_law.proofs.transfers.TxLaw.{law, so-far, world_of}
 use Rattle.sender_law.proofs.transfers.TxWorld.{SoFar}
 use Rattle.sender_law.specs.Parts.{IsStepIn}
 use Rattle.sender_law.specs.Runs.{TxRun}
-use Rattle.sender_law.specs.Starts.{HasLooked, IsAmong, look_of}
+use Rattle.sender_law.specs.Starts.{IsAmong, look_of}
 use Rattle.sender_law.specs.Transfer.{SendsFor, has_sent, seen_of, transfer_of}
 use Rattle.tp_attempts.specs.Attempts.{attempts_in}
 use Rattle.tp_attempts.specs.Cuts.{Cut}
@@ -34,7 +33,6 @@ use Rattle.tp_attempts.specs.Seen.{Seen, len_of}
 use Rattle.tp_attempts.specs.Walk.{reassembled, walk_of}
 use Rattle.tp_receiver.specs.Runs.{HasReceived, frames_in, put_in}
 use Rattle.tp_receiver.specs.State.{RxTurn, rx_new}
-use Rattle.tp_receiver.specs.declared.set.RxSet.{RxSet}
 use Rattle.tp_sender.specs.Runs.{HasSent, box_after, left_by, len_joined, lens_in, written_at}
 use Rattle.tp_sender.specs.State.{TxTurn, tx_new}
 use Rattle.tp_sender.specs.declared.event.TxEvent.{TxEvent}
@@ -51,12 +49,12 @@ use Rattle.gw_law.proofs.causes.HeldBytes.{Front, front-at}
 use Rattle.gw_law.proofs.causes.JointWaits.{len-named, named-once}
 use Rattle.gw_law.proofs.deliveries.Deliveries.{all-sent}
 use Rattle.gw_law.proofs.runs.Barriers.{Barrier, barrier, received-below, sent-below}
-use Rattle.gw_law.proofs.runs.Before.{Cut as PartsCut, below-last, cut as cut-parts, front-of, timed-front, turns-in, AreTimed}
+use Rattle.gw_law.proofs.runs.Before.{Cut as PartsCut, cut as cut-parts, front-of, timed-front, turns-in, AreTimed}
 use Rattle.gw_law.proofs.runs.Fronts.{TurnIn}
 use Rattle.gw_law.proofs.runs.Looks.{IsShown, shown-parts}
-use Rattle.gw_law.proofs.runs.Moments.{IsFront, Whole, front-all, front-below, received, sent, split-turns}
-use Rattle.gw_law.proofs.runs.Parts.{rx-rising, rx-timed, tx-rising}
-use Rattle.gw_law.proofs.times.Pieces.{After, CutFront, Within}
+use Rattle.gw_law.proofs.runs.Moments.{IsFront, Whole, front-below, received, sent, split-turns}
+use Rattle.gw_law.proofs.runs.Parts.{rx-rising, rx-timed}
+use Rattle.gw_law.proofs.times.Pieces.{After, Within}
 use Rattle.gw_law.proofs.times.RxCame.{HasCome, front-counted, has-come}
 use Rattle.gw_law.proofs.times.Timely.{AreIdle, route_told, sends-all}
 use Rattle.gw_law.proofs.times.TxUpTo.{GoesOnThere, IsFrontFor, ToldThere, front-cut, front-for, joined-in, seqs-below, told-before}

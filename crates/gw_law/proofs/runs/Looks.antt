@@ -1,21 +1,20 @@
 -- What a sender saw at any time it knows ever after: its looks at a session show no less than the looks before them.
-use Rattle.std.proofs.Common.{◌≡◌, ℕ, ◌+◌, ◌≤◌, ◌⊎◌, zero, suc, inl, inr, Bool, Some, None, List, [], ◌∷◌, ◌++◌, refl, ap, sym, ◌∙◌, subst, arith, append_assoc}
+use Rattle.std.proofs.Common.{◌≡◌, ℕ, ◌≤◌, ◌⊎◌, zero, suc, inl, inr, Bool, Some, List, [], ◌∷◌, ◌++◌, refl, ap, sym, ◌∙◌, subst, arith, append_assoc}
 use Rattle.std.specs.Prelude.{slice_get}
 use Rattle.std.specs.List.{AllByRecursion}
-use Rattle.std.proofs.lemmas.List.{append_cancel_left}
-use Rattle.gw_base.proofs.Lists.{all-at, all-front, all-split, same-some, slice_get-more}
+use Rattle.gw_base.proofs.Lists.{same-some, slice_get-more}
 use Rattle.hub_core.proofs.Growing.{at_two-same, grows-append, slice_get-change_at}
 use Rattle.hub_core.proofs.Turns.{calls-append, happened-front}
-use Rattle.hub_core.specs.Floors.{AreFresh, Floors, IsFresh, floors_of}
+use Rattle.hub_core.specs.Floors.{AreFresh, Floors, IsFresh}
 use Rattle.hub_core.specs.Turns.{Part, calls_by, turns_of}
-use Rattle.hub_core.specs.View.{Event, Reading, View, change_at, empty_view, grow, grows, reading_at, Took, Refused, Entered, Asked, Put, Published, Joining, Missed, Saw, Read, Closed, Parted}
+use Rattle.hub_core.specs.View.{Event, Reading, View, change_at, empty_view, grow, grows, Took, Refused, Entered, Asked, Put, Published, Joining, Missed, Saw, Read, Closed, Parted}
 use Rattle.sender_law.specs.Starts.{IsAmong}
 use Rattle.tp_sender.specs.Own.{OfDest}
 use Rattle.tp_sender.specs.Runs.{HasSent}
 use Rattle.tp_sender.specs.State.{TxTurn}
-use Rattle.gw_law.specs.Deeds.{LiesIn, LiesWithin, own_view, view_at}
+use Rattle.gw_law.specs.Deeds.{own_view}
 use Rattle.gw_law.proofs.runs.Barriers.{Pair}
-use Rattle.gw_law.proofs.runs.Openings.{Opening, opening, part-fresh}
+use Rattle.gw_law.proofs.runs.Openings.{part-fresh}
 use Rattle.gw_law.proofs.runs.OwnCalls.{sent-reads}
 
 -- a destination's readings have one of that number, which shows so many cells and bytes, or more

@@ -1,5 +1,5 @@
 -- How many cells were put into a record's session up to a tick: no more than fill what came of its unit by then, frame by frame.
-use Rattle.std.proofs.Common.{◌≡◌, ℕ, ◌+◌, ◌<◌, ◌≤◌, zero, suc, inl, inr, Bool, true, false, ◌&&◌, ◌==◌, nat_le, if◌then◌else◌, cond, Option, None, Some, List, [], ◌∷◌, ◌++◌, length, take, refl, ap, sym, ◌∙◌, subst, arith, append-nil, append_assoc}
+use Rattle.std.proofs.Common.{◌≡◌, ℕ, ◌+◌, ◌<◌, ◌≤◌, zero, suc, inl, inr, Bool, true, false, ◌&&◌, ◌==◌, nat_le, if◌then◌else◌, cond, None, Some, List, [], ◌∷◌, ◌++◌, length, take, refl, ap, sym, ◌∙◌, subst, arith, append-nil, append_assoc}
 use Rattle.std.specs.Prelude.{filter, fold, nat_lt, slice_get, sum_by}
 use Rattle.std.specs.List.{AllByRecursion}
 use Rattle.std.proofs.lemmas.Bool.Decides.{nat_tests}
@@ -9,7 +9,6 @@ use Rattle.std.proofs.lemmas.List.Sums.{sum_by-append, sum_by-cons}
 use Rattle.std.proofs.lemmas.Option.{slice_get_past}
 use Rattle.gw_base.proofs.Lists.{all-at}
 use Rattle.gw_base.specs.Cell.{count_of, counted}
-use Rattle.hub_core.proofs.Turns.{calls-append}
 use Rattle.hub_core.specs.Turns.{calls_by, came_by, records_by, state_after}
 use Rattle.hub_core.specs.declared.record.OpenedAt.{OpenedAt}
 use Rattle.hub_core.specs.declared.record.SessionRecord.{SessionRecord}

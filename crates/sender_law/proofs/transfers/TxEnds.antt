@@ -3,7 +3,7 @@ use Rattle.std.proofs.Common.{◌≡◌, ◌⊎◌, inl, inr, ℕ, List, [], ref
 use Rattle.std.specs.List.{AllByRecursion}
 use Rattle.gw_base.proofs.Lists.{all-weaker}
 use Rattle.hub_core.specs.View.{Event}
-use Rattle.hub_core.specs.declared.port.Seen.{Seen}
+use Rattle.hub_core.specs.declared.port.Seen.{Seen as Look}
 use Rattle.hub_core.specs.declared.record.DestRecord.{DestRecord}
 use Rattle.hub_core.specs.declared.record.DestResult.{DestResult}
 use Rattle.hub_core.specs.declared.record.DestResult.TheVariants.{Sent, SourceEnded, BsTimeout, FcOverflow, InvalidFs, CsTimeout, AsTimeout, Cancelled, RunEnd as EndOfRun}
@@ -61,7 +61,7 @@ record IsSame (s now : Transmission) : Type 0 where
 ends : (set : TxSet) (s now : Transmission) (event : TxEvent) (act : BoxMeaning) (result : DestResult) (calls : List Event) (did : TxDid) → IsSame s now → EndsFrom s event now.sent result → Ends set now act result calls did → AreEndsOf s event did.records
 ends set s now event act result calls did same from row = let P : List DestRecord → Type 0 = λ l. AreEndsOf s event l in subst P (sym row.records) (record { seq = same.seq; begin = same.begin; some = same.some; from = from }, tt)
 
-of-lacks : (set : TxSet) (s now : Transmission) (look : Seen) (calls : List Event) (did : TxDid) → IsSame s now → MayLack s.phase → Lacks set now look calls did → AreEndsOf s Turn did.records
+of-lacks : (set : TxSet) (s now : Transmission) (look : Look) (calls : List Event) (did : TxDid) → IsSame s now → MayLack s.phase → Lacks set now look calls did → AreEndsOf s Turn did.records
 of-lacks set s now look calls did same may (WriterGone gone row) = ends set s now Turn Keeps SourceEnded calls did same (refl, may) row
 of-lacks set s now look calls did same may (TooLate there late row) = ends set s now Turn Keeps (CsTimeout look.bytes) calls did same tt row
 of-lacks set s now look calls did same may (MayCome there early row) = none s Turn did.records row.records

@@ -4,7 +4,7 @@ use Rattle.std.specs.Prelude.{◌==◌, ◌&&◌, ◌||◌, nat_le, not}
 use Rattle.std.proofs.lemmas.Bool.Decides.{nat_tests}
 use Rattle.hub_core.specs.Turns.{calls_by, state_after}
 use Rattle.hub_core.specs.View.{Event, Joining}
-use Rattle.hub_core.specs.declared.port.Seen.{Seen}
+use Rattle.hub_core.specs.declared.port.Seen.{Seen as Look}
 use Rattle.hub_core.specs.declared.record.DestResult.{DestResult}
 use Rattle.tp_sender.specs.Runs.{HasSent}
 use Rattle.tp_sender.specs.State.{Transmission, TxDid, TxTurn, tx_new}
@@ -30,7 +30,7 @@ enough-by bytes len threshold cells true is = inl (grind (arith, nat_tests))
 enough-by bytes len threshold cells false is = grind (arith, nat_tests)
 
 -- a look that shows it
-looked-now : (set : TxSet) (calls more : List Event) (s : Transmission) (look : Seen) → is_reached set s look ≡ true → HasLooked set (calls ++ look_at set s look ∷ more) s.seq s.len
+looked-now : (set : TxSet) (calls more : List Event) (s : Transmission) (look : Look) → is_reached set s look ≡ true → HasLooked set (calls ++ look_at set s look ∷ more) s.seq s.len
 looked-now set calls more s look is = record { look = look; among = record { before = calls; after = more; are = refl }; enough = enough-by look.bytes s.len set.threshold look.cells set.store is }
 
 -- of the session that is sent, unless it still waits to be begun
@@ -50,7 +50,7 @@ looks-kept : (set : TxSet) (calls : List Event) (s : Transmission) (live : Optio
 looks-kept set calls s live has (IsOver is) = looks-at set calls live None is tt
 looks-kept set calls s live has (IsSame t is seq len) = looks-at set calls live (Some t) is (inr (rw (seq, len) has))
 
-of-lacks : (set : TxSet) (s : Transmission) (look : Seen) (calls : List Event) (did : TxDid) → Lacks set s look calls did → Keeps s.seq s.len did.new.live
+of-lacks : (set : TxSet) (s : Transmission) (look : Look) (calls : List Event) (did : TxDid) → Lacks set s look calls did → Keeps s.seq s.len did.new.live
 of-lacks set s look calls did (WriterGone gone row) = IsOver row.live
 of-lacks set s look calls did (TooLate there late row) = IsOver row.live
 of-lacks set s look calls did (MayCome there early row) = IsSame s row.live refl refl

@@ -25,6 +25,7 @@ use Rattle.gw_law.specs.Lawful.{IsLawfulRoute}
 use Rattle.gw_law.specs.Plan.{IsLawfulSending, Receiving, Sending}
 use Rattle.gw_law.specs.Run.{HasJoinedAll, IsReceiverRun, IsRun, IsSenderRun}
 use Rattle.gw_law.specs.Timely.{TimelyLaw, delivery_of_route}
+use Rattle.gw_law.proofs.causes.FirstFrames.{all-start}
 use Rattle.gw_law.proofs.causes.Held.{causes-held, held_at}
 use Rattle.gw_law.proofs.causes.HeldBytes.{holds-all}
 use Rattle.gw_law.proofs.causes.JointCauses.{Known, all-short, all-unread}
@@ -57,13 +58,14 @@ whole-runs c = record {
   readings = c.whole.far.readings;
 }
 
-timely-law : (c : Crossing) (b e : ℕ) → TimelyLaw (route_told b e c.whole)
-timely-law c b e =
+timely-law : (c : Crossing) (b e : ℕ) → SourceLaw c.whole.pair.rx.set.chan.0 c.whole.pair.rx.set.a c.whole.pair.rx.set.functional (route_told b e c.whole).source.seen (route_told b e c.whole).source.sessions → DeliveryLaw (delivery_of_route (route_told b e c.whole)) → TimelyLaw (route_told b e c.whole)
+timely-law c b e source delivers =
     let o : Whole = c.whole in
     let frames = frames-of o in
     let t = transfer_of o.pair.tx.set (sent o) in
     record {
       begins = begins-all o c.idle;
+      starts = all-start o b e c.idle source delivers;
       timely = timely-all o c.idle;
       own = frames.own;
       counted = frames.counted ∙ ticks-counted t (attempts_in false t.frames) (filter has_sent t.records) (sends-all o c.idle);
@@ -76,7 +78,7 @@ route-law c b e =
     let delivers : DeliveryLaw (delivery_of_route r) = delivery_law_of o.pair.rx.set (received o) o.pair.tx.set (sent o) o.view (whole-runs c) in
     let source : SourceLaw r.source.rx.chan.0 r.source.rx.a r.source.rx.functional r.source.seen r.source.sessions = source_law_of_run o.pair.rx b o.pair.rx_run in
     let known : Known o r = record { rx = refl; tx = refl; window = refl; sessions = refl; dests = refl; source = source; delivers = delivers; served = c.served } in
-    let timely : TimelyLaw r = timely-law c b e in
+    let timely : TimelyLaw r = timely-law c b e source delivers in
     record {
       delivery = delivers;
       each = each_session_of o.pair.rx.set (received o) o.pair.tx.set (sent o) o.view (whole-runs c) c.served;

@@ -1,6 +1,7 @@
 pub mod Barriers
 pub mod Before
 pub mod Fronts
+pub mod Looks
 pub mod Meetings
 pub mod Moments
 pub mod Openings

@@ -1,5 +1,8 @@
 pub mod Pieces
+pub mod RxCame
+mod RxCells
+mod RxPlaces
 pub mod RxUpTo
 pub mod Timely
 pub mod TxHeld
-mod TxUpTo
+pub mod TxUpTo

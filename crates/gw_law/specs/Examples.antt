@@ -9,7 +9,7 @@ use Rattle.hub_core.specs.declared.record.Move.{Move}
 use Rattle.hub_core.specs.declared.record.RxWait.TheVariants.{Cf}
 use Rattle.hub_core.specs.declared.record.SessionRecord.{SessionRecord}
 use Rattle.hub_core.specs.declared.record.SessionResult.TheVariants.{Whole, WrongSn, NoReaders, RunEnd}
-use Rattle.hub_core.specs.declared.record.TxWait.TheVariants.{Bus, Start}
+use Rattle.hub_core.specs.declared.record.TxWait.TheVariants.{Bus, Fc, Start}
 use Rattle.tp_unit.specs.Box.{Written}
 use Rattle.tp_unit.specs.declared.shape.Shape.{Shape}
 use Rattle.gw_law.specs.Account.{Account}
@@ -177,6 +177,15 @@ no_such_destination = record lawful_run { dests = unsent ∷ sent_on 1 ∷ sent_
 abbrev pub sent_before_it_came : Account
 sent_before_it_came = record lawful_run { came = came_on 3; sessions = long_session ∷ short_session 3 ∷ [] }
 
+-- the long message's first frame leaves on bus 1 in tick 1, though its six bytes fill one cell of two
+abbrev pub left_early : ℕ → List Written
+left_early zero = single_then_control 0x600 single_frame
+left_early (suc zero) = leaves 1 0x710 first_frame ∷ []
+left_early (suc (suc bus)) = []
+
+abbrev pub sent_below_the_threshold : Account
+sent_below_the_threshold = record lawful_run { left = left_early; dests = record unsent { sent = 6; result = DestRunEnd Fc (record { 0 = 1 }) } ∷ sent_on 1 ∷ [] }
+
 -- the flow control waits in tick 0 though the frame that leaves has a lower priority
 abbrev pub lower_priority_first : Account
 lower_priority_first = record lawful_run { plan = two_paths 0x720; left = left_on (single_then_control 0x720 single_frame) }
@@ -275,6 +284,7 @@ pub record NeighboursAreUnlawful : Type 0 where
   pub no_such_destination : Lawful no_such_destination → ⊥
   -- (TimelyLaw)
   pub sent_before_it_came : Lawful sent_before_it_came → ⊥
+  pub sent_below_the_threshold : Lawful sent_below_the_threshold → ⊥
   -- (AreAnswers)
   pub lower_priority_first : Lawful lower_priority_first → ⊥
   -- (BusLaw)

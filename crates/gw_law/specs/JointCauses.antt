@@ -16,7 +16,7 @@ use Rattle.tp_sender.specs.Frame.{part_after}
 use Rattle.tp_unit.specs.Shape.{address_size}
 use Rattle.gw_law.specs.Delivery.{IsNamed}
 use Rattle.gw_law.specs.Account.{Route}
-use Rattle.gw_law.specs.Timely.{bytes_below, delivery_of_route}
+use Rattle.gw_law.specs.Timely.{came_by, delivery_of_route}
 use Rattle.sender_law.specs.Pacing.{controls_of}
 use Rattle.sender_law.specs.Transfer.{has_sent}
 use Rattle.sender_law.specs.TransmissionCauses.{AllowedFrom, IsLate, left_in}
@@ -101,10 +101,6 @@ pub record AreSoonOver (r : Route) : Type 0 where
 -- the frames of a transmission that left before a tick
 abbrev pub left_before : ℕ → List Piece → List Piece
 left_before tick pieces = filter (λ (piece : Piece). nat_lt piece.at tick) pieces
-
--- the bytes of a session that came in ticks below a window from a tick on, at most those that were put
-abbrev pub came_by : Route → Cut Seen → SessionRecord → ℕ → ℕ
-came_by r unit session tick = min (bytes_below (tick + r.window) (walk_of r.source.rx.a unit).pieces) session.bytes
 
 -- by a tick a destination waits too long for bytes: its start left before, the next frame was allowed at least as many ticks ago as the limit,
 -- and fewer bytes of the session came in ticks below a window from it on than were sent and the next frame carries

@@ -1,6 +1,7 @@
 -- The transmissions.
 pub mod OtherFrames
 pub mod TxAnswers
+pub mod TxBegun
 pub mod TxBoxed
 pub mod TxEnds
 pub mod TxFrames

@@ -11,7 +11,7 @@ use Rattle.gw_law.specs.Examples.{lawful_run, leaves, long_session, sending, sen
 use Rattle.gw_law.specs.Lawful.{IsLawfulDest, IsLawfulRoute, Lawful}
 use Rattle.gw_law.specs.Plan.{Receiving, Sending}
 use Rattle.gw_law.specs.Delivery.{Names}
-use Rattle.gw_law.specs.Timely.{bytes_below, bytes_to, delivery_of_route}
+use Rattle.gw_law.specs.Timely.{bytes_below, bytes_to, cells_below, delivery_of_route}
 use Rattle.tp_attempts.specs.Cuts.{Cut}
 use Rattle.tp_attempts.specs.Seen.{Seen}
 use Rattle.tp_attempts.specs.Walk.{walk_of}
@@ -89,7 +89,7 @@ long_route = record {
     delivers = tt;
   };
   each = refl;
-  timely = record { begins = (λ unit session named. begin-of long_session session named.place 3 named.session_is (omega arith), tt); timely = tt; own = tt; counted = refl };
+  timely = record { begins = (λ unit session named. begin-of long_session session named.place 3 named.session_is (omega arith), tt); starts = tt; timely = tt; own = tt; counted = refl };
   joint = record { unread = (λ told. absurd (cc), tt); short = (tt, tt); soon = record { sent = tt; unsent = ((λ none unit session named how. absurd (cc)), tt) }; in_time = tt };
 }
 
@@ -105,6 +105,7 @@ short_route = record {
   each = refl;
   timely = record {
     begins = (λ unit session named. begin-of (short_session 2) session named.place 3 named.session_is (omega arith), tt);
+    starts = (λ unit session named. inr (refl, starts unit (alone _ _ named.place named.unit_is)), tt);
     timely = (λ unit session named tick. in-time tick unit (alone _ _ named.place named.unit_is), tt);
     own = (record { unit = SingleFrame (7 ∷ 8 ∷ 9 ∷ []); fits = refl; frame = refl; id = refl; fd = refl }, tt);
     counted = refl;
@@ -126,6 +127,9 @@ short_route = record {
       whole = (λ sent. refl, λ bytes. refl);
       ticks = omega arith;
     }
+
+    starts : (unit : Cut Seen) → single ≡ unit → 1 ≤ cells_below 3 (walk_of 0 unit).pieces
+    starts unit same = subst (λ (u : Cut Seen). 1 ≤ cells_below 3 (walk_of 0 u).pieces) same (omega arith)
 
     in-time : (tick : ℕ) (unit : Cut Seen) → single ≡ unit → bytes_to tick (record { at = 0; bytes = 7 ∷ 8 ∷ 9 ∷ [] } ∷ []) ≤ bytes_below (tick + 3) (walk_of 0 unit).pieces
     in-time tick unit same = subst (λ (u : Cut Seen). bytes_to tick (record { at = 0; bytes = 7 ∷ 8 ∷ 9 ∷ [] } ∷ []) ≤ bytes_below (tick + 3) (walk_of 0 u).pieces) same

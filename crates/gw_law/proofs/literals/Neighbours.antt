@@ -27,7 +27,7 @@ use Rattle.tp_attempts.specs.Seen.{Seen, is_data}
 use Rattle.gw_law.proofs.literals.Items.{alone}
 use Rattle.gw_law.specs.Channels.{address_in, is_addressed, is_control}
 use Rattle.gw_law.specs.Emission.{IsControlOn, IsDataOn, IsOfSending}
-use Rattle.gw_law.specs.Examples.{NeighboursAreUnlawful, awaited_too_early, buffer_of_another_group, changed_byte, frame_of_no_channel, leaves, control_frame, long_session, lower_priority_first, no_such_destination, read_to_the_end, receiving, sent_before_it_came, sent_on, single_frame, short_session, sending, source_ended_late, takes, two_takes_of_one_buffer, unsent}
+use Rattle.gw_law.specs.Examples.{NeighboursAreUnlawful, awaited_too_early, buffer_of_another_group, changed_byte, frame_of_no_channel, leaves, control_frame, long_session, lower_priority_first, no_such_destination, read_to_the_end, receiving, sent_before_it_came, sent_below_the_threshold, sent_on, single_frame, short_session, sending, source_ended_late, takes, two_takes_of_one_buffer, unsent}
 use Rattle.gw_law.specs.JointCauses.{IsOwnEnd}
 use Rattle.gw_law.specs.Lawful.{Lawful, is_full_at}
 use Rattle.gw_law.specs.Plan.{Receiving, Sending}
@@ -85,6 +85,15 @@ one-control full r attempt told bytes (one ∷ []) are records wrote = of one.co
 -- the attempt that the first frame begins
 abbrev long_attempt : Cut Seen
 long_attempt = record { start = record { at = 0; size = 8; meaning = FirstFrame 10 (1 ∷ 2 ∷ 3 ∷ 4 ∷ 5 ∷ 6 ∷ []) }; after = [] }
+
+-- six bytes are neither ten, nor do they fill two cells
+begins-late : Lawful sent_below_the_threshold → ⊥
+unfolding unit_in
+begins-late law =
+    elim ((law.routes 0 0 _ _ refl refl refl).timely.starts.0 _ long_session (record { place = 0; unit_is = refl; session_is = refl; opened = _; opened_is = refl; seq_is = refl })) [
+      | inl all ↦ (let bytes : 10 ≤ 6 = all in omega (arith, bytes))
+      | inr some ↦ (let cells : 2 ≤ 1 = some.1 in omega (arith, cells))
+    ]
 
 by-priority : Lawful lower_priority_first → ⊥
 unfolding unit_in
@@ -167,6 +176,7 @@ neighbours = record {
   wrong_destination = λ law. let each : [] ≡ 0 ∷ [] = (law.routes 1 1 _ _ refl refl refl).each in cc;
   no_such_destination = λ law. no-path law.no_others.dests.1.1.0;
   sent_before_it_came = came-in-time;
+  sent_below_the_threshold = begins-late;
   lower_priority_first = by-priority;
   two_in_a_tick = λ law. let most : 2 ≤ 1 = (law.buses 0).most 0 in omega (arith, most);
   frame_of_no_channel = no-stray;

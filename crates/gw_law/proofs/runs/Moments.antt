@@ -38,12 +38,12 @@ pub record IsFront {T : Type 0} (front whole : List T) : Type 0 where
   pub later : List T
   pub is : whole ≡ later ++ front
 
-front-all : {T : Type 0} (end : List T) (bound : ℕ) (parts : List (Part T)) → IsFront (turns_of (before bound parts)) (end ++ turns_of parts)
+pub front-all : {T : Type 0} (end : List T) (bound : ℕ) (parts : List (Part T)) → IsFront (turns_of (before bound parts)) (end ++ turns_of parts)
 front-all end bound parts =
     let so = front-of bound parts in
     record { later = end ++ turns_of so.0; is = ap (λ l. end ++ turns_of l) so.1 ∙ ap (λ l. end ++ l) (turns-append so.0 (before bound parts)) ∙ sym (append_assoc end (turns_of so.0) (turns_of (before bound parts))) }
 
-front-below : {T : Type 0} (low high : ℕ) (parts : List (Part T)) → low ≤ high → IsFront (turns_of (before low parts)) (turns_of (before high parts))
+pub front-below : {T : Type 0} (low high : ℕ) (parts : List (Part T)) → low ≤ high → IsFront (turns_of (before low parts)) (turns_of (before high parts))
 front-below low high parts le =
     let so = front-within low high parts le in
     record { later = turns_of so.0; is = ap turns_of so.1 ∙ turns-append so.0 (before low parts) }

@@ -5,11 +5,12 @@ use Rattle.std.specs.Prelude.{nat_lt, slice_get}
 use Rattle.std.proofs.lemmas.Bool.{cases_lt}
 use Rattle.std.proofs.lemmas.Bool.Decides.{nat_tests}
 use Rattle.std.proofs.lemmas.List.{append_cancel_left}
-use Rattle.gw_base.proofs.Lists.{all-at}
+use Rattle.gw_base.proofs.Lists.{all-at, all-split}
+use Rattle.hub_core.proofs.Growing.{grows-append}
 use Rattle.hub_core.proofs.Turns.{calls-append}
 use Rattle.hub_core.specs.Floors.{AreFresh, Floors, IsFresh, floors_of}
 use Rattle.hub_core.specs.Turns.{Part, calls_by, tick_after, turns_of}
-use Rattle.hub_core.specs.View.{Event, View, grow, grows}
+use Rattle.hub_core.specs.View.{Event, View, empty_view, grow, grows}
 use Rattle.sender_law.specs.Starts.{IsAmong}
 use Rattle.tp_sender.specs.State.{TxTurn}
 use Rattle.gw_law.specs.Deeds.{AreWindows, IsWindow, LiesIn, LiesWithin, SeesSent, Window, before, over_at, own_view, view_at}
@@ -86,33 +87,59 @@ before-past bound (first ∷ later) part earlier rising from =
     let drops : nat_lt first.tick bound ≡ false = grind (arith, nat_tests, from, so.1, rising.0) in
     (ap (λ b. cond b (first ∷ (later ++ part ∷ earlier)) (before bound (later ++ part ∷ earlier))) drops ∙ so.0, omega (arith, so.1, rising.0))
 
--- each of fresh calls is fresh
-pub fresh-at : (f : Floors) (v : View) (earlier : List Event) (call : Event) (later : List Event) → AreFresh f v (earlier ++ call ∷ later) → IsFresh (grows earlier v) f call
+-- each of fresh calls is fresh, and so are later ones and first ones
+fresh-at : (f : Floors) (v : View) (earlier : List Event) (call : Event) (later : List Event) → AreFresh f v (earlier ++ call ∷ later) → IsFresh (grows earlier v) f call
 fresh-at f v [] call later fresh = fresh.0
 fresh-at f v (first ∷ earlier) call later fresh = fresh-at f (grow first v) earlier call later fresh.1
 
-regroup : (a b c d e : List Event) (x : Event) → ((a ++ b) ++ (c ++ x ∷ d)) ++ e ≡ a ++ ((b ++ c) ++ x ∷ (d ++ e))
-regroup a b c d e x = append_assoc (a ++ b) (c ++ x ∷ d) e ∙ append_assoc a b ((c ++ x ∷ d) ++ e) ∙ ap (λ l. a ++ (b ++ l)) (append_assoc c (x ∷ d) e) ∙ ap (λ l. a ++ l) (sym (append_assoc b c (x ∷ (d ++ e))))
+fresh-later : (f : Floors) (v : View) (earlier later : List Event) → AreFresh f v (earlier ++ later) → AreFresh f (grows earlier v) later
+fresh-later f v [] later fresh = fresh
+fresh-later f v (first ∷ earlier) later fresh = fresh-later f (grow first v) earlier later fresh.1
 
--- a call of the sender in a part of the window is no older than what stood before the window
-pub sent-fresh : (p : Pair) (tick : ℕ) (o : Opening p tick) (later : List (Part TxTurn)) (part : Part TxTurn) (earlier : List (Part TxTurn)) (call : Event) → p.tx.parts ≡ later ++ part ∷ earlier → part.tick ≡ tick → IsAmong call (calls_by part.turns) → (v : View) × IsFresh v (floors_of p.groups (view_at o.opens.earlier)) call
-sent-fresh p tick o later part earlier call are at among =
+fresh-first : (f : Floors) (v : View) (earlier later : List Event) → AreFresh f v (earlier ++ later) → AreFresh f v earlier
+fresh-first f v [] later fresh = tt
+fresh-first f v (first ∷ earlier) later fresh = (fresh.0, fresh-first f (grow first v) earlier later fresh.1)
+
+regroup : (a b c d : List Event) → ((a ++ b) ++ c) ++ d ≡ a ++ (b ++ (c ++ d))
+regroup a b c d = append_assoc (a ++ b) c d ∙ append_assoc a b (c ++ d)
+
+-- the calls of the sender in a part of the window are no older than what stood before the window
+calls-fresh : (p : Pair) (tick : ℕ) (o : Opening p tick) (later : List (Part TxTurn)) (part : Part TxTurn) (earlier : List (Part TxTurn)) → p.tx.parts ≡ later ++ part ∷ earlier → part.tick ≡ tick →
+    AreFresh (floors_of p.groups (view_at o.opens.earlier)) (own_view (calls_by (turns_of earlier))) (calls_by part.turns)
+calls-fresh p tick o later part earlier are at =
     let low : ℕ = o.w.from in
+    let f : Floors = floors_of p.groups (view_at o.opens.earlier) in
     let R : List (Part TxTurn) → Type 0 = λ l. AreRising l in
     let sees : SeesSent p.groups (view_at o.opens.earlier) o.w p.tx = all-at (SeesSent p.groups (view_at o.opens.earlier) o.w) p.d.senders p.tx_at p.tx o.opens.is.sent_fresh p.tx_there in
     let high = stands-before o.w.to later part earlier (omega (arith, at, o.to)) in
     let past = before-past low later part earlier (subst R are (tx-rising p.tx.full p.tx.parts p.tx_run.parts_are)) (omega (arith, at, o.from)) in
     let front = front-of low earlier in
     let first : List TxTurn = turns_of (before low p.tx.parts) in
+    let mid : List Event = calls_by (turns_of front.0) in
+    let last : List Event = calls_by (turns_of high.0) in
     let old : turns_of earlier ≡ turns_of front.0 ++ first = ap turns_of front.1 ∙ turns-append front.0 (before low earlier) ∙ ap (λ l. turns_of front.0 ++ turns_of l) (sym (ap (before low) are ∙ past.0)) in
     let whole : turns_of (before o.w.to p.tx.parts) ≡ turns_of high.0 ++ (part.turns ++ (turns_of front.0 ++ first)) =
     ap (λ l. turns_of (before o.w.to l)) are ∙ ap turns_of high.1 ∙ turns-append high.0 (part ∷ earlier) ∙ ap (λ l. turns_of high.0 ++ (part.turns ++ l)) old in
-    let mid : List Event = calls_by (turns_of front.0) in
-    let calls : calls_by (turns_of (before o.w.to p.tx.parts)) ≡ ((calls_by first ++ mid) ++ calls_by part.turns) ++ calls_by (turns_of high.0) =
-    ap calls_by whole ∙ calls-append (turns_of high.0) (part.turns ++ (turns_of front.0 ++ first)) ∙ ap (λ c. c ++ calls_by (turns_of high.0)) (calls-append part.turns (turns_of front.0 ++ first))
-    ∙ ap (λ c. (c ++ calls_by part.turns) ++ calls_by (turns_of high.0)) (calls-append (turns_of front.0) first) in
-    let grouped : ((calls_by first ++ mid) ++ calls_by part.turns) ++ calls_by (turns_of high.0) ≡ calls_by first ++ ((mid ++ among.before) ++ call ∷ (among.after ++ calls_by (turns_of high.0))) =
-    ap (λ c. ((calls_by first ++ mid) ++ c) ++ calls_by (turns_of high.0)) among.are ∙ regroup (calls_by first) mid among.before (among.after) (calls_by (turns_of high.0)) call in
-    let same : sees.0 ≡ (mid ++ among.before) ++ call ∷ (among.after ++ calls_by (turns_of high.0)) = append_cancel_left (calls_by first) sees.0 _ (sym sees.1 ∙ calls ∙ grouped) in
-    let F : List Event → Type 0 = λ c. AreFresh (floors_of p.groups (view_at o.opens.earlier)) (own_view (calls_by first)) c in
-    (grows (mid ++ among.before) (own_view (calls_by first)), fresh-at (floors_of p.groups (view_at o.opens.earlier)) (own_view (calls_by first)) (mid ++ among.before) call (among.after ++ calls_by (turns_of high.0)) (subst F same sees.2))
+    let calls : calls_by (turns_of (before o.w.to p.tx.parts)) ≡ ((calls_by first ++ mid) ++ calls_by part.turns) ++ last =
+    ap calls_by whole ∙ calls-append (turns_of high.0) (part.turns ++ (turns_of front.0 ++ first)) ∙ ap (λ c. c ++ last) (calls-append part.turns (turns_of front.0 ++ first)) ∙ ap (λ c. (c ++ calls_by part.turns) ++ last) (calls-append (turns_of front.0) first) in
+    let same : sees.0 ≡ mid ++ (calls_by part.turns ++ last) = append_cancel_left (calls_by first) sees.0 _ (sym sees.1 ∙ calls ∙ regroup (calls_by first) mid (calls_by part.turns) last) in
+    let F : List Event → Type 0 = λ c. AreFresh f (own_view (calls_by first)) c in
+    let V : View → Type 0 = λ v. AreFresh f v (calls_by part.turns) in
+    let view : own_view (calls_by (turns_of earlier)) ≡ grows mid (own_view (calls_by first)) = ap (λ l. own_view (calls_by l)) old ∙ ap own_view (calls-append (turns_of front.0) first) ∙ grows-append (calls_by first) mid empty_view in
+    subst V (sym view) (fresh-first f (grows mid (own_view (calls_by first))) (calls_by part.turns) last (fresh-later f (own_view (calls_by first)) mid (calls_by part.turns ++ last) (subst F same sees.2)))
+
+-- one of them
+pub sent-fresh : (p : Pair) (tick : ℕ) (o : Opening p tick) (later : List (Part TxTurn)) (part : Part TxTurn) (earlier : List (Part TxTurn)) (call : Event) → p.tx.parts ≡ later ++ part ∷ earlier → part.tick ≡ tick → IsAmong call (calls_by part.turns) → (v : View) × IsFresh v (floors_of p.groups (view_at o.opens.earlier)) call
+sent-fresh p tick o later part earlier call are at among =
+    let f : Floors = floors_of p.groups (view_at o.opens.earlier) in
+    let v : View = own_view (calls_by (turns_of earlier)) in
+    let F : List Event → Type 0 = λ c. AreFresh f v c in
+    (grows among.before v, fresh-at f v among.before call among.after (subst F among.are (calls-fresh p tick o later part earlier are at)))
+
+-- and all of each part
+pub part-fresh : (p : Pair) (later : List (Part TxTurn)) (part : Part TxTurn) (earlier : List (Part TxTurn)) → p.tx.parts ≡ later ++ part ∷ earlier → (f : Floors) × AreFresh f (own_view (calls_by (turns_of earlier))) (calls_by part.turns)
+part-fresh p later part earlier are =
+    let W : List (Part TxTurn) → Type 0 = λ l. LiesWithin p.windows l in
+    let lies : LiesIn p.windows part.tick = (all-split (λ (part : Part TxTurn). LiesIn p.windows part.tick) later earlier part (subst W are p.tx_within)).0 in
+    let o : Opening p part.tick = opening p part.tick lies in
+    (floors_of p.groups (view_at o.opens.earlier), calls-fresh p part.tick o later part earlier are refl)

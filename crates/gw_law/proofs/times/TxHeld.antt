@@ -72,7 +72,7 @@ held-front : (set : TxSet) (front : List TxTurn) (tick k : ℕ) (before : Cut Se
     slice_get (attempts_in false (transfer_of set front).frames) k ≡ Some before → tick < told.end.0 → IsHeld set front → IsFrontFor set front k before told →
     bytes_to tick (walk_of (address_size set.shape) before).pieces + part_after set.shape (len_of before.start.meaning) (bytes_to tick (walk_of (address_size set.shape) before).pieces) ≤ length ((transfer_of set front).read told.seq)
 held-front set front tick k before told happened now early is below held (ToldThere there sends) = absurd (omega (arith, below, ended-by set front tick k told happened now there))
-held-front set front tick k before told happened now early is below held (GoesOnThere s live same sends) =
+held-front set front tick k before told happened now early is below held (GoesOnThere s live same some sends) =
     let t : Transfer = transfer_of set front in
     let one : s ≡ held.s = same-some live held.live in
     let pieces : List Piece = (walk_of (address_size set.shape) before).pieces in

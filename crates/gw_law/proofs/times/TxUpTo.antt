@@ -33,7 +33,7 @@ use Rattle.hub_core.proofs.Turns.{happened-front}
 abbrev pub IsJoinedAfter : ℕ → ℕ → ℕ → ℕ → Type 0
 IsJoinedAfter next tick seq begin = next ≤ seq → tick < begin
 
-seqs-below : (number : ℕ) (records : List DestRecord) → NumberedFrom number records → AllByRecursion (λ (d : DestRecord). d.seq < number + length records) records
+pub seqs-below : (number : ℕ) (records : List DestRecord) → NumberedFrom number records → AllByRecursion (λ (d : DestRecord). d.seq < number + length records) records
 seqs-below number [] numbered = tt
 seqs-below number (told ∷ records) numbered =
     (omega (arith, numbered.0), all-weaker (λ (d : DestRecord). d.seq < (number + 1) + length records) (λ (d : DestRecord). d.seq < number + length (told ∷ records)) records (λ d lt. omega (arith, lt)) (seqs-below (number + 1) records numbered.1))
@@ -49,7 +49,7 @@ seqs-above number (told ∷ records) more numbered =
     all-weaker (λ (d : DestRecord). (number + 1) + length records ≤ d.seq) (λ (d : DestRecord). number + length (told ∷ records) ≤ d.seq) more (λ d le. omega (arith, le)) (seqs-above (number + 1) records more numbered.1)
 
 -- what is told and sent was joined before the next number
-told-before : (shape : Shape) (w : World) (live : Option Transmission) (going : List (Cut Seen)) → Lives shape w live going → length w.told.records ≤ w.next
+pub told-before : (shape : Shape) (w : World) (live : Option Transmission) (going : List (Cut Seen)) → Lives shape w live going → length w.told.records ≤ w.next
 told-before shape w None going lives = omega (arith, lives.1)
 told-before shape w (Some s) going lives = omega (arith, lives.before, lives.next)
 
@@ -86,10 +86,10 @@ frames-all P shape moments all =
     all-map (λ (s : Seen). P s.at) (seen_of (address_size shape)) (left_by shape moments) (subst Q (sym so.is ∙ ap (left_by shape) (append-nil moments)) so.all)
 
 -- the transmission that goes on
-going-at : (t : Transfer) (now : ℕ) (live : Option Transmission) (going : List (Cut Seen)) (j : ℕ) (cut : Cut Seen) → GoesOnWith t now live going → slice_get going j ≡ Some cut → (s : Transmission) × (live ≡ Some s) × (j ≡ 0) × Sends t s.seq s.sent s.begin now cut
+going-at : (t : Transfer) (now : ℕ) (live : Option Transmission) (going : List (Cut Seen)) (j : ℕ) (cut : Cut Seen) → GoesOnWith t now live going → slice_get going j ≡ Some cut → (s : Transmission) × (live ≡ Some s) × (j ≡ 0) × (0 < s.sent) × Sends t s.seq s.sent s.begin now cut
 going-at t now None going j cut goes is = let P : List (Cut Seen) → Type 0 = λ l. slice_get l j ≡ Some cut in let none : slice_get [] j ≡ Some cut = subst P goes is in cc
 going-at t now (Some s) [] j cut goes is = cc
-going-at t now (Some s) (first ∷ more) zero cut goes is = let same : first ≡ cut = cc in rw (← same) (s, refl, refl, goes.2)
+going-at t now (Some s) (first ∷ more) zero cut goes is = let same : first ≡ cut = cc in rw (← same) (s, refl, refl, goes.1, goes.2)
 going-at t now (Some s) (first ∷ more) (suc j) cut goes is = let P : List (Cut Seen) → Type 0 = λ l. slice_get l j ≡ Some cut in let none : slice_get [] j ≡ Some cut = subst P goes.0 is in cc
 
 -- a transmission's bytes are some that were read
@@ -105,7 +105,7 @@ begin-by t seq sent begin end cut sends =
 -- a transmission of a front belongs to the record in its place, which is told in the front, or it goes on there
 pub data IsFrontFor (set : TxSet) (front : List TxTurn) (k : ℕ) (cut : Cut Seen) (told : DestRecord) : Type 0 where
   ToldThere : slice_get (filter has_sent (records_by front)) k ≡ Some told → SendsFor (transfer_of set front) cut told → IsFrontFor set front k cut told
-  GoesOnThere : (s : Transmission) → (state_after tx_new front).live ≡ Some s → told.seq ≡ s.seq → Sends (transfer_of set front) s.seq s.sent s.begin (transfer_of set front).now cut → IsFrontFor set front k cut told
+  GoesOnThere : (s : Transmission) → (state_after tx_new front).live ≡ Some s → told.seq ≡ s.seq → 0 < s.sent → Sends (transfer_of set front) s.seq s.sent s.begin (transfer_of set front).now cut → IsFrontFor set front k cut told
 
 pub front-for : (set : TxSet) (later front : List TxTurn) (k : ℕ) (cut : Cut Seen) (told : DestRecord) → IsShape set.shape → HasSent set (later ++ front) → slice_get (attempts_in false (transfer_of set front).frames) k ≡ Some cut →
     slice_get (filter has_sent (records_by (later ++ front))) k ≡ Some told → told.seq < (state_after tx_new front).next → IsFrontFor set front k cut told
@@ -131,13 +131,13 @@ front-for set later front k cut told sound happened is at below =
           let above : 0 + length (records_by front) ≤ told.seq =
           all-at (λ (d : DestRecord). 0 + length (records_by front) ≤ d.seq) (filter has_sent more.more) 0 told
           (all-sent (λ (d : DestRecord). 0 + length (records_by front) ≤ d.seq) more.more (seqs-above 0 (records_by front) more.more (subst N more.is (law set (later ++ front) sound happened).numbered))) here in
-          GoesOnThere going.0 going.1 (omega (arith, above, below, on.before, on.next)) going.3
+          GoesOnThere going.0 going.1 (omega (arith, above, below, on.before, on.next)) going.3 going.4
     ]
 
 -- as far as the moments of a front: the transmission in that place, of the session that the record in that place tells
 front-read : (set : TxSet) (front : List TxTurn) (k : ℕ) (cut : Cut Seen) (told : DestRecord) → IsFrontFor set front k cut told → length (reassembled (address_size set.shape) cut) ≤ length ((transfer_of set front).read told.seq)
 front-read set front k cut told (ToldThere there sends) = sends-read (transfer_of set front) told.seq told.sent told.begin.0 told.end.0 cut sends
-front-read set front k cut told (GoesOnThere s live same sends) = rw same (sends-read (transfer_of set front) s.seq s.sent s.begin (transfer_of set front).now cut sends)
+front-read set front k cut told (GoesOnThere s live same some sends) = rw same (sends-read (transfer_of set front) s.seq s.sent s.begin (transfer_of set front).now cut sends)
 
 -- a transmission of which a frame left by a tick is of a session that was joined by then
 pub joined-in : (set : TxSet) (later front : List TxTurn) (tick k : ℕ) (before cut : Cut Seen) (told : DestRecord) → IsShape set.shape → HasSent set (later ++ front) → AllByRecursion (InTicks (λ (t : ℕ). tick < t)) later → AllByRecursion (InTicks (λ (t : ℕ). t ≤ tick)) front →

@@ -1,0 +1,244 @@
+-- How many cells were put into a record's session up to a tick: no more than fill what came of its unit by then, frame by frame.
+use Rattle.std.proofs.Common.{◌≡◌, ℕ, ◌+◌, ◌<◌, ◌≤◌, zero, suc, inl, inr, Bool, true, false, ◌&&◌, ◌==◌, nat_le, if◌then◌else◌, cond, None, Some, List, [], ◌∷◌, ◌++◌, length, take, refl, ap, sym, ◌∙◌, subst, arith, append-nil, append_assoc}
+use Rattle.std.specs.Prelude.{filter, fold, nat_lt, slice_get, sum_by}
+use Rattle.std.specs.List.{AllByRecursion}
+use Rattle.std.proofs.lemmas.Bool.Decides.{nat_tests}
+use Rattle.std.proofs.lemmas.Grind.{flat_map-append, fold-append}
+use Rattle.std.proofs.lemmas.List.{length-append}
+use Rattle.std.proofs.lemmas.List.Sums.{sum_by-append, sum_by-cons}
+use Rattle.std.proofs.lemmas.Option.{slice_get_past}
+use Rattle.gw_base.proofs.Lists.{all-at}
+use Rattle.gw_base.specs.Cell.{count_of, counted}
+use Rattle.hub_core.specs.Turns.{calls_by, came_by, records_by, state_after}
+use Rattle.hub_core.specs.declared.record.OpenedAt.{OpenedAt}
+use Rattle.hub_core.specs.declared.record.SessionRecord.{SessionRecord}
+use Rattle.receiver_law.proofs.sessions.Stores.{store, store-more}
+use Rattle.receiver_law.specs.Source.{CountsFrom, sessions_in}
+use Rattle.tp_attempts.proofs.Cuts.{cuts-begin, cuts-grow, grow, grow_after}
+use Rattle.tp_attempts.proofs.Walks.{walk_of-more}
+use Rattle.tp_attempts.specs.Attempts.{attempts_in}
+use Rattle.tp_attempts.specs.Cuts.{Cut}
+use Rattle.tp_attempts.specs.Seen.{Seen, is_start}
+use Rattle.tp_attempts.specs.Walk.{Piece, Walk, begun, due, due_number, is_open, joined, look, look_at, walk_of}
+use Rattle.tp_receiver.specs.Runs.{HasReceived, cell_in, cells_in, frames_in, put_in}
+use Rattle.tp_receiver.specs.State.{Came, FcLeft, RunEnd, RxEvent, RxTurn, Timer, rx_new}
+use Rattle.tp_receiver.specs.Table.{cells_of}
+use Rattle.tp_receiver.specs.declared.set.RxSet.{RxSet}
+use Rattle.tp_unit.specs.Unit.{Meaning, SingleFrame, FirstFrame, ConsecutiveFrame, FlowControl, NoUnit}
+use Rattle.gw_law.specs.Timely.{bytes_below, cells_below, cells_of_all}
+use Rattle.gw_law.proofs.runs.Fronts.{More, TurnIn, received-more, seen-more}
+use Rattle.gw_law.proofs.times.Pieces.{After, CutFront, CutIn, Within, cut-front, cuts-in, pieces-in}
+use Rattle.gw_law.proofs.times.RxCells.{step-few}
+use Rattle.gw_law.proofs.times.RxPlaces.{IsPutSo, pieces_of, put-so}
+use Rattle.gw_law.proofs.times.RxUpTo.{seen-all}
+
+-- pieces that are some more, one at most
+record OneMore (was now : List Piece) : Type 0 where
+  more : List Piece
+  is : now ≡ was ++ more
+  few : length more ≤ 1
+
+none-more : (pieces : List Piece) → OneMore pieces pieces
+none-more pieces = record { more = []; is = sym (append-nil pieces); few = omega arith }
+
+-- one frame more adds one piece at most
+more-by : (walk counted ended : Walk) (looks right : Bool) → OneMore walk.pieces counted.pieces → OneMore walk.pieces ended.pieces → OneMore walk.pieces (if looks then (if right then counted else ended) else walk).pieces
+more-by walk counted ended true true adds ends = adds
+more-by walk counted ended true false adds ends = ends
+more-by walk counted ended false right adds ends = none-more walk.pieces
+
+more-look : (address : ℕ) (walk : Walk) (at size : ℕ) (meaning : Meaning) → OneMore walk.pieces (look_at address walk at size meaning).pieces
+more-look address walk at size (ConsecutiveFrame number bytes) =
+    more-by walk (record walk { pieces = walk.pieces ++ record { at = at; bytes = take (due address walk) bytes } ∷ [] }) (record walk { wrong = Some (record { at = at; want = due_number walk; got = number }) })
+    (is_open walk && nat_le size walk.size && nat_le (due address walk) (length bytes)) (number == due_number walk)
+    (record { more = record { at = at; bytes = take (due address walk) bytes } ∷ []; is = refl; few = omega arith }) (none-more walk.pieces)
+more-look address walk at size (SingleFrame bytes) = none-more walk.pieces
+more-look address walk at size (FirstFrame len bytes) = none-more walk.pieces
+more-look address walk at size (FlowControl status block_size separation) = none-more walk.pieces
+more-look address walk at size (NoUnit why) = none-more walk.pieces
+
+more-frame : (address : ℕ) (attempt : Cut Seen) (x : Seen) → OneMore (walk_of address attempt).pieces (walk_of address (record { start = attempt.start; after = attempt.after ++ x ∷ [] })).pieces
+more-frame address attempt x =
+    let P : Walk → Type 0 = λ w. OneMore (walk_of address attempt).pieces w.pieces in
+    subst P (sym (walk_of-more address attempt x)) (more-look address (walk_of address attempt) x.at x.size x.meaning)
+
+more-grown : (address : ℕ) (x : Seen) (attempt : Cut Seen) (later : List (Cut Seen)) (place : ℕ) → OneMore (pieces_of address (slice_get (attempt ∷ later) place)) (pieces_of address (slice_get (grow_after x attempt later) place))
+more-grown address x attempt [] zero = more-frame address attempt x
+more-grown address x attempt [] (suc place) = none-more []
+more-grown address x attempt (next ∷ later) zero = none-more (walk_of address attempt).pieces
+more-grown address x attempt (next ∷ later) (suc place) = more-grown address x next later place
+
+more-grow : (address : ℕ) (x : Seen) (attempts : List (Cut Seen)) (place : ℕ) → OneMore (pieces_of address (slice_get attempts place)) (pieces_of address (slice_get (grow x attempts) place))
+more-grow address x [] place = none-more (pieces_of address (slice_get [] place))
+more-grow address x (attempt ∷ later) place = more-grown address x attempt later place
+
+more-pushed : (address : ℕ) (x : Seen) (attempts : List (Cut Seen)) (place : ℕ) → OneMore (pieces_of address (slice_get attempts place)) (pieces_of address (slice_get (attempts ++ record { start = x; after = [] } ∷ []) place))
+more-pushed address x [] zero = record { more = (begun x).pieces; is = refl; few = omega arith }
+more-pushed address x [] (suc place) = none-more []
+more-pushed address x (attempt ∷ later) zero = none-more (walk_of address attempt).pieces
+more-pushed address x (attempt ∷ later) (suc place) = more-pushed address x later place
+
+more-seen : (address : ℕ) (functional : Bool) (frames : List Seen) (x : Seen) (place : ℕ) (starts : Bool) → is_start functional x.meaning ≡ starts →
+    OneMore (pieces_of address (slice_get (attempts_in functional frames) place)) (pieces_of address (slice_get (attempts_in functional (frames ++ x ∷ [])) place))
+more-seen address functional frames x place true is =
+    let P : List (Cut Seen) → Type 0 = λ l. OneMore (pieces_of address (slice_get (attempts_in functional frames) place)) (pieces_of address (slice_get l place)) in
+    subst P (sym (cuts-begin (λ (s : Seen). is_start functional s.meaning) frames x is)) (more-pushed address x (attempts_in functional frames) place)
+more-seen address functional frames x place false is =
+    let P : List (Cut Seen) → Type 0 = λ l. OneMore (pieces_of address (slice_get (attempts_in functional frames) place)) (pieces_of address (slice_get l place)) in
+    subst P (sym (cuts-grow (λ (s : Seen). is_start functional s.meaning) frames x is)) (more-grow address x (attempts_in functional frames) place)
+
+more-none : (address : ℕ) (functional : Bool) (frames : List Seen) (place : ℕ) → OneMore (pieces_of address (slice_get (attempts_in functional frames) place)) (pieces_of address (slice_get (attempts_in functional (frames ++ [])) place))
+more-none address functional frames place =
+    let P : List Seen → Type 0 = λ l. OneMore (pieces_of address (slice_get (attempts_in functional frames) place)) (pieces_of address (slice_get (attempts_in functional l) place)) in
+    subst P (sym (append-nil frames)) (none-more (pieces_of address (slice_get (attempts_in functional frames) place)))
+
+more-event : (address : ℕ) (functional : Bool) (frames : List Seen) (place tick : ℕ) (event : RxEvent) → OneMore (pieces_of address (slice_get (attempts_in functional frames) place)) (pieces_of address (slice_get (attempts_in functional (frames ++ frames_in tick event)) place))
+more-event address functional frames place tick (Came size meaning) = more-seen address functional frames (record { at = tick; size = size; meaning = meaning }) place (is_start functional meaning) refl
+more-event address functional frames place tick Timer = more-none address functional frames place
+more-event address functional frames place tick FcLeft = more-none address functional frames place
+more-event address functional frames place tick RunEnd = more-none address functional frames place
+
+-- sums of pieces
+cells-append : (first more : List Piece) → cells_of_all (first ++ more) ≡ cells_of_all first + cells_of_all more
+cells-append first more = sum_by-append (λ (p : Piece). cells_of (length p.bytes)) first more
+
+joined-append : (first more : List Piece) → length (joined (first ++ more)) ≡ length (joined first) + length (joined more)
+joined-append first more = ap length (flat_map-append (λ (p : Piece). p.bytes) first more) ∙ length-append (joined first) (joined more)
+
+-- so many bytes fill no more cells than a piece that has them
+fills : (more : List Piece) (bytes : ℕ) → length more ≤ 1 → bytes ≤ length (joined more) → cells_of bytes ≤ cells_of_all more
+fills [] bytes few le = omega (arith, le)
+fills (piece ∷ []) bytes few le = omega (arith, le, length-append piece.bytes [], sum_by-cons (λ (p : Piece). cells_of (length p.bytes)) piece [])
+fills (piece ∷ next ∷ more) bytes few le = absurd (omega (arith, few))
+
+-- a turn adds no more cells than its frame's piece fills
+turn-cells : (was now : List Piece) (told_was told_now place bytes put adds cells more_cells : ℕ) → OneMore was now → told_was ≤ told_now → IsPutSo told_was place bytes put (length (joined was)) → IsPutSo told_now place bytes (put + adds) (length (joined now)) →
+    cells ≤ cells_of_all was → more_cells ≤ cells_of adds → cells + more_cells ≤ cells_of_all now
+turn-cells was now told_was told_now place bytes put adds cells more_cells one later old new few adds_few =
+    let sum : cells_of_all now ≡ cells_of_all was + cells_of_all one.more = ap cells_of_all one.is ∙ cells-append was one.more in
+    let all : length (joined now) ≡ length (joined was) + length (joined one.more) = ap (λ l. length (joined l)) one.is ∙ joined-append was one.more in
+    elim old.either [
+      | inl told ↦ elim new.either [
+        | inl still ↦ omega (arith, sum, few, adds_few, told.1, still.1)
+        | inr over ↦ absurd (omega (arith, told.0, later, over.0))
+      ]
+      | inr going ↦ omega (arith, sum, few, adds_few, fills one.more adds one.few (omega (arith, all, going.1, new.within)))
+    ]
+
+-- after the turns of a front
+pub front-cells : (set : RxSet) (later front : List RxTurn) (place : ℕ) (session : SessionRecord) (opened : OpenedAt) → HasReceived set (later ++ front) → (state_after rx_new (later ++ front)).busy ≡ None → CountsFrom 0 (sessions_in (records_by (later ++ front))) →
+    slice_get (records_by (later ++ front)) place ≡ Some session → session.opened ≡ Some opened → HasReceived set front → length (put_in set front opened.seq) ≤ cells_of_all (pieces_of set.a (slice_get (attempts_in set.functional (came_by frames_in front)) place))
+front-cells set later [] place session opened whole idle counts is opened_is happened = omega arith
+front-cells set later (turn ∷ front) place session opened whole idle counts is opened_is happened =
+    let seq : ℕ = opened.seq in
+    let path : ℕ = set.path.0 in
+    let all : later ++ turn ∷ front ≡ (later ++ turn ∷ []) ++ front = sym (append_assoc later (turn ∷ []) front) in
+    let H : List RxTurn → Type 0 = λ l. HasReceived set l in
+    let I : List RxTurn → Type 0 = λ l. (state_after rx_new l).busy ≡ None in
+    let C : List RxTurn → Type 0 = λ l. CountsFrom 0 (sessions_in (records_by l)) in
+    let S : List RxTurn → Type 0 = λ l. slice_get (records_by l) place ≡ Some session in
+    let told_front = received-more (later ++ turn ∷ []) front in
+    let told_now = received-more later (turn ∷ front) in
+    let old = put-so set (later ++ turn ∷ []) front place told_front.more session opened (subst H all whole) (subst I all idle) told_front.is (subst C all counts) (subst S all is) opened_is in
+    let new = put-so set later (turn ∷ front) place told_now.more session opened whole idle told_now.is counts is opened_is in
+    let bytes : length (store path (calls_by (turn ∷ front)) seq) ≡ length (store path (calls_by front) seq) + length (store path turn.did.calls seq) = ap length (store-more path seq (calls_by front) turn.did.calls) ∙ length-append (store path (calls_by front) seq) (store path turn.did.calls seq) in
+    let cells : length (put_in set (turn ∷ front) seq) ≡ length (put_in set front seq) + length (cells_in path seq turn.did.calls) = ap length (flat_map-append (cell_in path seq) (calls_by front) turn.did.calls) ∙ length-append (put_in set front seq) (cells_in path seq turn.did.calls) in
+    let P : ℕ → Type 0 = λ n. IsPutSo (length (records_by (turn ∷ front))) place session.bytes n (length (joined (pieces_of set.a (slice_get (attempts_in set.functional (came_by frames_in (turn ∷ front))) place)))) in
+    let sum = turn-cells _ _ (length (records_by front)) (length (records_by (turn ∷ front))) place session.bytes (length (store path (calls_by front) seq)) (length (store path turn.did.calls seq)) (length (put_in set front seq)) (length (cells_in path seq turn.did.calls))
+    (more-event set.a set.functional (came_by frames_in front) place turn.did.tick turn.event) (omega (arith, length-append (records_by front) turn.did.records)) old (subst P bytes new)
+    (front-cells set (later ++ turn ∷ []) front place session opened (subst H all whole) (subst I all idle) (subst C all counts) (subst S all is) opened_is happened.2) (step-few set (state_after rx_new front) turn.event turn.did happened.1 seq).0 in
+    omega (arith, cells, sum)
+
+-- the pieces of an attempt's front are the first of its pieces
+fold-more : (address : ℕ) (walk : Walk) (frames : List Seen) → (more : List Piece) × ((fold (look address) walk frames).pieces ≡ walk.pieces ++ more)
+fold-more address walk [] = ([], sym (append-nil walk.pieces))
+fold-more address walk (x ∷ frames) =
+    let one = more-look address walk x.at x.size x.meaning in
+    let rest = fold-more address (look address walk x) frames in
+    (one.more ++ rest.0, rest.1 ∙ ap (λ l. l ++ rest.0) one.is ∙ append_assoc walk.pieces one.more rest.0)
+
+-- a measure of the pieces of earlier ticks
+abbrev sum_below : (Piece → ℕ) → ℕ → List Piece → ℕ
+sum_below size bound pieces = sum_by size (filter (λ (p : Piece). nat_lt p.at bound) pieces)
+
+kept-all : (size : Piece → ℕ) (bound : ℕ) (pieces more : List Piece) → AllByRecursion (λ (p : Piece). p.at < bound) pieces → sum_by size pieces ≤ sum_below size bound (pieces ++ more)
+kept-all size bound [] more all = omega arith
+kept-all size bound (piece ∷ pieces) more all =
+    let keeps : nat_lt piece.at bound ≡ true = grind (arith, nat_tests, all.0) in
+    let rest : List Piece = filter (λ (p : Piece). nat_lt p.at bound) (pieces ++ more) in
+    let is : sum_below size bound (piece ∷ (pieces ++ more)) ≡ sum_by size (piece ∷ rest) = ap (λ b. sum_by size (cond b (piece ∷ rest) rest)) keeps in
+    omega (arith, is, sum_by-cons size piece rest, sum_by-cons size piece pieces, kept-all size bound pieces more all.1)
+
+sum-later : (size : Piece → ℕ) (low high : ℕ) (pieces : List Piece) → low ≤ high → sum_below size low pieces ≤ sum_below size high pieces
+sum-later size low high [] le = omega arith
+sum-later size low high (piece ∷ pieces) le =
+    later-by (filter (λ (p : Piece). nat_lt p.at low) pieces) (filter (λ (p : Piece). nat_lt p.at high) pieces) (nat_lt piece.at low) (nat_lt piece.at high) (λ is. grind (arith, nat_tests, is, le)) (sum-later size low high pieces le)
+  where
+    later-by : (few many : List Piece) (early late : Bool) → (early ≡ true → late ≡ true) → sum_by size few ≤ sum_by size many → sum_by size (cond early (piece ∷ few) few) ≤ sum_by size (cond late (piece ∷ many) many)
+    later-by few many true true on le = omega (arith, le, sum_by-cons size piece few, sum_by-cons size piece many)
+    later-by few many true false on le = let no : false ≡ true = on refl in cc
+    later-by few many false true on le = omega (arith, le, sum_by-cons size piece many)
+    later-by few many false false on le = le
+
+front-sum : (size : Piece → ℕ) (address bound place : ℕ) (fronts : List (Cut Seen)) (unit : Cut Seen) → AllByRecursion (CutIn (λ (s : Seen). s.at < bound)) fronts → CutFront (λ (s : Seen). Unit {0}) fronts place unit → sum_by size (pieces_of address (slice_get fronts place)) ≤ sum_below size bound (walk_of address unit).pieces
+front-sum size address bound place fronts unit early (After long late) = omega (arith, ap (λ o. sum_by size (pieces_of address o)) (slice_get_past fronts place long))
+front-sum size address bound place fronts unit early (Within before is start more) =
+    let grown = fold-more address (walk_of address before) more.more in
+    let walk : walk_of address unit ≡ fold (look address) (walk_of address before) more.more = ap (λ s. fold (look address) (begun s) unit.after) start ∙ ap (fold (look address) (begun before.start)) more.is ∙ fold-append (look address) (begun before.start) before.after more.more in
+    let all : (walk_of address unit).pieces ≡ (walk_of address before).pieces ++ grown.0 = ap (λ (w : Walk). w.pieces) walk ∙ grown.1 in
+    let ticks = pieces-in (λ (t : ℕ). t < bound) address before (all-at (CutIn (λ (s : Seen). s.at < bound)) fronts place before early is) in
+    omega (arith, ap (λ o. sum_by size (pieces_of address o)) is, ap (sum_below size bound) all, kept-all size bound (walk_of address before).pieces grown.0 ticks)
+
+-- the bytes of pieces, as such a sum
+joined-sum : (pieces : List Piece) → length (joined pieces) ≡ sum_by (λ (p : Piece). length p.bytes) pieces
+joined-sum [] = refl
+joined-sum (piece ∷ pieces) = length-append piece.bytes (joined pieces) ∙ ap (λ n. length piece.bytes + n) (joined-sum pieces) ∙ sym (sum_by-cons (λ (p : Piece). length p.bytes) piece pieces)
+
+any-turns : (turns : List RxTurn) → AllByRecursion (TurnIn (λ (t : ℕ). Unit {0})) turns
+any-turns [] = tt
+any-turns (turn ∷ turns) = (tt, any-turns turns)
+
+-- the cells that were put count no more bytes than were put
+pub front-counted : (set : RxSet) (front : List RxTurn) (seq : ℕ) → HasReceived set front → counted (put_in set front seq) ≤ length (store set.path.0 (calls_by front) seq)
+front-counted set [] seq happened = omega arith
+front-counted set (turn ∷ front) seq happened =
+    let path : ℕ = set.path.0 in
+    omega (
+      arith,
+      ap counted (flat_map-append (cell_in path seq) (calls_by front) turn.did.calls),
+      sum_by-append count_of (put_in set front seq) (cells_in path seq turn.did.calls),
+      ap length (store-more path seq (calls_by front) turn.did.calls),
+      length-append (store path (calls_by front) seq) (store path turn.did.calls seq),
+      front-counted set front seq happened.2,
+      (step-few set (state_after rx_new front) turn.event turn.did happened.1 seq).1,
+    )
+
+-- what the turns below a tick put into a session is no more than its unit has of ticks below that one: in cells, and in bytes
+pub record HasCome (set : RxSet) (front : List RxTurn) (high number : ℕ) (unit : Cut Seen) : Type 0 where
+  pub cells : length (put_in set front number) ≤ cells_below high (walk_of set.a unit).pieces
+  pub bytes : length (store set.path.0 (calls_by front) number) ≤ bytes_below high (walk_of set.a unit).pieces
+
+pub has-come : (set : RxSet) (later front : List RxTurn) (bound high place : ℕ) (unit : Cut Seen) (session : SessionRecord) (opened : OpenedAt) → HasReceived set (later ++ front) → (state_after rx_new (later ++ front)).busy ≡ None → CountsFrom 0 (sessions_in (records_by (later ++ front))) →
+    AllByRecursion (TurnIn (λ (t : ℕ). t < bound)) front → bound ≤ high → slice_get (attempts_in set.functional (came_by frames_in (later ++ front))) place ≡ Some unit → slice_get (records_by (later ++ front)) place ≡ Some session → session.opened ≡ Some opened → HasReceived set front →
+    HasCome set front high opened.seq unit
+has-come set later front bound high place unit session opened happened idle counts early le unit_is session_is opened_is past =
+    let fronts : List (Cut Seen) = attempts_in set.functional (came_by frames_in front) in
+    let frames : More (λ (s : Seen). Unit {0}) (came_by frames_in front) (came_by frames_in (later ++ front)) = seen-more (λ (t : ℕ). Unit {0}) later front (any-turns later) in
+    let cut = cut-front (λ (s : Seen). Unit {0}) (λ (s : Seen). is_start set.functional s.meaning) (came_by frames_in front) frames.more place unit frames.all (ap (λ l. slice_get (attempts_in set.functional l) place) (sym frames.is) ∙ unit_is) in
+    let ticks = cuts-in (λ (s : Seen). s.at < bound) (λ (s : Seen). is_start set.functional s.meaning) (came_by frames_in front) (seen-all (λ (t : ℕ). t < bound) front early) in
+    let pieces : List Piece = (walk_of set.a unit).pieces in
+    let told = received-more later front in
+    let put = put-so set later front place told.more session opened happened idle told.is counts session_is opened_is in
+    let cells : Piece → ℕ = λ p. cells_of (length p.bytes) in
+    let bytes : Piece → ℕ = λ p. length p.bytes in
+    record {
+      cells = omega (arith, front-cells set later front place session opened happened idle counts session_is opened_is past, front-sum cells set.a bound place fronts unit ticks cut, sum-later cells bound high pieces le);
+      bytes = omega (
+        arith,
+        put.within,
+        joined-sum (pieces_of set.a (slice_get fronts place)),
+        front-sum bytes set.a bound place fronts unit ticks cut,
+        sum-later bytes bound high pieces le,
+        joined-sum (filter (λ (p : Piece). nat_lt p.at high) pieces),
+      );
+    }

@@ -13,7 +13,7 @@ use Rattle.gw_law.proofs.pools.PoolRuns.{pool_of}
 
 pub laws : (a : Account) (d : Deeds) (windows : List Window) (v : View) → IsRun a d windows v → Lawful a
 laws a d windows v is =
-    let sources = all-sources a a.plan.receivers d.receivers is.plan.receivers is.receivers in
+    let sources = all-sources a d windows v is in
     let dests = all-dests a a.plan.senders d.senders is.plan.senders is.senders in
     record {
       sources = sources;

@@ -5,6 +5,7 @@ pub mod literals
 mod Dests
 pub mod Laws
 pub mod pools
+pub mod Rooms
 mod Routes
 pub mod runs
 pub mod Sources

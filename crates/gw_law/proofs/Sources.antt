@@ -1,9 +1,11 @@
 -- The laws of each source channel, by its receiver's run.
-use Rattle.std.proofs.Common.{◌≡◌, ℕ, ◌+◌, ◌≤◌, Bool, List, [], ◌∷◌, ap, subst, arith, refl, suc, Some}
+use Rattle.std.proofs.Common.{◌≡◌, ℕ, ◌+◌, ◌≤◌, Bool, Some, List, [], ◌∷◌, ap, subst, arith}
 use Rattle.std.specs.Prelude.{slice_get}
-use Rattle.std.specs.List.{AllByRecursion, AllZip}
-use Rattle.gw_base.proofs.Lists.{all-join, all-weaker}
-use Rattle.hub_core.specs.Turns.{calls_by, records_by, state_after}
+use Rattle.std.specs.List.{AllByRecursion}
+use Rattle.gw_base.proofs.Lists.{all-at, all-join, all-weaker, zip-at}
+use Rattle.hub_core.proofs.Changed.{all-by as all-items}
+use Rattle.hub_core.specs.Turns.{records_by, state_after}
+use Rattle.hub_core.specs.View.{View}
 use Rattle.hub_core.specs.declared.record.SessionRecord.{SessionRecord}
 use Rattle.receiver_law.proofs.runs.RxFollows.{records-follow}
 use Rattle.receiver_law.proofs.runs.RxFuller.{law-fuller}
@@ -23,13 +25,17 @@ use Rattle.tp_receiver.specs.State.{RxTurn, rx_new}
 use Rattle.tp_receiver.specs.declared.set.RxSet.{RxSet}
 use Rattle.tp_unit.proofs.Rises.{Rise, all-by, at-most-once, never-fall}
 use Rattle.gw_law.specs.Account.{Account}
+use Rattle.gw_law.specs.Deeds.{Deeds, Window}
 use Rattle.gw_law.specs.Emission.{ControlEmission}
 use Rattle.gw_law.specs.Lawful.{IsLawfulSource, is_full_at}
 use Rattle.gw_law.specs.Plan.{IsLawfulReceiving, Receiving}
 use Rattle.gw_law.specs.Records.{IsOfSource, SessionRecords}
-use Rattle.gw_law.specs.Run.{IsReceiverRun}
+use Rattle.gw_law.specs.Rooms.{RoomLaw}
+use Rattle.gw_law.specs.Run.{IsReceiverRun, IsRun}
+use Rattle.gw_law.proofs.Rooms.{room-law}
 use Rattle.gw_law.proofs.runs.Fronts.{TurnIn}
 use Rattle.gw_law.proofs.runs.Moments.{rx-within}
+use Rattle.gw_law.proofs.runs.RoomKept.{looks-of}
 
 -- the records, in turns up to a tick
 pub sessions-of : (set : RxSet) (last : ℕ) (turns : List RxTurn) → HasReceived set turns → AllByRecursion (TurnIn (λ (t : ℕ). t ≤ last)) turns → AllByRecursion (λ (told : SessionRecord). (told.chan ≡ set.chan) × (told.end.0 ≤ last)) (records_by turns)
@@ -58,8 +64,8 @@ emission-of run budget is =
     }
 
 -- what is proved of what the run tells is proved of what is told of the channel
-source-of : (a : Account) (r : Receiving) (run : RxRun) → IsLawfulReceiving a.plan r → IsReceiverRun a r run → LooksKeepRoom run.set (calls_by (turns_in run)) → IsLawfulSource a r
-source-of a r run plan is looks =
+source-of : (a : Account) (d : Deeds) (windows : List Window) (v : View) (place : ℕ) (r : Receiving) (run : RxRun) → IsRun a d windows v → slice_get d.receivers place ≡ Some run → IsLawfulReceiving a.plan r → IsReceiverRun a r run → IsLawfulSource a r
+source-of a d windows v place r run whole there plan is =
     let b : ℕ = a.plan.budget r.bus in
     let set : run.set ≡ r.set = ap (λ (c : SourceChannel). c.rx) is.tells in
     let full : ℕ → Bool = is_full_at a r in
@@ -72,10 +78,12 @@ source-of a r run plan is looks =
       source = subst (λ (c : SourceChannel). SourceLaw c.rx.chan.0 c.rx.a c.rx.functional c.seen c.sessions) is.tells (source_law_of_run run b is.run_is);
       records = subst SessionRecords is.tells (records-of run b is.run_is);
       emission = subst ControlEmission is.tells (emission-of run b is.run_is);
-      receptions = subst (ReceptionLaw full) is.tells (law-fuller run.full full is.full (source_of b run) (reception_law_of run b is.run_is limits looks));
+      receptions = subst (ReceptionLaw full) is.tells (law-fuller run.full full is.full (source_of b run) (reception_law_of run b is.run_is limits (looks-of a d windows v place run whole there is.run_is)));
+      rooms = subst (RoomLaw a.plan.groups) is.tells (room-law a d windows v place run whole there is.run_is b);
     }
 
-pub all-sources : (a : Account) (rs : List Receiving) (runs : List RxRun) → AllByRecursion (IsLawfulReceiving a.plan) rs → AllZip (IsReceiverRun a) rs runs → ((place : ℕ) (run : RxRun) → slice_get runs place ≡ Some run → IsRxRun run → LooksKeepRoom run.set (calls_by (turns_in run))) → AllByRecursion (IsLawfulSource a) rs
-all-sources a [] runs plan are looks = tt
-all-sources a (r ∷ rs) [] plan are looks = absurd are
-all-sources a (r ∷ rs) (run ∷ runs) plan are looks = (source-of a r run plan.0 are.0 (looks 0 run refl are.0.run_is), all-sources a rs runs plan.1 are.1 (λ place other there is. looks (suc place) other there is))
+pub all-sources : (a : Account) (d : Deeds) (windows : List Window) (v : View) → IsRun a d windows v → AllByRecursion (IsLawfulSource a) a.plan.receivers
+all-sources a d windows v is =
+    all-items (IsLawfulSource a) a.plan.receivers (λ place r here.
+    let run = zip-at (IsReceiverRun a) a.plan.receivers d.receivers place r is.receivers here in
+    source-of a d windows v place r run.0 is run.1 (all-at (IsLawfulReceiving a.plan) a.plan.receivers place r is.plan.receivers here) run.2)

@@ -9,3 +9,4 @@ pub mod OwnCalls
 pub mod PartCalls
 pub mod Parts
 pub mod RoomKept
+pub mod Roomy

@@ -8,7 +8,7 @@ use Rattle.hub_core.specs.declared.record.DestResult.TheVariants.{Sent, SourceEn
 use Rattle.hub_core.specs.declared.record.Move.{Move}
 use Rattle.hub_core.specs.declared.record.RxWait.TheVariants.{Cf}
 use Rattle.hub_core.specs.declared.record.SessionRecord.{SessionRecord}
-use Rattle.hub_core.specs.declared.record.SessionResult.TheVariants.{Whole, WrongSn, NoReaders, RunEnd}
+use Rattle.hub_core.specs.declared.record.SessionResult.TheVariants.{Whole, WrongSn, NoReaders, NoRoom, RunEnd}
 use Rattle.hub_core.specs.declared.record.TxWait.TheVariants.{Bus, Fc, Start}
 use Rattle.tp_unit.specs.Box.{Written}
 use Rattle.tp_unit.specs.declared.shape.Shape.{Shape}
@@ -249,6 +249,20 @@ source_ended_late = record lawful_run {
   dests = record unsent { result = SourceEnded } ∷ sent_on 1 ∷ [];
 }
 
+-- its consecutive frame comes in tick 0 too, and finds its session's buffer of two cells full, where one cell was put
+abbrev pub came_early : ℕ → List InTick
+came_early zero = comes 0 0x700 first_frame ∷ comes 0 0x700 (0x21 ∷ 7 ∷ 8 ∷ 9 ∷ 10 ∷ []) ∷ []
+came_early (suc zero) = comes 2 0x500 single_frame ∷ []
+came_early (suc (suc bus)) = []
+
+abbrev pub full_after_one_cell : Account
+full_after_one_cell = record lawful_run {
+  came = came_early;
+  left = left_on (leaves 0 0x600 single_frame ∷ []);
+  sessions = record long_session { end = record { 0 = 0 }; result = NoRoom 0 1 } ∷ short_session 2 ∷ [];
+  dests = record unsent { end = record { 0 = 0 }; result = SourceEnded } ∷ sent_on 1 ∷ [];
+}
+
 -- both sessions take one buffer
 abbrev pub two_takes_of_one_buffer : Account
 two_takes_of_one_buffer = record lawful_run { moves = takes 1 0 ∷ takes 2 0 ∷ frees 3 0 ∷ frees 4 0 ∷ [] }
@@ -298,6 +312,8 @@ pub record NeighboursAreUnlawful : Type 0 where
   pub wrong_length : Lawful wrong_length → ⊥
   -- (HasCause)
   pub awaited_too_early : Lawful awaited_too_early → ⊥
+  -- (RoomLaw)
+  pub full_after_one_cell : Lawful full_after_one_cell → ⊥
   -- (SessionRecords)
   pub session_after_the_end : Lawful session_after_the_end → ⊥
   -- (JointCauses)

@@ -12,6 +12,7 @@ use Rattle.gw_law.specs.JointCauses.{JointCauses}
 use Rattle.gw_law.specs.Plan.{Receiving, Sending}
 use Rattle.gw_law.specs.PoolOfAccount.{PoolOf}
 use Rattle.gw_law.specs.Records.{SessionRecords}
+use Rattle.gw_law.specs.Rooms.{RoomLaw}
 use Rattle.gw_law.specs.Timely.{TimelyLaw, delivery_of_route}
 
 -- the bus of a source channel has no place for its flow control in a tick
@@ -33,6 +34,8 @@ pub record IsLawfulSource (a : Account) (r : Receiving) : Type 0 where
   -- the flow controls are those of its receptions: which ones leave, and where one that is owed doesn't, its bus was full; each record
   -- comes of its cause, and no earlier one is passed over
   pub receptions : ReceptionLaw (is_full_at a r) (source_in a r)
+  -- a record that tells of too little room tells what room its buffer had, by what was put there
+  pub rooms : RoomLaw a.plan.groups (source_in a r)
 
 -- a destination of a path, over the flow controls that came to its channel, the data frames that left, and its records
 pub record IsLawfulDest (a : Account) (s : Sending) : Type 0 where

@@ -11,5 +11,6 @@ pub mod Plan
 pub mod Pool
 pub mod PoolOfAccount
 pub mod Records
+pub mod Rooms
 pub mod Run
 pub mod Timely

@@ -11,7 +11,7 @@ mod Ledger
 mod Looks
 mod Merging
 mod Owning
-mod Places
+pub mod Places
 pub mod Pools
 mod Positions
 pub mod Quiet

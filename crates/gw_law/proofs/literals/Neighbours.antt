@@ -1,5 +1,5 @@
 -- Each neighbour of the lawful run breaks a law.
-use Rattle.std.proofs.Common.{◌≡◌, ℕ, zero, suc, ◌<◌, ◌≤◌, Bool, true, false, List, [], ◌∷◌, length, Option, Some, None, inl, inr, true≢false, refl, ap, sym, ◌∙◌, subst, arith, append-nil}
+use Rattle.std.proofs.Common.{◌≡◌, ℕ, zero, suc, ◌<◌, ◌≤◌, Bool, true, false, List, [], ◌∷◌, ◌++◌, length, Option, Some, None, inl, inr, true≢false, refl, ap, sym, ◌∙◌, subst, arith, append-nil}
 use Rattle.std.specs.Prelude.{take, ◌&&◌, map, reverse}
 use Rattle.gw_base.specs.declared.numbers.PathNo.{PathNo}
 use Rattle.hub_core.specs.declared.record.DestRecord.{DestRecord}
@@ -18,7 +18,10 @@ use Rattle.std.specs.List.{AllZip}
 use Rattle.std.proofs.lemmas.List.{length-map, length-reverse}
 use Rattle.tp_attempts.specs.Cuts.{Cut}
 use Rattle.gw_law.specs.Account.{source_in}
-use Rattle.tp_attempts.specs.Walk.{reassembled}
+use Rattle.gw_law.specs.Rooms.{HasCells}
+use Rattle.hub_core.specs.declared.record.OpenedAt.{OpenedAt}
+use Rattle.receiver_law.specs.PutCells.{cells_of}
+use Rattle.tp_attempts.specs.Walk.{Piece, joined, reassembled}
 use Rattle.tp_unit.specs.Box.{Written}
 use Rattle.tp_unit.specs.Unit.{FirstFrame}
 use Rattle.tp_unit.specs.Reading.{unit_in, unit_of}
@@ -27,7 +30,7 @@ use Rattle.tp_attempts.specs.Seen.{Seen, is_data}
 use Rattle.gw_law.proofs.literals.Items.{alone}
 use Rattle.gw_law.specs.Channels.{address_in, is_addressed, is_control}
 use Rattle.gw_law.specs.Emission.{IsControlOn, IsDataOn, IsOfSending}
-use Rattle.gw_law.specs.Examples.{NeighboursAreUnlawful, awaited_too_early, buffer_of_another_group, changed_byte, frame_of_no_channel, leaves, control_frame, long_session, lower_priority_first, no_such_destination, read_to_the_end, receiving, sent_before_it_came, sent_below_the_threshold, sent_on, single_frame, short_session, sending, source_ended_late, takes, two_takes_of_one_buffer, unsent}
+use Rattle.gw_law.specs.Examples.{NeighboursAreUnlawful, awaited_too_early, full_after_one_cell, buffer_of_another_group, changed_byte, frame_of_no_channel, leaves, control_frame, long_session, lower_priority_first, no_such_destination, read_to_the_end, receiving, sent_before_it_came, sent_below_the_threshold, sent_on, single_frame, short_session, sending, source_ended_late, takes, two_takes_of_one_buffer, unsent}
 use Rattle.gw_law.specs.JointCauses.{IsOwnEnd}
 use Rattle.gw_law.specs.Lawful.{Lawful, is_full_at}
 use Rattle.gw_law.specs.Plan.{Receiving, Sending}
@@ -137,6 +140,24 @@ not-awaited law =
     let same : record { tick = ends.left; kind = Continue ends.block } ≡ one.control = cc in
     omega (arith, ap (λ (c : ControlLeft). c.tick) same, one.tick, ends.since_is)
 
+-- a room of no cell leaves one cell of the buffer that no frame took
+first-put : (put rest : List Piece) → record { at = 0; bytes = 1 ∷ 2 ∷ 3 ∷ 4 ∷ 5 ∷ 6 ∷ [] } ∷ record { at = 0; bytes = 7 ∷ 8 ∷ 9 ∷ 10 ∷ [] } ∷ [] ≡ put ++ rest → 6 ≡ length (joined put) → cells_of put ≤ 1
+first-put [] rest are sum = absurd (omega (arith, sum))
+first-put (first ∷ []) rest are sum = let same : record { at = 0; bytes = 1 ∷ 2 ∷ 3 ∷ 4 ∷ 5 ∷ 6 ∷ [] } ≡ first = cc in subst (λ (p : Piece). cells_of (p ∷ []) ≤ 1) same (omega arith)
+first-put (first ∷ second ∷ put) rest are sum =
+    let one : record { at = 0; bytes = 1 ∷ 2 ∷ 3 ∷ 4 ∷ 5 ∷ 6 ∷ [] } ≡ first = cc in
+    let two : record { at = 0; bytes = 7 ∷ 8 ∷ 9 ∷ 10 ∷ [] } ≡ second = cc in
+    absurd (omega (arith, subst (λ (p : Piece). 6 ≡ length (joined (record { at = 0; bytes = 1 ∷ 2 ∷ 3 ∷ 4 ∷ 5 ∷ 6 ∷ [] } ∷ p ∷ put))) (sym two) (subst (λ (p : Piece). 6 ≡ length (joined (p ∷ second ∷ put))) (sym one) sum)))
+
+not-full : Lawful full_after_one_cell → ⊥
+unfolding unit_in
+not-full law =
+    let had = law.sources.0.rooms.0 0 1 refl in
+    let opened : record { seq = 0; buf = record { 0 = 0 }; change = 1 } ≡ had.opened = let is = had.opened_is in cc in
+    let size : Some 2 ≡ Some had.size = subst (λ (o : OpenedAt). HasCells ((2 ∷ 4 ∷ []) ∷ []) o.buf.0 had.size) (sym opened) had.size_is in
+    let cells : 2 ≡ had.size = cc in
+    omega (arith, cells, had.least, first-put had.put had.are_put.rest had.are_put.are had.are_put.sum)
+
 -- the destination that doesn't read ended with the run
 still-reads : Lawful read_to_the_end → ⊥
 unfolding unit_in
@@ -186,6 +207,7 @@ neighbours = record {
   frame_after_the_end = λ law. let end : 5 ≤ 4 = law.sources.0.emission.end.0 in omega (arith, end);
   wrong_length = λ law. let len : 11 ≡ 10 = law.sources.0.source.tells.0.len in omega (arith, len);
   awaited_too_early = not-awaited;
+  full_after_one_cell = not-full;
   session_after_the_end = λ law. let end : 5 ≤ 4 = law.sources.0.records.own.0.end in omega (arith, end);
   read_to_the_end = still-reads;
   source_ended_late = seen-late;

@@ -153,6 +153,7 @@ long_lawful = record {
   records = record { own = (record { chan = refl; end = omega arith }, tt); follow = λ place told next there after. absurd (no-second _ _ place after) };
   emission = long_emission;
   receptions = long_receptions;
+  rooms = ((λ room need is. cc), tt);
 }
 
 pub short_lawful : IsLawfulSource lawful_run short_receiving
@@ -162,4 +163,5 @@ short_lawful = record {
   records = record { own = (record { chan = refl; end = omega arith }, tt); follow = λ place told next there after. absurd (no-second _ _ place after) };
   emission = record { order = tt; once = λ tick. omega arith; end = tt; are_controls = tt };
   receptions = short_receptions;
+  rooms = ((λ room need is. cc), tt);
 }

@@ -27,7 +27,7 @@ pub record IsRoomSeen (s : Session) (cells : ℕ) : Type 0 where
   pub least : s.size ≤ cells + length s.cells
 
 -- a call does so in a view where it is a look, and each of some calls from a view on
-abbrev KeepsAt : View → Event → Type 0
+abbrev pub KeepsAt : View → Event → Type 0
 KeepsAt v call = (path seq cells readers : ℕ) (s : Session) → call ≡ Asked path seq cells readers → session_at v path seq ≡ Some s → IsRoomSeen s cells
 
 abbrev pub KeepRoom : View → List Event → Type 0

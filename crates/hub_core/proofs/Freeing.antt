@@ -21,7 +21,7 @@ use Rattle.hub_core.specs.View.{View, Change, Freed, Taking, Session, Reading, E
 use Rattle.hub_core.specs.declared.place.Place.{Place}
 use Rattle.hub_core.specs.declared.place.Place.TheVariants.{Free, Occupied}
 use Rattle.hub_core.specs.declared.place.Row.{Row}
-use Rattle.hub_core.specs.declared.pool.Pool.{Pool}
+use Rattle.pool_words.specs.declared.pool.Pool.{Pool}
 
 -- the free of the buffer after the last party's leave may happen
 pub led-last : (groups : List (List ℕ)) (v : View) (event : Event) (number buf path seq : ℕ) (s t : Session) (w : View) → IsLed groups v → MayDo v event → w ≡ after (Frees number buf) (after (Does event) v) →

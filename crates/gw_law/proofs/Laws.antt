@@ -9,11 +9,12 @@ use Rattle.gw_law.proofs.Dests.{all-dests}
 use Rattle.gw_law.proofs.Routes.{all-routes}
 use Rattle.gw_law.proofs.Sources.{all-sources}
 use Rattle.gw_law.proofs.Written.{written-law}
+use Rattle.gw_law.proofs.runs.RoomKept.{looks-of}
 use Rattle.gw_law.proofs.pools.PoolRuns.{pool_of}
 
 pub laws : (a : Account) (d : Deeds) (windows : List Window) (v : View) → IsRun a d windows v → Lawful a
 laws a d windows v is =
-    let sources = all-sources a a.plan.receivers d.receivers is.plan.receivers is.receivers in
+    let sources = all-sources a a.plan.receivers d.receivers is.plan.receivers is.receivers (λ place run there run_is. looks-of a d windows v place run is there run_is) in
     let dests = all-dests a a.plan.senders d.senders is.plan.senders is.senders in
     record {
       sources = sources;

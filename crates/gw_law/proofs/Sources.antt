@@ -1,9 +1,9 @@
 -- The laws of each source channel, by its receiver's run.
-use Rattle.std.proofs.Common.{◌≡◌, ℕ, ◌+◌, ◌≤◌, Bool, Some, List, [], ◌∷◌, ap, sym, subst, arith}
+use Rattle.std.proofs.Common.{◌≡◌, ℕ, ◌+◌, ◌≤◌, Bool, List, [], ◌∷◌, ap, subst, arith, refl, suc, Some}
 use Rattle.std.specs.Prelude.{slice_get}
 use Rattle.std.specs.List.{AllByRecursion, AllZip}
 use Rattle.gw_base.proofs.Lists.{all-join, all-weaker}
-use Rattle.hub_core.specs.Turns.{records_by, state_after, turns_of}
+use Rattle.hub_core.specs.Turns.{calls_by, records_by, state_after}
 use Rattle.hub_core.specs.declared.record.SessionRecord.{SessionRecord}
 use Rattle.receiver_law.proofs.runs.RxFollows.{records-follow}
 use Rattle.receiver_law.proofs.runs.RxFuller.{law-fuller}
@@ -12,6 +12,7 @@ use Rattle.receiver_law.proofs.runs.RxRises.{controls-of-run-rise}
 use Rattle.receiver_law.proofs.runs.RxWritten.{are-controls}
 use Rattle.receiver_law.specs.Channel.{SourceChannel}
 use Rattle.receiver_law.specs.Laws.{HasLimits}
+use Rattle.receiver_law.specs.Looks.{LooksKeepRoom}
 use Rattle.receiver_law.specs.ReceptionCauses.{ReceptionLaw}
 use Rattle.receiver_law.specs.RxRun.{IsRxRun, RxRun, source_of, turns_in}
 use Rattle.receiver_law.specs.Source.{SourceLaw}
@@ -57,8 +58,8 @@ emission-of run budget is =
     }
 
 -- what is proved of what the run tells is proved of what is told of the channel
-source-of : (a : Account) (r : Receiving) (run : RxRun) → IsLawfulReceiving a.plan r → IsReceiverRun a r run → IsLawfulSource a r
-source-of a r run plan is =
+source-of : (a : Account) (r : Receiving) (run : RxRun) → IsLawfulReceiving a.plan r → IsReceiverRun a r run → LooksKeepRoom run.set (calls_by (turns_in run)) → IsLawfulSource a r
+source-of a r run plan is looks =
     let b : ℕ = a.plan.budget r.bus in
     let set : run.set ≡ r.set = ap (λ (c : SourceChannel). c.rx) is.tells in
     let full : ℕ → Bool = is_full_at a r in
@@ -71,10 +72,10 @@ source-of a r run plan is =
       source = subst (λ (c : SourceChannel). SourceLaw c.rx.chan.0 c.rx.a c.rx.functional c.seen c.sessions) is.tells (source_law_of_run run b is.run_is);
       records = subst SessionRecords is.tells (records-of run b is.run_is);
       emission = subst ControlEmission is.tells (emission-of run b is.run_is);
-      receptions = subst (ReceptionLaw full) is.tells (law-fuller run.full full is.full (source_of b run) (reception_law_of run b is.run_is limits));
+      receptions = subst (ReceptionLaw full) is.tells (law-fuller run.full full is.full (source_of b run) (reception_law_of run b is.run_is limits looks));
     }
 
-pub all-sources : (a : Account) (rs : List Receiving) (runs : List RxRun) → AllByRecursion (IsLawfulReceiving a.plan) rs → AllZip (IsReceiverRun a) rs runs → AllByRecursion (IsLawfulSource a) rs
-all-sources a [] runs plan are = tt
-all-sources a (r ∷ rs) [] plan are = absurd are
-all-sources a (r ∷ rs) (run ∷ runs) plan are = (source-of a r run plan.0 are.0, all-sources a rs runs plan.1 are.1)
+pub all-sources : (a : Account) (rs : List Receiving) (runs : List RxRun) → AllByRecursion (IsLawfulReceiving a.plan) rs → AllZip (IsReceiverRun a) rs runs → ((place : ℕ) (run : RxRun) → slice_get runs place ≡ Some run → IsRxRun run → LooksKeepRoom run.set (calls_by (turns_in run))) → AllByRecursion (IsLawfulSource a) rs
+all-sources a [] runs plan are looks = tt
+all-sources a (r ∷ rs) [] plan are looks = absurd are
+all-sources a (r ∷ rs) (run ∷ runs) plan are looks = (source-of a r run plan.0 are.0 (looks 0 run refl are.0.run_is), all-sources a rs runs plan.1 are.1 (λ place other there is. looks (suc place) other there is))

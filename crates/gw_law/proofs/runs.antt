@@ -5,4 +5,6 @@ pub mod Meetings
 pub mod Moments
 pub mod Openings
 pub mod OwnCalls
+pub mod PartCalls
 pub mod Parts
+pub mod RoomKept

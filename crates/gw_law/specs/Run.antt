@@ -5,7 +5,7 @@ use Rattle.hub_core.specs.Groups.{IsWordOf, changes_in, group_of}
 use Rattle.hub_core.specs.Joint.{Joint}
 use Rattle.hub_core.specs.Journal.{AreInOrder}
 use Rattle.hub_core.specs.Moves.{move_of}
-use Rattle.hub_core.specs.Turns.{state_after, turns_of}
+use Rattle.hub_core.specs.Turns.{state_after}
 use Rattle.hub_core.specs.View.{Session, View, session_at}
 use Rattle.receiver_law.specs.RxRun.{IsRxRun, RxRun, source_of, turns_in as received_in}
 use Rattle.sender_law.specs.Runs.{IsTxRun, TxRun, leg_of, turns_in as sent_in}

@@ -48,8 +48,8 @@ look-of : (set : TxSet) (live : HeldTransmission) (look : Seen) (u v : View) →
 look-of set live look u v path dest grown = rw (← path, ← dest) grown
 
 -- and it is as fresh
-fresh-of : (low : Floors) (set : TxSet) (live : HeldTransmission) (look : Seen) (u : View) → live.at.path ≡ set.path → IsFresh u low (Saw live.at.path.0 live.at.dest.0 live.at.seq look.cells look.bytes look.writer) → IsFresh u low (look_at set (transmission_of live) look)
-fresh-of low set live look u path fresh = rw (← path) fresh
+fresh-of : (low : Floors) (set : TxSet) (live : HeldTransmission) (look : Seen) (u : View) → live.at.path ≡ set.path → live.at.dest ≡ set.dest → IsFresh u low (Saw live.at.path.0 live.at.dest.0 live.at.seq look.cells look.bytes look.writer) → IsFresh u low (look_at set (transmission_of live) look)
+fresh-of low set live look u path dest fresh = rw (← path, ← dest) fresh
 
 -- the session with another token
 abbrev pub with_token : Joined → HeldTransmission → Transmission
@@ -78,7 +78,7 @@ begins-reached {low = low} set live next look u v w tick outcome path dest grown
     let P : Transmission → List Event → List Event → Type 0 = λ s calls all. InBytes set (in_phase Bytes tick s) calls (did_of tick count all outcome) in
     let Q : Transmission → Type 0 = λ s. is_reached set s look ≡ true in
     over-after (look_at set (transmission_of live) look ∷ []) [] (option_to_list outcome.acts.moved) (λ calls. (all : List Event) → P next calls all)
-    (λ calls. (all : List Event) → InStart set (transmission_of live) calls (did_of tick count all outcome)) (look-of set live look u v path dest grown) rise (fresh-of low set live look u path fresh, tt) refl
+    (λ calls. (all : List Event) → InStart set (transmission_of live) calls (did_of tick count all outcome)) (look-of set live look u v path dest grown) rise (fresh-of low set live look u path dest fresh, tt) refl
     (counts-as (InBytes set (in_phase Bytes tick next)) v w tick (next.seq + 1) count outcome (ap (λ (s : Transmission). s.seq + 1) same) over)
     (λ calls row all. Reached look calls refl (subst Q same (sym reached)) (subst (λ (s : Transmission). P s calls all) same (row all)))
 
@@ -90,7 +90,7 @@ begins-gone {low = low} set live next look u v w tick outcome path dest grown ri
     let P : Transmission → List Event → List Event → Type 0 = λ s calls all. Ends set s Keeps SourceEnded calls (did_of tick count all outcome) in
     let Q : Transmission → Type 0 = λ s. is_reached set s look ≡ false in
     over-after (look_at set (transmission_of live) look ∷ []) [] (option_to_list outcome.acts.moved) (λ calls. (all : List Event) → P next calls all)
-    (λ calls. (all : List Event) → InStart set (transmission_of live) calls (did_of tick count all outcome)) (look-of set live look u v path dest grown) rise (fresh-of low set live look u path fresh, tt) refl
+    (λ calls. (all : List Event) → InStart set (transmission_of live) calls (did_of tick count all outcome)) (look-of set live look u v path dest grown) rise (fresh-of low set live look u path dest fresh, tt) refl
     (counts-as (Ends set next Keeps SourceEnded) v w tick (next.seq + 1) count outcome (ap (λ (s : Transmission). s.seq + 1) same) over)
     (λ calls row all. NeverReached look calls refl (subst Q same (sym reached)) (not-there look.writer gone) (subst (λ (s : Transmission). P s calls all) same (row all)))
 
@@ -102,7 +102,7 @@ begins-later {low = low} set live next look u v tick count outcome path dest gro
     record {
       calls = look_at set (transmission_of live) look ∷ [];
       grown = look-of set live look u v path dest grown;
-      fresh = (fresh-of low set live look u path fresh, tt);
+      fresh = (fresh-of low set live look u path dest fresh, tt);
       moves_are = ap option_to_list moved;
       row = λ all. NotReached look [] refl (subst Q same (sym reached)) (there look.writer stands) (subst (λ (s : Transmission). GoesOn s [] (did_of tick count all outcome)) same (on all));
     }
@@ -136,7 +136,7 @@ reads-of {low = low} set live next full look u v w l m path dest grown fresh loo
           left = left;
         },
         λ high rise later. (
-          fresh-of low set live look u path fresh,
+          fresh-of low set live look u path dest fresh,
           are-fresh-append low high (grow (look_at set (transmission_of live) look) u) w e more
               (own ∙ ap (grows e) (look-of set live look u v path dest grown)) rise (reads-fresh low _ set.path.0 set.dest.0 live.at.seq cells) later,
         ),

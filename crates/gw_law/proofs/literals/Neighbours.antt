@@ -24,7 +24,7 @@ use Rattle.tp_unit.specs.Unit.{FirstFrame}
 use Rattle.tp_unit.specs.Reading.{unit_in, unit_of}
 use Rattle.tp_unit.specs.Shape.{address_size}
 use Rattle.tp_attempts.specs.Seen.{Seen, is_data}
-use Rattle.gw_law.proofs.literals.Items.{alone, alone-among}
+use Rattle.gw_law.proofs.literals.Items.{alone}
 use Rattle.gw_law.specs.Channels.{address_in, is_addressed, is_control}
 use Rattle.gw_law.specs.Emission.{IsControlOn, IsDataOn, IsOfSending}
 use Rattle.gw_law.specs.Examples.{NeighboursAreUnlawful, awaited_too_early, buffer_of_another_group, changed_byte, frame_of_no_channel, leaves, control_frame, long_session, lower_priority_first, no_such_destination, read_to_the_end, receiving, sent_before_it_came, sent_on, single_frame, short_session, sending, source_ended_late, takes, two_takes_of_one_buffer, unsent}

@@ -1,9 +1,6 @@
 -- The laws of the source channels of the run of two paths.
-use Rattle.std.proofs.Common.{◌≡◌, ℕ, zero, suc, ◌<◌, ◌≤◌, true, false, inl, inr, true≢false, [], ◌∷◌, length, Option, Some, None, refl, ap, sym, ◌∙◌, subst, arith}
-use Rattle.std.specs.Prelude.{slice_get}
+use Rattle.std.proofs.Common.{◌≡◌, ℕ, zero, suc, ◌<◌, ◌≤◌, true, false, inl, inr, true≢false, [], ◌∷◌, length, Option, Some, refl, sym, subst, arith}
 use Rattle.std.proofs.lemmas.Bool.Decides.{eqb_tells}
-use Rattle.std.specs.List.{AllByRecursion}
-use Rattle.hub_core.specs.declared.record.SessionRecord.{SessionRecord}
 use Rattle.receiver_law.specs.Channel.{SourceChannel}
 use Rattle.receiver_law.proofs.receptions.Counting.{last-newest}
 use Rattle.receiver_law.specs.FlowControls.{AreAnswers, IsLate, IsOwed}

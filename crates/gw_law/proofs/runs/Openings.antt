@@ -69,7 +69,7 @@ none-before p tick o (part ∷ parts) lies late = (
 )
 
 -- a part of the window, and what its machine did between the window's opening and it
-stands-before : {T : Type 0} (bound : ℕ) (later : List (Part T)) (part : Part T) (earlier : List (Part T)) → part.tick < bound → (mid : List (Part T)) × (before bound (later ++ part ∷ earlier) ≡ mid ++ part ∷ earlier)
+pub stands-before : {T : Type 0} (bound : ℕ) (later : List (Part T)) (part : Part T) (earlier : List (Part T)) → part.tick < bound → (mid : List (Part T)) × (before bound (later ++ part ∷ earlier) ≡ mid ++ part ∷ earlier)
 stands-before bound [] part earlier below = let keeps : nat_lt part.tick bound ≡ true = grind (arith, nat_tests, below) in ([], ap (λ b. cond b (part ∷ earlier) (before bound earlier)) keeps)
 stands-before bound (first ∷ later) part earlier below =
     let so = stands-before bound later part earlier below in
@@ -79,7 +79,7 @@ stands-before bound (first ∷ later) part earlier below =
     stands-by whole rest first later part earlier mid true all is = (first ∷ later, all)
     stands-by whole rest first later part earlier mid false all is = (mid, is)
 
-before-past : {T : Type 0} (bound : ℕ) (later : List (Part T)) (part : Part T) (earlier : List (Part T)) → AreRising (later ++ part ∷ earlier) → bound ≤ part.tick → (before bound (later ++ part ∷ earlier) ≡ before bound earlier) × (part.tick < tick_after (later ++ part ∷ earlier))
+pub before-past : {T : Type 0} (bound : ℕ) (later : List (Part T)) (part : Part T) (earlier : List (Part T)) → AreRising (later ++ part ∷ earlier) → bound ≤ part.tick → (before bound (later ++ part ∷ earlier) ≡ before bound earlier) × (part.tick < tick_after (later ++ part ∷ earlier))
 before-past bound [] part earlier rising from = let drops : nat_lt part.tick bound ≡ false = grind (arith, nat_tests, from) in (ap (λ b. cond b (part ∷ earlier) (before bound earlier)) drops, omega arith)
 before-past bound (first ∷ later) part earlier rising from =
     let so = before-past bound later part earlier rising.1 from in

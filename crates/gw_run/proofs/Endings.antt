@@ -123,7 +123,7 @@ end-stands sizes g k last seen answers next in_time at first =
 pub finishes : (sizes : List ℕ) (g k h : Gateway) (clock : Clock) (last : ℕ) (seen : List Seen) (answers : List Answer) (next : ℕ) (told : Told) → next ≤ last + 1 → IsQuiet g ⊎ (next ≡ last + 1) → AtBarrier sizes g seen answers next →
     TellsReceiver g k RunEnd last (lying g.control) g.controls → ((turns : List RxTurn) (moments : List TxTurn) (view : View) → Stands sizes k last turns moments view → EndsTelling sizes h last turns moments view) → IsOver h → h.machines ≡ k.machines → Tells h clock told →
     Finishes sizes g.machines clock last seen answers told
-finishes sizes g k h clock last seen answers next told in_time quiet at first ends over machines tells sizes =
+finishes sizes g k h clock last seen answers next told in_time quiet at first ends over machines tells =
     let works = at.works in
     let turn : RxTurn = record { event = RunEnd; did = first.did } in
     let stands = end-stands sizes g k last seen answers next in_time at first in
@@ -137,10 +137,10 @@ finishes sizes g k h clock last seen answers next told in_time quiet at first en
     let tx : T g.machines = subst T m_is all.sends in
     let J : View → Type 0 = λ v. Joint (sizes ∷ []) v × IsWordOf (sizes ∷ []) 0 v told.report.pool.changes told.report.pool.free in
     let S : List (List ℕ) → Type 0 = λ groups. Joint groups (view_in h.hub) × IsWordOf groups 0 (view_in h.hub) told.report.pool.changes told.report.pool.free in
-    let pool : J (view_of (end ∷ works)) = subst J all.pool.view_is (subst S all.pool.groups (tells sizes.joint, tells sizes.word)) in
+    let pool : J (view_of (end ∷ works)) = subst J all.pool.view_is (subst S all.pool.groups (tells.joint, tells.word)) in
     let O : View → Type 0 = λ v. AreInOrder v.changes in
     let I : List (List ℕ) → Type 0 = λ groups. Joint groups (view_in h.hub) × AreInOrder (changes_in groups 0 (view_in h.hub)) in
-    let sorted : I (sizes ∷ []) = subst I all.pool.groups (tells sizes.joint, tells sizes.in_order) in
+    let sorted : I (sizes ∷ []) = subst I all.pool.groups (tells.joint, tells.in_order) in
     let path : h.sender.set.path.0 ≡ g.machines.rx.path.0 = ap (λ (x : TxSet). x.path.0) tx.set ∙ ap (λ (p : PathNo). p.0) g.machines.are.same_path in
     let count : length ((view_in h.hub).sessions h.sender.set.path.0) ≡ length ((view_of (end ∷ works)).sessions g.machines.rx.path.0) =
     ap (λ (p : ℕ). length ((view_in h.hub).sessions p)) path ∙ ap (λ (v : View). length (v.sessions g.machines.rx.path.0)) all.pool.view_is in
@@ -151,7 +151,7 @@ finishes sizes g k h clock last seen answers next told in_time quiet at first en
       ticks = works;
       end = end;
       run = record {
-        shape = g.machines.are.frames.shape_is;
+        shape = g.machines.are.frames;
         path = g.machines.are.same_path;
         readers = g.machines.are.readers;
         ticks_are = at.ticks;
@@ -172,7 +172,7 @@ finishes sizes g k h clock last seen answers next told in_time quiet at first en
         in_order = subst O all.pool.view_is (subst AreInOrder (same sizes (view_in h.hub) sorted.0) sorted.1);
       };
       tells = same-told _ _ _ _ _ _ _ _ _ told seen answers (append-nil (came_by frames_in (turns_of works)) ∙ at.seen_is) (end-answers last out.more (moments_of works) out.only ∙ at.answers_is)
-          (tells sizes.controls ∙ rx.controls_are) (tells sizes.frames ∙ tx.frames_are) (tells sizes.sessions ∙ rx.sessions_are) (tells sizes.dests ∙ tx.dests_are) (tells sizes.moves ∙ all.pool.moves_are) refl refl;
-      clock_is = tells sizes.clock_is;
-      buffers = tells sizes.buffers;
+          (tells.controls ∙ rx.controls_are) (tells.frames ∙ tx.frames_are) (tells.sessions ∙ rx.sessions_are) (tells.dests ∙ tx.dests_are) (tells.moves ∙ all.pool.moves_are) refl refl;
+      clock_is = tells.clock_is;
+      buffers = tells.buffers;
     }

@@ -108,6 +108,7 @@ module _ (start period : ℕ) (interface : List ℕ) (fd : Bool) where
   pub written-log : (written : List Written) → All (IsOneLine start period interface) written → AllByRecursion (IsOnBus fd) written → IsLogWhereDated start period interface fd written
   written-log written lines own dated = log-of written (entries written lines own dated)
 
+module _ (start period : ℕ) (interface : List ℕ) where
   pub text-more : (frames : List Written) (i : ℕ) (w : Written) (old new : List ℕ) → i < length frames → get_or frames i w ≡ w → old ≡ output_text start period interface (take i frames) →
       new ≡ old ++ output_line start period interface w → new ≡ output_text start period interface (take (i + 1) frames)
   text-more frames i w old new inside is so_far line =

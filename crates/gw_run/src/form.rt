@@ -1,34 +1,26 @@
-//! The one form of configuration that is run: a buffer, two classic buses with a channel on each, and a path from the one to the other.
+//! The one form of configuration that is run: a buffer, two buses with a channel on each, and a path from the one to the other.
 ghost use Rattle.std.specs.Prelude.{◌≡◌, ◌≢◌, [], ◌∷◌, ℕ, MatchBool, MatchOption};
-ghost use Rattle.gw_run.specs.Setup.{IsBaseBus, IsBaseChannel, IsBasePath, IsBuiltConfig, HasBaseTop};
+ghost use Rattle.route_check.specs.Conflicts.{IsAccepted};
+ghost use Rattle.gw_run.specs.Setup.{IsBaseBus, IsBasePath, IsBuiltConfig, HasBaseTop};
 ghost use Rattle.gw_run.specs.Setup.{Setup as SetupOfRun};
 
 use crate::files::are_same;
 use crate::machines::BUDGET;
-use crate::setup::{CLASSIC_BYTES, Setup, bus_of};
+use crate::setup::{Setup, bus_of};
 use gw_config::{BusKeys, ChannelKeys, Config, Mode, PathKeys};
 
-/// Whether it is a classic bus with the default budget.
+/// Whether the bus has the default budget.
 fn is_base_bus(bus: &BusKeys) -> bool
     ensures { MatchBool result (IsBaseBus bus.now) (¬ IsBaseBus bus.now) }
 {
-    if bus.fd {
-        return false;
-    }
-    if bus.brs {
-        return false;
-    }
     bus.budget == BUDGET
 }
 
-/// Whether the channel is on the bus with that name, and has classic frames.
-fn is_base_channel(bus: &[u8], channel: &ChannelKeys) -> bool
-    ensures { MatchBool result (IsBaseChannel bus.now channel.now) (¬ IsBaseChannel bus.now channel.now) }
+/// Whether the channel is on the bus with that name.
+fn is_on(bus: &[u8], channel: &ChannelKeys) -> bool
+    ensures { MatchBool result (channel.now.bus ≡ bus.now) (channel.now.bus ≢ bus.now) }
 {
-    if !are_same(channel.bus.items(), bus) {
-        return false;
-    }
-    channel.dl == CLASSIC_BYTES
+    are_same(channel.bus.items(), bus)
 }
 
 /// Whether the path leads from the one channel to the other alone.
@@ -72,6 +64,7 @@ fn one_buffer(config: &Config) -> Option<u32>
 
 /// What a run takes from the configuration, where it is built; None exactly where it isn't.
 pub(crate) fn built(config: &Config) -> Option<Setup<'_>>
+    requires { IsAccepted config.now }
     ensures { MatchOption result ((setup : SetupOfRun) → ¬ IsBuiltConfig config.now setup) (IsBuiltConfig config.now) }
 {
     if !has_base_top(config) {
@@ -95,10 +88,10 @@ pub(crate) fn built(config: &Config) -> Option<Setup<'_>>
     if !is_base_bus(destination) {
         return None;
     }
-    if !is_base_channel(source.name.items(), receiver) {
+    if !is_on(source.name.items(), receiver) {
         return None;
     }
-    if !is_base_channel(destination.name.items(), sender) {
+    if !is_on(destination.name.items(), sender) {
         return None;
     }
     if !is_base_path(receiver.name.items(), sender.name.items(), path) {

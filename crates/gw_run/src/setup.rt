@@ -17,7 +17,7 @@ use tp_sender::TxSet;
 use tp_unit::Shape;
 
 /// The most bytes of a classic frame.
-pub(crate) const CLASSIC_BYTES: u8 = 8;
+const CLASSIC_BYTES: u8 = 8;
 
 /// The number of the source channel's bus.
 pub(crate) const SOURCE: BusNo = BusNo(0);
@@ -32,6 +32,7 @@ pub(crate) struct Bus<'a> {
     log: &'a str,
     out: &'a str,
     fd: bool,
+    brs: bool,
 }
 
 impl<'a> Model for Bus<'a> {
@@ -39,9 +40,9 @@ impl<'a> Model for Bus<'a> {
 
     ghost Value = { BusOfRun };
 
-    ghost view = { λ bus. record { interface = bus.interface.now; log = bus.log.now; out = bus.out.now; fd = bus.fd } };
+    ghost view = { λ bus. record { interface = bus.interface.now; log = bus.log.now; out = bus.out.now; fd = bus.fd; brs = bus.brs } };
 
-    ghost invariant = { λ bus. IsBus (record { interface = bus.interface.now; log = bus.log.now; out = bus.out.now; fd = bus.fd }) };
+    ghost invariant = { λ bus. IsBus (record { interface = bus.interface.now; log = bus.log.now; out = bus.out.now; fd = bus.fd; brs = bus.brs }) };
 }
 
 impl Bus<'_> {
@@ -111,6 +112,7 @@ pub(crate) fn bus_of(keys: &BusKeys) -> Bus<'_>
         log: text_of(keys.log.items()),
         out: text_of(keys.out.items()),
         fd: keys.fd,
+        brs: keys.brs,
     }
 }
 
@@ -148,16 +150,16 @@ fn address_of(channel: &ChannelKeys) -> Address
     }
 }
 
-/// The shape of a channel's frames.
-fn shape_of(channel: &ChannelKeys) -> Shape
-    ensures { result ≡ shape_of channel.now }
+/// The shape of a channel's frames on its bus: FD frames where they may be longer than classic ones.
+fn shape_of(bus: &Bus<'_>, channel: &ChannelKeys) -> Shape
+    ensures { result ≡ shape_of bus.now channel.now }
 {
     Shape {
         id: channel.tx,
-        fd: false,
-        brs: false,
+        fd: channel.dl > CLASSIC_BYTES,
+        brs: bus.brs,
         address: channel.tx_address,
-        dl: CLASSIC_BYTES,
+        dl: channel.dl,
         pad: channel.pad,
         fill: channel.fill,
     }
@@ -165,7 +167,7 @@ fn shape_of(channel: &ChannelKeys) -> Shape
 
 impl Setup<'_> {
     ghost use Rattle.std.specs.Prelude.{◌≡◌, ◌≢◌, ◌≤◌, ◌<◌};
-    ghost use Rattle.gw_run.specs.Setup.{AreMachinesOf};
+    ghost use Rattle.gw_run.specs.Setup.{AreMachinesOf, FitsBus};
 
     /// The source channel's bus.
     pub(crate) fn source(&self) -> &Bus<'_>
@@ -201,7 +203,9 @@ impl Setup<'_> {
 
     /// How the receiver and the sender are configured.
     pub(crate) fn machines(&self) -> Machines
-        ensures { AreMachinesOf self.now result }
+        ensures are { AreMachinesOf self.now result }
+        ensures source { FitsBus self.now.source self.now.receiver }
+        ensures destination { FitsBus self.now.destination self.now.sender }
     {
         let receiver = self.receiver;
         let sender = self.sender;
@@ -224,12 +228,12 @@ impl Setup<'_> {
                 threshold: path.threshold,
                 store: path.store,
             },
-            shape: shape_of(receiver),
+            shape: shape_of(&self.source, receiver),
             tx: TxSet {
                 path: PathNo(0),
                 group: GroupNo(0),
                 dest: DestNo(0),
-                shape: shape_of(sender),
+                shape: shape_of(&self.destination, sender),
                 threshold: path.threshold,
                 store: path.store,
                 n_as: sender.n_as,

@@ -1,4 +1,4 @@
-//! Runs whose messages come in blocks, wait for room, or are stored whole.
+//! Runs whose messages come in blocks, wait for room, are stored whole, or come or leave in CAN FD frames.
 
 use crate::base::{AS_IT_IS, Change, EMPTY};
 use crate::runs::{Row, try_row};
@@ -10,7 +10,19 @@ const STORED: Change = ("to = [\"B\"]\n", "to = [\"B\"]\nstore = true\n");
 /// A source channel that asks to wait at most twice in a row.
 const TWO_WAITS: Change = ("tx = \"708\"\n", "tx = \"708\"\nwft_max = 2\n");
 
-const RUNS_IN_BLOCKS: [Row; 8] = [
+/// A bus of the source with CAN FD, and a buffer of nine cells, which the longest frame takes.
+const FD_SOURCE: Change = (
+    "buffers = [4]\n[[bus]]\nname = \"can0\"\n",
+    "buffers = [9]\n[[bus]]\nfd = true\nname = \"can0\"\n",
+);
+
+/// A bus of the destination with CAN FD at the higher bit rate, whose channel has frames of up to 64 bytes.
+const FD_DESTINATION: Change = (
+    "out = \"can1.out\"\n[[channel]]\nname = \"A\"\nbus = \"can0\"\nrx = \"700\"\ntx = \"708\"\n[[channel]]\n",
+    "out = \"can1.out\"\nfd = true\nbrs = true\n[[channel]]\nname = \"A\"\nbus = \"can0\"\nrx = \"700\"\ntx = \"708\"\n[[channel]]\ndl = 64\n",
+);
+
+const RUNS_IN_BLOCKS: [Row; 10] = [
     // 63 bytes in blocks of three: the ring of four cells goes round twice.
     (
         AS_IT_IS,
@@ -294,6 +306,64 @@ move 2 free 0
 pool 1 2 00000001
 ",
         b"done 1 0 1 0 2\n",
+    ),
+    // An FD single frame of 62 bytes becomes nine classic frames.
+    (
+        FD_SOURCE,
+        [
+            b"(0000000001.000000) can0 700##0003E000102030405060708090A0B0C0D0E0F101112131415161718191A1B1C1D1E1F202122232425262728292A2B2C2D2E2F303132333435363738393A3B3C3D
+",
+            b"(0000000001.001500) can1 718#300000
+",
+        ],
+        [
+            EMPTY,
+            b"(0000000001.001000) can1 710#103E000102030405
+(0000000001.002000) can1 710#21060708090A0B0C
+(0000000001.003000) can1 710#220D0E0F10111213
+(0000000001.004000) can1 710#231415161718191A
+(0000000001.005000) can1 710#241B1C1D1E1F2021
+(0000000001.006000) can1 710#2522232425262728
+(0000000001.007000) can1 710#26292A2B2C2D2E2F
+(0000000001.008000) can1 710#2730313233343536
+(0000000001.009000) can1 710#283738393A3B3C3D
+",
+        ],
+        b"report 1
+clock 1000000 1000
+session 0 0 62 0 62 0 0/0/1 whole
+dest 0 0 0 0 62 8 sent
+move 1 take 0
+move 2 free 0
+pool 1 2 00000001
+",
+        b"done 1 1 1 1 2\n",
+    ),
+    // Three classic frames become an FD single frame, which switches the bit rate and is filled up to 24 bytes.
+    (
+        FD_DESTINATION,
+        [
+            b"(0000000001.000000) can0 700#1014000102030405
+(0000000001.002000) can0 700#21060708090A0B0C
+(0000000001.003000) can0 700#220D0E0F10111213
+",
+            EMPTY,
+        ],
+        [
+            b"(0000000001.001000) can0 708#300000
+",
+            b"(0000000001.004000) can1 710##10014000102030405060708090A0B0C0D0E0F10111213CCCC
+",
+        ],
+        b"report 1
+clock 1000000 1000
+session 0 0 20 0 20 3 0/0/1 whole
+dest 0 0 0 0 20 3 sent
+move 1 take 0
+move 2 free 0
+pool 1 2 00000001
+",
+        b"done 1 1 1 1 2\n",
     ),
 ];
 

@@ -50,7 +50,7 @@ const UNBUILT: &[u8] = b"unbuilt configuration\n";
 /// A change of the configuration, the report's name, the exit code, and what is said. The log of can0 is bad.
 type ConfigurationRow = (Change, &'static str, u8, &'static [u8]);
 
-const REFUSED_CONFIGURATIONS: [ConfigurationRow; 10] = [
+const REFUSED_CONFIGURATIONS: [ConfigurationRow; 9] = [
     // A report that is a log or an output.
     (AS_IT_IS, "can0.log", 2, b"config bus[0].log: repeated\n"),
     (AS_IT_IS, "can0.out", 2, b"config bus[0].out: repeated\n"),
@@ -67,12 +67,6 @@ const REFUSED_CONFIGURATIONS: [ConfigurationRow; 10] = [
     (("", "mode = \"threads\"\n"), "gw.report", 9, UNBUILT),
     (
         ("\"can1.out\"\n", "\"can1.out\"\nbudget = 9\n"),
-        "gw.report",
-        9,
-        UNBUILT,
-    ),
-    (
-        ("\"can1.out\"\n", "\"can1.out\"\nfd = true\n"),
         "gw.report",
         9,
         UNBUILT,

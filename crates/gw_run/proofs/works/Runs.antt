@@ -109,14 +109,14 @@ controls-own p =
     let run : RxRun = rx_run (run_of p) in
     let P : List Written → Type 0 = λ l. AllByRecursion (IsControlOf p.m.shape) l in
     subst P (ap (λ (c : SourceChannel). c.controls) (rx-told p))
-    (all-weaker (WritesControl p.m.rx p.m.shape) (IsControlOf p.m.shape) _ (λ w is. control-is p.m.rx p.m.shape w p.are.controls.shape_is is) (are-controls p.m.rx p.m.shape (received_in run) (is-rx-run (run_of p)).happened))
+    (all-weaker (WritesControl p.m.rx p.m.shape) (IsControlOf p.m.shape) _ (λ w is. control-is p.m.rx p.m.shape w p.are.controls is) (are-controls p.m.rx p.m.shape (received_in run) (is-rx-run (run_of p)).happened))
 
 frames-own : (p : Played) → AllByRecursion (IsDataOf p.m.tx.shape) p.told.frames
 frames-own p =
     let run : TxRun = tx_run (run_of p) in
     let P : List Written → Type 0 = λ l. AllByRecursion (IsDataOf p.m.tx.shape) l in
     subst P (ap (λ (c : DestChannel). c.frames) (tx-told p))
-    (all-weaker (WritesData p.m.tx.shape) (IsDataOf p.m.tx.shape) _ (λ w is. data-is p.m.tx.shape w p.are.frames.shape_is is) (are-data p.m.tx (sent_in run) (is-tx-run (run_of p)).happened))
+    (all-weaker (WritesData p.m.tx.shape) (IsDataOf p.m.tx.shape) _ (λ w is. data-is p.m.tx.shape w p.are.frames is) (are-data p.m.tx (sent_in run) (is-tx-run (run_of p)).happened))
 
 -- the records are those of the one channel and the one destination
 sessions-own : (p : Played) → AllByRecursion (λ (told : SessionRecord). told.chan ≡ p.m.rx.chan) p.told.report.sessions
@@ -210,8 +210,8 @@ same-path p = ap (λ (n : PathNo). n.0) p.are.same_path
 plan-is : (p : Played) → IsLawfulPlan (plan_of p.m p.last)
 plan-is p = record {
   window = omega arith;
-  receivers = (record { shape = p.are.controls.shape_is; group = omega (arith, p.are.group); n_ar = p.are.n_ar; n_br = p.are.n_br; n_cr = p.are.n_cr; budget = omega arith }, tt);
-  senders = (record { shape = p.are.frames.shape_is; n_as = p.are.n_as; n_bs = p.are.n_bs; budget = omega arith }, tt);
+  receivers = (record { shape = p.are.controls; group = omega (arith, p.are.group); n_ar = p.are.n_ar; n_br = p.are.n_br; n_cr = p.are.n_cr; budget = omega arith }, tt);
+  senders = (record { shape = p.are.frames; n_as = p.are.n_as; n_bs = p.are.n_bs; budget = omega arith }, tt);
   apart = λ place other r another at there same. (only-one (receiving_of p.m) r place at).0 ∙ sym (only-one (receiving_of p.m) another other there).0;
   each_dest = λ place dest r at below.
       let is = (only-one (receiving_of p.m) r place at).1 in

@@ -23,12 +23,12 @@ returns-clause-planned c =
       start = c.start_of.result.0;
       ticks = record { begins = c.start_of.ensures.start; in_time = rw (← last_is) c.if-last-gt-MOST_TICKS.false };
       told = c.in-Ok.played;
-      tells = tells_of c.args.setup.now c.machines-machines.result _ (c.max.result + c.from.result) c.args.source.now c.args.destination.now c.in-Ok.played c.machines-machines.ensures c.period.ensures.period last_is
+      tells = tells_of c.args.setup.now c.machines-machines.result _ (c.max.result + c.from.result) c.args.source.now c.args.destination.now c.in-Ok.played c.machines-machines.ensures.are c.period.ensures.period last_is
           (lawful_of c.machines-machines.result _ (c.max.result + c.from.result) c.args.source.now c.args.destination.now c.in-Ok.played c.machines-machines.result.are c.in-Ok.ensures)
           c.in-Ok.ensures;
       prints = c.in-Ok-print_all.ensures;
       source_log = written-log c.start_of.result.0 c.args.setup.now.period c.args.setup.now.source.interface c.args.setup.now.source.fd c.in-Ok.played.controls c.in-Ok-print_all.ensures.source_lines
-          (told-controls _ c.machines-machines.result _ _ c.args.source.now c.args.destination.now c.in-Ok.played (rw c.machines-machines.ensures.shape refl) c.in-Ok.ensures);
+          (told-controls _ c.machines-machines.result _ _ c.args.source.now c.args.destination.now c.in-Ok.played (rw c.machines-machines.ensures.are.shape c.machines-machines.ensures.source) c.in-Ok.ensures);
       log = written-log c.start_of.result.0 c.args.setup.now.period c.args.setup.now.destination.interface c.args.setup.now.destination.fd c.in-Ok.played.frames c.in-Ok-print_all.ensures.lines
-          (told-frames _ c.machines-machines.result _ _ c.args.source.now c.args.destination.now c.in-Ok.played (rw c.machines-machines.ensures.tx refl) c.in-Ok.ensures);
+          (told-frames _ c.machines-machines.result _ _ c.args.source.now c.args.destination.now c.in-Ok.played (rw c.machines-machines.ensures.are.tx c.machines-machines.ensures.destination) c.in-Ok.ensures);
     }

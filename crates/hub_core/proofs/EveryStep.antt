@@ -15,7 +15,7 @@ use Rattle.hub_core.specs.Joint.{IsOverflowIn}
 use Rattle.hub_core.specs.View.{View, Change, Taken, Freed, Refusal, Session, Event, grow, empty_view}
 use Rattle.hub_core.specs.View.{Took, Refused, Entered, Asked, Put, Published, Joining, Missed, Saw, Read, Closed, Parted}
 
--- an overflow of one of the groups
+-- an overflow of one of the groups, by the changes alone
 abbrev IsOverflowOf : List (List ℕ) → List Change → Refusal → Type 0
 IsOverflowOf groups changes r =
     (r.group < length groups) × IsOverflow (sizes_of groups r.group) (journal_of groups r.group changes) r
@@ -39,10 +39,6 @@ begins groups = record {
   };
 }
 
--- a party that leaves frees nothing itself
-no-more : (changes left : List Change) → left ≡ [] → changes ≡ changes ++ left
-no-more changes left none = sym (ap (λ l. changes ++ l) none ∙ append-nil changes)
-
 module _ (groups : List (List ℕ)) (v : View) (so : Lawful groups v) where
   -- the pool stays, and the parties go on
   goes : (w : View) → v.changes ≡ w.changes → v.refused ≡ w.refused → OwnedBy groups v w.held w.sessions → Goes v w →
@@ -54,30 +50,23 @@ module _ (groups : List (List ℕ)) (v : View) (so : Lawful groups v) where
     owned = rw (← changes) (goes-on groups v.changes (taken_by w.held w.sessions) v w on owned);
   }
 
-  -- after a call of a party
-  does : (event : Event) → MayDo v event → Lawful groups (after (Does event) v)
+  -- after a call of a party; where it leaves, it frees nothing itself
+  does : (event : Event) → MayDo v event → Goes v (after (Does event) v) → Lawful groups (after (Does event) v)
   unfolding grow
   does (Took group number buf size need) may = absurd may
   does (Refused group number free need) may = absurd may
   does (Entered path seq buf number size len readers) may =
       goes _ refl refl (entered groups v so.owned path buf number size len readers may.0)
-      (calls v so.streamed (Entered path seq buf number size len readers) may)
-  does (Asked path seq cells readers) may = goes _ refl refl
-      (changed groups v so.owned path seq _ (λ s. refl)) (calls v so.streamed (Asked path seq cells readers) may)
-  does (Put path seq cell) may = goes _ refl refl
-      (changed groups v so.owned path seq _ (λ s. refl)) (calls v so.streamed (Put path seq cell) may)
-  does (Published path seq bytes) may = goes _ refl refl
-      (changed groups v so.owned path seq _ (λ s. refl)) (calls v so.streamed (Published path seq bytes) may)
-  does (Joining path dest seq buf len) may =
-      goes _ refl refl so.owned (calls v so.streamed (Joining path dest seq buf len) may)
-  does (Missed group path dest seq) may = so
-  does (Saw path dest seq cells bytes writer) may =
-      goes _ refl refl so.owned (calls v so.streamed (Saw path dest seq cells bytes writer) may)
-  does (Read path dest seq cell) may = goes _ refl refl so.owned (calls v so.streamed (Read path dest seq cell) may)
-  does (Closed path seq left) may = goes _ (no-more v.changes left may.2) refl
-      (changed groups v so.owned path seq _ (λ s. refl)) (calls v so.streamed (Closed path seq left) may)
-  does (Parted path dest seq left) may =
-      goes _ (no-more v.changes left may.2) refl so.owned (calls v so.streamed (Parted path dest seq left) may)
+  does (Asked path seq cells readers) may = goes _ refl refl (changed groups v so.owned path seq _ (λ s. refl))
+  does (Put path seq cell) may = goes _ refl refl (changed groups v so.owned path seq _ (λ s. refl))
+  does (Published path seq bytes) may = goes _ refl refl (changed groups v so.owned path seq _ (λ s. refl))
+  does (Joining path dest seq buf len) may = goes _ refl refl so.owned
+  does (Missed group path dest seq) may = goes _ refl refl so.owned
+  does (Saw path dest seq cells bytes writer) may = goes _ refl refl so.owned
+  does (Read path dest seq cell) may = goes _ refl refl so.owned
+  does (Closed path seq left) may =
+      goes _ (rw may.2 (sym (append-nil v.changes))) refl (changed groups v so.owned path seq _ (λ s. refl))
+  does (Parted path dest seq left) may = goes _ (rw may.2 (sym (append-nil v.changes))) refl so.owned
 
   -- one more change comes to the pool
   overflows-stay : (c : Change) → All (IsOverflowOf groups (v.changes ++ c ∷ [])) v.refused
@@ -86,7 +75,7 @@ module _ (groups : List (List ℕ)) (v : View) (so : Lawful groups v) where
 
   steps-keep : (step : Step) → May groups v step → Lawful groups (after step v)
   unfolding grow
-  steps-keep (Does event) may = does event may
+  steps-keep (Does event) may = does event may (calls v so.streamed event may)
   steps-keep (Takes group number buf size need) may =
       let next : ComesNext groups v.changes (Taken number buf need) =
       record { number = rw may.its may.next; lawful = rw may.its may.smallest } in record {

@@ -1,18 +1,19 @@
--- Changes in the order of their numbers, and the free set that they lead to, as one more change comes.
-use Rattle.std.proofs.Common.{◌≡◌, ◌≢◌, ℕ, zero, suc, ◌+◌, ◌<◌, ◌≤◌, ◌⊎◌, inl, inr, List, [], ◌∷◌, ◌++◌, length, map}
+-- Changes in the order of their numbers, the free set that they lead to, and the free that follows a take, as one more
+-- change comes.
+use Rattle.std.proofs.Common.{◌≡◌, ℕ, zero, suc, ◌+◌, ◌<◌, ◌≤◌, ◌⊎◌, inl, inr, List, [], ◌∷◌, ◌++◌, length, map}
 use Rattle.std.proofs.Common.{Some, All, refl, ap, ◌∙◌, subst, arith, length-append}
 use Rattle.std.proofs.lemmas.Bool.{cases_lt}
 use Rattle.std.proofs.lemmas.Bool.Decides.{eqb_tells}
 use Rattle.std.proofs.lemmas.List.Folds.{find-append}
 use Rattle.std.proofs.lemmas.Option.{slice_get-get_or}
 use Rattle.std.specs.Prelude.{IsBitSet, ◌==◌, slice_get}
-use Rattle.gw_base.proofs.Lists.{same-some, there-at}
+use Rattle.gw_base.proofs.Lists.{there-at}
 use Rattle.hub_core.specs.Journal.{CountsFrom, AreInOrder, number_of, numbered, moved, replay, IsLawful, IsOverflow, changed_buf, ChangesBuf}
 use Rattle.hub_core.specs.View.{Change, Taken, Freed, Refusal}
 use Rattle.pool_words.proofs.Bits.{take-clears, take-leaves, free-leaves}
 
 -- a change is found by its number, and has it
-pub numbered-number : (changes : List Change) (n : ℕ) (d : Change) → numbered changes n ≡ Some d → number_of d ≡ n
+numbered-number : (changes : List Change) (n : ℕ) (d : Change) → numbered changes n ≡ Some d → number_of d ≡ n
 numbered-number [] n d is = absurd cc
 numbered-number (c ∷ changes) n d is = grind (arith, numbered-number changes n d)
 
@@ -21,7 +22,7 @@ pub numbered-old : (changes : List Change) (c : Change) (n : ℕ) (d : Change) �
     numbered changes n ≡ Some d → numbered (changes ++ c ∷ []) n ≡ Some d
 numbered-old changes c n d is = grind (arith, find-append (λ (x : Change). number_of x == n) changes (c ∷ []))
 
-pub numbered-back : (changes : List Change) (c : Change) (n : ℕ) (d : Change) →
+numbered-back : (changes : List Change) (c : Change) (n : ℕ) (d : Change) →
     numbered (changes ++ c ∷ []) n ≡ Some d → (numbered changes n ≡ Some d) ⊎ ((n ≡ number_of c) × (d ≡ c))
 numbered-back changes c n d is = grind (arith, find-append (λ (x : Change). number_of x == n) changes (c ∷ []))
 
@@ -108,12 +109,6 @@ overflow-pushed sizes changes c r order is =
     grind (arith, is.none_fits, length-append changes (c ∷ []), replay-old sizes changes c r.number order)
 
 -- a buffer whose last change is a take isn't free
-stays-clear : (sizes : List ℕ) (free buf : ℕ) (c : Change) → IsLawful sizes free c → changed_buf c ≢ buf →
-    (IsBitSet free buf → ⊥) → IsBitSet (moved (Some c) free) buf → ⊥
-stays-clear sizes free buf (Taken number other need) lawful ne clear set =
-    grind (arith, take-leaves free other buf lawful.fits.is_free)
-stays-clear sizes free buf (Freed number other) lawful ne clear set = grind (arith, free-leaves free other buf lawful.1)
-
 module _ (sizes : List ℕ) (changes : List Change) (number buf need : ℕ) (journal : Journal sizes changes)
     (is : numbered changes number ≡ Some (Taken number buf need))
     (last : (later : ℕ) → ChangesBuf changes buf later → later ≤ number) where
@@ -128,11 +123,11 @@ module _ (sizes : List ℕ) (changes : List Change) (number buf need : ℕ) (jou
       elim (cases_lt until number) [
         | inl here ↦
             let same : suc until ≡ number = omega arith in
-            let it : law.0 ≡ Taken number buf need = same-some there (ap (numbered changes) same ∙ is) in
-            take-clears free buf (rw it at law.2).fits.is_free (rw it at now)
+            grind (arith, same, is, there, law.2, now, take-clears free buf)
         | inr past ↦
             let other = λ (e : changed_buf law.0 ≡ buf). last (suc until) (law.0, there, e) in
-            stays-clear sizes free buf law.0 law.2 (grind (arith, other)) (clear-until until past (omega arith)) now
+            let before = clear-until until past (omega arith) in
+            grind (arith, other, before, law.2, now, take-leaves free, free-leaves free)
       ]
 
   pub taken-clear : IsBitSet (replay sizes changes (length changes)) buf → ⊥

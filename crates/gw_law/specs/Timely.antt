@@ -1,5 +1,5 @@
 -- When a destination's frames leave, and what they are: none leaves before its bytes came (ISO 15765-2, segmentation and reassembly).
-use Rattle.std.specs.Prelude.{◌≡◌, ◌⊎◌, ℕ, ◌+◌, ◌<◌, ◌≤◌, false, min, nat_le, nat_lt, sum_by, List, filter, length, map}
+use Rattle.std.specs.Prelude.{◌≡◌, ◌⊎◌, ℕ, ◌+◌, ◌-◌, ◌<◌, ◌≤◌, ◌==◌, if◌then◌else◌, false, min, nat_le, nat_lt, sum_by, List, [], ◌∷◌, filter, length, map}
 use Rattle.tp_receiver.specs.Table.{cells_of}
 use Rattle.tp_unit.specs.Box.{Written}
 use Rattle.std.specs.List.{AllByRecursion, AllZip, flat_map}
@@ -43,6 +43,11 @@ cells_of_all pieces = sum_by (λ (piece : Piece). cells_of (length piece.bytes))
 abbrev pub cells_below : ℕ → List Piece → ℕ
 cells_below tick pieces = cells_of_all (filter (λ (piece : Piece). nat_lt piece.at tick) pieces)
 
+-- of pieces the first ones, up to so many bytes
+abbrev pub first_pieces : (bytes : ℕ) → List Piece → List Piece
+first_pieces bytes [] = []
+first_pieces bytes (piece ∷ pieces) = if bytes == 0 then [] else piece ∷ first_pieces (bytes - length piece.bytes) pieces
+
 -- a destination's record begins by less than a window earlier than the record of the session that it names, and in windows of one
 -- tick no earlier
 abbrev pub BeginsAfter : (window : ℕ) → Delivery → DestRecord → Type 0
@@ -58,10 +63,10 @@ abbrev pub came_by : Route → Cut Seen → SessionRecord → ℕ → ℕ
 came_by r unit session tick = min (bytes_below (tick + r.window) (walk_of r.source.rx.a unit).pieces) session.bytes
 
 -- a transmission's first frame leaves in a tick only where in ticks below a window from that one on there came all of the source unit
--- that its record names or, unless whole units are stored, frames of it that fill as many cells as the threshold
+-- that its record names or, unless whole units are stored, frames of it that were put and fill as many cells as the threshold
 abbrev pub StartsInTime : Route → Cut Seen → DestRecord → Type 0
 StartsInTime r cut told = (unit : Cut Seen) (session : SessionRecord) → IsNamed (delivery_of_route r) told.seq unit session →
-    (session.len ≤ came_by r unit session cut.start.at) ⊎ ((r.leg.tx.store ≡ false) × (r.leg.tx.threshold ≤ cells_below (cut.start.at + r.window) (walk_of r.source.rx.a unit).pieces))
+    (session.len ≤ came_by r unit session cut.start.at) ⊎ ((r.leg.tx.store ≡ false) × (r.leg.tx.threshold ≤ cells_below (cut.start.at + r.window) (first_pieces session.bytes (walk_of r.source.rx.a unit).pieces)))
 
 -- the ticks of a transmission's counted frames
 abbrev pub counted_ticks : ℕ → Cut Seen → List ℕ

@@ -44,7 +44,7 @@ use Rattle.tp_unit.specs.declared.shape.Shape.{Shape}
 use Rattle.gw_law.specs.Account.{Route}
 use Rattle.gw_law.specs.Deeds.{before, own_view}
 use Rattle.gw_law.specs.Delivery.{Delivers, DeliveryLaw, IsNamed}
-use Rattle.gw_law.specs.Timely.{StartsInTime, bytes_below, cells_below, delivery_of_route}
+use Rattle.gw_law.specs.Timely.{StartsInTime, bytes_below, cells_below, delivery_of_route, first_pieces}
 use Rattle.gw_law.proofs.causes.HeldBytes.{Front, front-at}
 use Rattle.gw_law.proofs.causes.JointWaits.{len-named, named-once}
 use Rattle.gw_law.proofs.deliveries.Deliveries.{all-sent}
@@ -157,7 +157,7 @@ record HasShown (o : Whole) (told : DestRecord) (unit : Cut Seen) (session : Ses
   cells : ℕ
   bytes : ℕ
   enough : (bytes ≡ len) ⊎ ((o.pair.tx.set.store ≡ false) × (o.pair.tx.set.threshold ≤ cells))
-  cells_most : cells ≤ cells_below (tick + o.pair.most) (walk_of o.pair.rx.set.a unit).pieces
+  cells_most : cells ≤ cells_below (tick + o.pair.most) (first_pieces session.bytes (walk_of o.pair.rx.set.a unit).pieces)
   bytes_most : bytes ≤ bytes_below (tick + o.pair.most) (walk_of o.pair.rx.set.a unit).pieces
   bytes_told : bytes ≤ session.bytes
 
@@ -200,7 +200,7 @@ has-shown o told unit session tick idle named l =
     let timed = timed-front rx_cut.later (before bound rx.parts) (subst T (sym rx_cut.is) (rx-timed rx.full rx.parts o.pair.rx_run.parts_are)) in
     let early : AllByRecursion (TurnIn (λ (t : ℕ). t < bound)) turns = turns-in (λ (t : ℕ). t < bound) (before bound rx.parts) timed.1 rx_cut.early in
     let source = source_law_of rx.set (received o) o.far.received idle.rx in
-    let come : HasCome rx.set turns (tick + o.pair.most) named.opened.seq unit =
+    let come : HasCome rx.set turns (tick + o.pair.most) named.opened.seq session.bytes unit =
     has-come rx.set rx_later turns bound (tick + o.pair.most) named.place unit session named.opened (subst R (sym whole) o.far.received) (subst I (sym whole) idle.rx) (subst N (sym whole) source.sessions) early (omega (arith, b.near)) (subst U (sym whole) named.unit_is) (subst V (sym whole) named.session_is) named.opened_is (received-below o.pair bound) in
     let stored = stored_law_of rx.set (received o) o.far.received idle.rx in
     let puts : Puts rx.set.a (λ seq. bytes_of (put_in rx.set (received o) seq)) unit session = zip-pair (Puts rx.set.a (λ seq. bytes_of (put_in rx.set (received o) seq))) (attempts_in rx.set.functional (frames_came frames_in (received o))) (records_by (received o)) named.place unit session stored.puts named.unit_is named.session_is in

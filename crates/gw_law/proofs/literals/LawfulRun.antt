@@ -11,7 +11,7 @@ use Rattle.gw_law.specs.Examples.{lawful_run, leaves, long_session, sending, sen
 use Rattle.gw_law.specs.Lawful.{IsLawfulDest, IsLawfulRoute, Lawful}
 use Rattle.gw_law.specs.Plan.{Receiving, Sending}
 use Rattle.gw_law.specs.Delivery.{Names}
-use Rattle.gw_law.specs.Timely.{bytes_below, bytes_to, cells_below, delivery_of_route}
+use Rattle.gw_law.specs.Timely.{bytes_below, bytes_to, cells_below, delivery_of_route, first_pieces}
 use Rattle.tp_attempts.specs.Cuts.{Cut}
 use Rattle.tp_attempts.specs.Seen.{Seen}
 use Rattle.tp_attempts.specs.Walk.{walk_of}
@@ -105,7 +105,7 @@ short_route = record {
   each = refl;
   timely = record {
     begins = (λ unit session named. begin-of (short_session 2) session named.place 3 named.session_is (omega arith), tt);
-    starts = (λ unit session named. inr (refl, starts unit (alone _ _ named.place named.unit_is)), tt);
+    starts = (λ unit session named. inr (refl, starts-of session unit (alone _ _ named.place named.session_is) (alone _ _ named.place named.unit_is)), tt);
     timely = (λ unit session named tick. in-time tick unit (alone _ _ named.place named.unit_is), tt);
     own = (record { unit = SingleFrame (7 ∷ 8 ∷ 9 ∷ []); fits = refl; frame = refl; id = refl; fd = refl }, tt);
     counted = refl;
@@ -128,8 +128,11 @@ short_route = record {
       ticks = omega arith;
     }
 
-    starts : (unit : Cut Seen) → single ≡ unit → 1 ≤ cells_below 3 (walk_of 0 unit).pieces
-    starts unit same = subst (λ (u : Cut Seen). 1 ≤ cells_below 3 (walk_of 0 u).pieces) same (omega arith)
+    starts : (unit : Cut Seen) → single ≡ unit → 1 ≤ cells_below 3 (first_pieces 3 (walk_of 0 unit).pieces)
+    starts unit same = subst (λ (u : Cut Seen). 1 ≤ cells_below 3 (first_pieces 3 (walk_of 0 u).pieces)) same (omega arith)
+
+    starts-of : (session : SessionRecord) (unit : Cut Seen) → short_session 2 ≡ session → single ≡ unit → 1 ≤ cells_below 3 (first_pieces session.bytes (walk_of 0 unit).pieces)
+    starts-of session unit same is = subst (λ (s : SessionRecord). 1 ≤ cells_below 3 (first_pieces s.bytes (walk_of 0 unit).pieces)) same (starts unit is)
 
     in-time : (tick : ℕ) (unit : Cut Seen) → single ≡ unit → bytes_to tick (record { at = 0; bytes = 7 ∷ 8 ∷ 9 ∷ [] } ∷ []) ≤ bytes_below (tick + 3) (walk_of 0 unit).pieces
     in-time tick unit same = subst (λ (u : Cut Seen). bytes_to tick (record { at = 0; bytes = 7 ∷ 8 ∷ 9 ∷ [] } ∷ []) ≤ bytes_below (tick + 3) (walk_of 0 u).pieces) same

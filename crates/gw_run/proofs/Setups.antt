@@ -110,8 +110,8 @@ frame-size dl is = grind (arith, nat_tests)
 
 pub lawful_numbers : (c : Configuration) (setup : Setup) → IsLawful c → c.buffers ≡ setup.cells ∷ [] → setup.period ≡ c.period → setup.linger ≡ c.linger →
     IsLawfulChannel setup.receiver → IsLawfulChannel setup.sender → setup.source.out ≢ setup.destination.out →
-    FitsBus setup.source setup.receiver → FitsBus setup.destination setup.sender → HasLawfulNumbers setup
-lawful_numbers c setup lawful buffer period_is linger_is received sent apart received_fits sent_fits =
+    2 ≤ setup.source.budget → 2 ≤ setup.destination.budget → FitsBus setup.source setup.receiver → FitsBus setup.destination setup.sender → HasLawfulNumbers setup
+lawful_numbers c setup lawful buffer period_is linger_is received sent apart source_budget destination_budget received_fits sent_fits =
     let ticks = in-range 1 1_000_000 c.period lawful.period in
     let on = in-range 0 1_000_000 c.linger lawful.linger in
     let size = only-cells c.buffers setup.cells lawful.buffers buffer in
@@ -126,6 +126,8 @@ lawful_numbers c setup lawful buffer period_is linger_is received sent apart rec
       sender_tx = sent.tx;
       receiver_size = frame-size setup.receiver.dl received.dl;
       sender_size = frame-size setup.sender.dl sent.dl;
+      source_budget = source_budget;
+      destination_budget = destination_budget;
       receiver_fits = received_fits;
       sender_fits = sent_fits;
       n_ar = (in-range 1 1_000_000 setup.receiver.n_ar received.n_ar).0;

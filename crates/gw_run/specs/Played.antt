@@ -10,7 +10,6 @@ use Rattle.tp_unit.specs.Box.{Answer, Written}
 use Rattle.gw_run.specs.Frames.{address_of, answers_for, in_ticks, seen_for}
 use Rattle.gw_run.specs.Works.{IsSerialRun, RunTold, Work, told_by}
 use Rattle.gw_run.specs.declared.machines.Machines.{Machines}
-use Rattle.gw_run.specs.declared.machines.TheConstants.{BUDGET}
 
 -- what was sent on the two buses, and the report
 pub record Told : Type 0 where
@@ -33,7 +32,7 @@ sending_of m = record { set = m.tx; comes = address_of m.destination; bus = 1 }
 
 -- the run's plan: windows of one tick, and one group of one buffer
 abbrev pub plan_of : Machines → (last : ℕ) → Plan
-plan_of m last = record { receivers = receiving_of m ∷ []; senders = sending_of m ∷ []; budget = λ bus. BUDGET; groups = (m.cells ∷ []) ∷ []; window = 1; last = last }
+plan_of m last = record { receivers = receiving_of m ∷ []; senders = sending_of m ∷ []; budget = by_bus m.source_budget m.destination_budget 1; groups = (m.cells ∷ []) ∷ []; window = 1; last = last }
 
 -- what is told of the run: the frames of both logs, and what was sent and reported
 abbrev pub account_of : Machines → (start period last : ℕ) → (source destination : List Stamped) → Told → Account

@@ -13,13 +13,15 @@ use Rattle.gw_run.specs.declared.machines.Machines.{Machines}
 use Rattle.gw_law.specs.Channels.{bytes_of_address}
 use Rattle.gw_run.specs.declared.address.Address.{Address}
 
--- a bus of a run: its interface's name in its log, its files, whether it has CAN FD, and whether FD frames switch the bit rate there
+-- a bus of a run: its interface's name in its log, its files, whether it has CAN FD, whether FD frames switch the bit rate there, and
+-- the most frames that it sends in a tick
 pub record Bus : Type 0 where
   pub interface : List ℕ
   pub log : List ℕ
   pub out : List ℕ
   pub fd : Bool
   pub brs : Bool
+  pub budget : ℕ
 
 -- the names can stand for an interface and for files
 pub record IsBus (bus : Bus) : Type 0 where
@@ -63,6 +65,8 @@ pub record HasLawfulNumbers (setup : Setup) : Type 0 where
   pub sender_tx : id_fits setup.sender.tx ≡ true
   pub receiver_size : is_frame_size setup.receiver.dl ≡ true
   pub sender_size : is_frame_size setup.sender.dl ≡ true
+  pub source_budget : 2 ≤ setup.source.budget
+  pub destination_budget : 2 ≤ setup.destination.budget
   pub receiver_fits : FitsBus setup.source setup.receiver
   pub sender_fits : FitsBus setup.destination setup.sender
   pub n_ar : 1 ≤ setup.receiver.n_ar
@@ -74,11 +78,11 @@ pub record HasLawfulNumbers (setup : Setup) : Type 0 where
 
 -- what a run needs of a bus's keys
 abbrev pub bus_of : BusEntry → Bus
-bus_of keys = record { interface = keys.name; log = keys.log; out = keys.out; fd = keys.fd; brs = keys.brs }
+bus_of keys = record { interface = keys.name; log = keys.log; out = keys.out; fd = keys.fd; brs = keys.brs; budget = keys.budget }
 
--- a bus with the default budget
+-- a bus with a place in each tick for a flow control and a data frame of its one channel
 pub record IsBaseBus (bus : BusEntry) : Type 0 where
-  pub budget : bus.budget ≡ 8
+  pub budget : 2 ≤ bus.budget
 
 -- the path from the one channel to the other
 pub record IsBasePath (from to : List ℕ) (path : PathEntry) : Type 0 where
@@ -158,3 +162,5 @@ pub record AreMachinesOf (setup : Setup) (machines : Machines) : Type 0 where
   pub source : machines.source ≡ comes_to setup.receiver
   pub destination : machines.destination ≡ comes_to setup.sender
   pub cells : machines.cells ≡ setup.cells
+  pub source_budget : machines.source_budget ≡ setup.source.budget
+  pub destination_budget : machines.destination_budget ≡ setup.destination.budget

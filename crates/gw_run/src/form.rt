@@ -5,15 +5,17 @@ ghost use Rattle.gw_run.specs.Setup.{IsBaseBus, IsBasePath, IsBuiltConfig, HasBa
 ghost use Rattle.gw_run.specs.Setup.{Setup as SetupOfRun};
 
 use crate::files::are_same;
-use crate::machines::BUDGET;
 use crate::setup::{Setup, bus_of};
 use gw_config::{BusKeys, ChannelKeys, Config, Mode, PathKeys};
 
-/// Whether the bus has the default budget.
+/// The least budget of a bus: a flow control and a data frame of its one channel.
+const LEAST_BUDGET: u8 = 2;
+
+/// Whether the bus has a place in each tick for all that its channel may send.
 fn is_base_bus(bus: &BusKeys) -> bool
     ensures { MatchBool result (IsBaseBus bus.now) (¬ IsBaseBus bus.now) }
 {
-    bus.budget == BUDGET
+    bus.budget >= LEAST_BUDGET
 }
 
 /// Whether the channel is on the bus with that name.

@@ -33,6 +33,7 @@ pub(crate) struct Bus<'a> {
     out: &'a str,
     fd: bool,
     brs: bool,
+    budget: u8,
 }
 
 impl<'a> Model for Bus<'a> {
@@ -40,9 +41,9 @@ impl<'a> Model for Bus<'a> {
 
     ghost Value = { BusOfRun };
 
-    ghost view = { λ bus. record { interface = bus.interface.now; log = bus.log.now; out = bus.out.now; fd = bus.fd; brs = bus.brs } };
+    ghost view = { λ bus. record { interface = bus.interface.now; log = bus.log.now; out = bus.out.now; fd = bus.fd; brs = bus.brs; budget = bus.budget } };
 
-    ghost invariant = { λ bus. IsBus (record { interface = bus.interface.now; log = bus.log.now; out = bus.out.now; fd = bus.fd; brs = bus.brs }) };
+    ghost invariant = { λ bus. IsBus (record { interface = bus.interface.now; log = bus.log.now; out = bus.out.now; fd = bus.fd; brs = bus.brs; budget = bus.budget }) };
 }
 
 impl Bus<'_> {
@@ -113,6 +114,7 @@ pub(crate) fn bus_of(keys: &BusKeys) -> Bus<'_>
         out: text_of(keys.out.items()),
         fd: keys.fd,
         brs: keys.brs,
+        budget: keys.budget,
     }
 }
 
@@ -243,6 +245,8 @@ impl Setup<'_> {
             },
             source,
             destination: address_of(sender),
+            source_budget: self.source.budget,
+            destination_budget: self.destination.budget,
             cells: self.cells,
         }
     }

@@ -66,7 +66,7 @@ const REFUSED_CONFIGURATIONS: [ConfigurationRow; 9] = [
     (("", "window = 2\n"), "gw.report", 9, UNBUILT),
     (("", "mode = \"threads\"\n"), "gw.report", 9, UNBUILT),
     (
-        ("\"can1.out\"\n", "\"can1.out\"\nbudget = 9\n"),
+        ("\"can1.out\"\n", "\"can1.out\"\nbudget = 1\n"),
         "gw.report",
         9,
         UNBUILT,

@@ -40,5 +40,6 @@ invariant_of-result c =
     (lawful_numbers c.args.config.now _ (subst IsLawful c.config.view_is c.config.invariant) c.in-Some.ensures (ap (λ v. v.period) c.config.view_is) (ap (λ v. v.linger) c.config.view_is)
     (subst IsLawfulChannel c.receiver.view_is c.receiver.invariant) (subst IsLawfulChannel c.sender.view_is c.sender.invariant)
     (outs_apart c.args.config.now c.source-item.result c.destination-item.result (subst (λ v. repeated_in v ≡ None) c.config.view_is c.config.invariant.repeated) buses)
+    c.if-not-is_base_bus.ensures.budget c.if-not-is_base_bus-2.ensures.budget
     (fits-bus c.args.config.now 0 0 c.receiver-item.result c.source-item.result c.requires (ap (λ l. slice_get l 0) channels) (ap (λ l. slice_get l 0) buses) (c.if-not-is_on.ensures ∙ c.items-4.ensures ∙ ap (λ b. b.name) c.source.view_is) _ refl)
     (fits-bus c.args.config.now 1 1 c.sender-item.result c.destination-item.result c.requires (ap (λ l. slice_get l 1) channels) (ap (λ l. slice_get l 1) buses) (c.if-not-is_on-2.ensures ∙ c.items-5.ensures ∙ ap (λ b. b.name) c.destination.view_is) _ refl))

@@ -1,6 +1,5 @@
 -- When a destination's frames leave, and what they are: none leaves before its bytes came (ISO 15765-2, segmentation and reassembly).
-use Rattle.std.specs.Prelude.{◌≡◌, ◌⊎◌, ℕ, ◌+◌, ◌-◌, ◌<◌, ◌≤◌, ◌==◌, if◌then◌else◌, false, min, nat_le, nat_lt, sum_by, List, [], ◌∷◌, filter, length, map}
-use Rattle.tp_receiver.specs.Table.{cells_of}
+use Rattle.std.specs.Prelude.{◌≡◌, ◌⊎◌, ℕ, ◌+◌, ◌-◌, ◌<◌, ◌≤◌, ◌==◌, if◌then◌else◌, false, min, nat_le, nat_lt, List, [], ◌∷◌, filter, length, map}
 use Rattle.tp_unit.specs.Box.{Written}
 use Rattle.std.specs.List.{AllByRecursion, AllZip, flat_map}
 use Rattle.hub_core.specs.declared.record.DestRecord.{DestRecord}
@@ -10,6 +9,7 @@ use Rattle.tp_attempts.specs.Cuts.{Cut}
 use Rattle.tp_attempts.specs.Seen.{Seen}
 use Rattle.tp_attempts.specs.Walk.{Piece, joined, walk_of}
 use Rattle.tp_unit.specs.Shape.{address_size}
+use Rattle.receiver_law.specs.PutCells.{cells_of}
 use Rattle.gw_law.specs.Delivery.{Delivery, IsNamed}
 use Rattle.sender_law.specs.Channel.{IsOfChannel}
 use Rattle.sender_law.specs.Pacing.{controls_of}
@@ -36,12 +36,9 @@ bytes_to tick pieces = length (joined (filter (λ (piece : Piece). nat_le piece.
 abbrev pub bytes_below : ℕ → List Piece → ℕ
 bytes_below tick pieces = length (joined (filter (λ (piece : Piece). nat_lt piece.at tick) pieces))
 
--- the cells that pieces fill, each of its own with up to seven bytes, and those of earlier ticks
-abbrev pub cells_of_all : List Piece → ℕ
-cells_of_all pieces = sum_by (λ (piece : Piece). cells_of (length piece.bytes)) pieces
-
+-- the cells that the pieces of earlier ticks fill
 abbrev pub cells_below : ℕ → List Piece → ℕ
-cells_below tick pieces = cells_of_all (filter (λ (piece : Piece). nat_lt piece.at tick) pieces)
+cells_below tick pieces = cells_of (filter (λ (piece : Piece). nat_lt piece.at tick) pieces)
 
 -- of pieces the first ones, up to so many bytes
 abbrev pub first_pieces : (bytes : ℕ) → List Piece → List Piece

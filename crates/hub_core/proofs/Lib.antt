@@ -4,14 +4,14 @@ pub mod EveryStep
 mod Freeing
 pub mod Grouped
 pub mod GroupReads
-mod Kept
+pub mod Kept
 pub mod HubGroups
 mod Leaving
 mod Ledger
 mod Looks
 mod Merging
 mod Owning
-pub mod Places
+mod Places
 pub mod Pools
 mod Positions
 pub mod Quiet

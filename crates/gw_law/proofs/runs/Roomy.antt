@@ -1,6 +1,6 @@
 -- In each view of looks that count the room, a session's room is at most its buffer, and at least all of it but the cells that were put.
 use Rattle.std.proofs.Common.{◌≡◌, ℕ, ◌+◌, ◌-◌, ◌≤◌, false, Some, List, [], ◌∷◌, ◌++◌, length, inl, inr, refl, sym, ◌∙◌, subst, arith, length-append}
-use Rattle.hub_core.proofs.Places.{mapped, session-now, session-pushed}
+use Rattle.hub_core.proofs.Kept.{mapped, session-now, session-pushed}
 use Rattle.hub_core.specs.View.{Event, Session, View, at_one, change_at, grow, grows, session_at, session_new}
 use Rattle.hub_core.specs.View.{Took, Refused, Entered, Asked, Put, Published, Joining, Missed, Saw, Read, Closed, Parted}
 use Rattle.gw_law.proofs.runs.RoomKept.{IsRoomSeen, KeepRoom, KeepsAt}

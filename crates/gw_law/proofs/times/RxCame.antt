@@ -24,10 +24,11 @@ use Rattle.tp_attempts.specs.Seen.{Seen, is_start}
 use Rattle.tp_attempts.specs.Walk.{Piece, Walk, begun, due, due_number, is_open, joined, look, look_at, walk_of}
 use Rattle.tp_receiver.specs.Runs.{HasReceived, cell_in, cells_in, frames_in, put_in}
 use Rattle.tp_receiver.specs.State.{Came, FcLeft, RunEnd, RxEvent, RxTurn, Timer, rx_new}
-use Rattle.tp_receiver.specs.Table.{cells_of}
+use Rattle.flow_plan.specs.Cells.{cells_for}
 use Rattle.tp_receiver.specs.declared.set.RxSet.{RxSet}
 use Rattle.tp_unit.specs.Unit.{Meaning, SingleFrame, FirstFrame, ConsecutiveFrame, FlowControl, NoUnit}
-use Rattle.gw_law.specs.Timely.{bytes_below, cells_below, cells_of_all, first_pieces}
+use Rattle.receiver_law.specs.PutCells.{cells_of}
+use Rattle.gw_law.specs.Timely.{bytes_below, cells_below, first_pieces}
 use Rattle.gw_law.proofs.runs.Fronts.{More, TurnIn, received-more, seen-more}
 use Rattle.gw_law.proofs.times.Pieces.{After, CutFront, CutIn, Within, cut-front, cuts-in, pieces-in}
 use Rattle.gw_law.proofs.times.RxCells.{step-few}
@@ -101,16 +102,16 @@ more-event address functional frames place tick FcLeft = more-none address funct
 more-event address functional frames place tick RunEnd = more-none address functional frames place
 
 -- sums of pieces
-cells-append : (first more : List Piece) → cells_of_all (first ++ more) ≡ cells_of_all first + cells_of_all more
-cells-append first more = sum_by-append (λ (p : Piece). cells_of (length p.bytes)) first more
+cells-append : (first more : List Piece) → cells_of (first ++ more) ≡ cells_of first + cells_of more
+cells-append first more = sum_by-append (λ (p : Piece). cells_for (length p.bytes)) first more
 
 joined-append : (first more : List Piece) → length (joined (first ++ more)) ≡ length (joined first) + length (joined more)
 joined-append first more = ap length (flat_map-append (λ (p : Piece). p.bytes) first more) ∙ length-append (joined first) (joined more)
 
 -- so many bytes fill no more cells than a piece that has them
-fills : (more : List Piece) (bytes : ℕ) → length more ≤ 1 → bytes ≤ length (joined more) → cells_of bytes ≤ cells_of_all more
+fills : (more : List Piece) (bytes : ℕ) → length more ≤ 1 → bytes ≤ length (joined more) → cells_for bytes ≤ cells_of more
 fills [] bytes few le = omega (arith, le)
-fills (piece ∷ []) bytes few le = omega (arith, le, length-append piece.bytes [], sum_by-cons (λ (p : Piece). cells_of (length p.bytes)) piece [])
+fills (piece ∷ []) bytes few le = omega (arith, le, length-append piece.bytes [], sum_by-cons (λ (p : Piece). cells_for (length p.bytes)) piece [])
 fills (piece ∷ next ∷ more) bytes few le = absurd (omega (arith, few))
 
 -- the first pieces of more pieces
@@ -135,22 +136,22 @@ put-all bytes (piece ∷ first) later lt =
     ap (λ b. cond b [] (piece ∷ first_pieces (bytes - length piece.bytes) (first ++ later))) some ∙ ap (λ l. piece ∷ l) rest ∙ ap (λ n. piece ∷ (first ++ first_pieces n later)) left
 
 -- a turn adds no more cells than its frame's piece fills
-adds-cells : (was more : List Piece) (limit put adds cells more_cells : ℕ) → length more ≤ 1 → put ≡ length (joined was) → adds ≤ length (joined more) → put + adds ≤ limit → 0 < adds → cells ≤ cells_of_all (first_pieces limit was) → more_cells ≤ cells_of adds →
-    cells + more_cells ≤ cells_of_all (first_pieces limit (was ++ more))
+adds-cells : (was more : List Piece) (limit put adds cells more_cells : ℕ) → length more ≤ 1 → put ≡ length (joined was) → adds ≤ length (joined more) → put + adds ≤ limit → 0 < adds → cells ≤ cells_of (first_pieces limit was) → more_cells ≤ cells_for adds →
+    cells + more_cells ≤ cells_of (first_pieces limit (was ++ more))
 adds-cells was [] limit put adds cells more_cells one is fits within some few adds_few = absurd (omega (arith, fits, some))
 adds-cells was (piece ∷ []) limit put adds cells more_cells one is fits within some few adds_few =
     let all : first_pieces limit (was ++ piece ∷ []) ≡ was ++ first_pieces (limit - length (joined was)) (piece ∷ []) = put-all limit was (piece ∷ []) (omega (arith, is, within, some)) in
     let open_still : ((limit - length (joined was)) == 0) ≡ false = grind (arith, nat_tests, is, within, some) in
     let last : first_pieces (limit - length (joined was)) (piece ∷ []) ≡ piece ∷ [] = ap (λ b. cond b [] (piece ∷ [])) open_still in
     let old : first_pieces limit was ≡ was = ap (first_pieces limit) (sym (append-nil was)) ∙ put-all limit was [] (omega (arith, is, within, some)) ∙ append-nil was in
-    omega (arith, few, adds_few, ap cells_of_all old, ap cells_of_all (all ∙ ap (λ l. was ++ l) last), cells-append was (piece ∷ []), fills (piece ∷ []) adds (omega arith) fits)
+    omega (arith, few, adds_few, ap cells_of old, ap cells_of (all ∙ ap (λ l. was ++ l) last), cells-append was (piece ∷ []), fills (piece ∷ []) adds (omega arith) fits)
 adds-cells was (piece ∷ next ∷ more) limit put adds cells more_cells one is fits within some few adds_few = absurd (omega (arith, one))
 
 turn-cells : (was now : List Piece) (told_was told_now place limit put adds cells more_cells : ℕ) → OneMore was now → told_was ≤ told_now → IsPutSo told_was place limit put (length (joined was)) → IsPutSo told_now place limit (put + adds) (length (joined now)) → put + adds ≤ limit →
-    cells ≤ cells_of_all (first_pieces limit was) → more_cells ≤ cells_of adds → cells + more_cells ≤ cells_of_all (first_pieces limit now)
+    cells ≤ cells_of (first_pieces limit was) → more_cells ≤ cells_for adds → cells + more_cells ≤ cells_of (first_pieces limit now)
 turn-cells was now told_was told_now place limit put adds cells more_cells one later old new within few adds_few =
     let grown = put-append limit was one.more in
-    let sum : cells_of_all (first_pieces limit now) ≡ cells_of_all (first_pieces limit was) + cells_of_all grown.0 = ap (λ l. cells_of_all (first_pieces limit l)) one.is ∙ ap cells_of_all grown.1 ∙ cells-append (first_pieces limit was) grown.0 in
+    let sum : cells_of (first_pieces limit now) ≡ cells_of (first_pieces limit was) + cells_of grown.0 = ap (λ l. cells_of (first_pieces limit l)) one.is ∙ ap cells_of grown.1 ∙ cells-append (first_pieces limit was) grown.0 in
     let all : length (joined now) ≡ length (joined was) + length (joined one.more) = ap (λ l. length (joined l)) one.is ∙ joined-append was one.more in
     elim (cases_lt 0 adds) [
       | inr none ↦ omega (arith, sum, few, adds_few, none)
@@ -159,7 +160,7 @@ turn-cells was now told_was told_now place limit put adds cells more_cells one l
           | inl still ↦ absurd (omega (arith, some, told.1, still.1))
           | inr over ↦ absurd (omega (arith, told.0, later, over.0))
         ]
-        | inr going ↦ omega (arith, ap (λ l. cells_of_all (first_pieces limit l)) one.is, adds-cells was one.more limit put adds cells more_cells one.few going.1 (omega (arith, all, going.1, new.within)) within some few adds_few)
+        | inr going ↦ omega (arith, ap (λ l. cells_of (first_pieces limit l)) one.is, adds-cells was one.more limit put adds cells more_cells one.few going.1 (omega (arith, all, going.1, new.within)) within some few adds_few)
       ]
     ]
 
@@ -178,7 +179,7 @@ put-within set later front place session opened happened idle counts is opened_i
 
 -- after the turns of a front
 pub front-cells : (set : RxSet) (later front : List RxTurn) (place : ℕ) (session : SessionRecord) (opened : OpenedAt) → HasReceived set (later ++ front) → (state_after rx_new (later ++ front)).busy ≡ None → CountsFrom 0 (sessions_in (records_by (later ++ front))) →
-    slice_get (records_by (later ++ front)) place ≡ Some session → session.opened ≡ Some opened → HasReceived set front → length (put_in set front opened.seq) ≤ cells_of_all (first_pieces session.bytes (pieces_of set.a (slice_get (attempts_in set.functional (came_by frames_in front)) place)))
+    slice_get (records_by (later ++ front)) place ≡ Some session → session.opened ≡ Some opened → HasReceived set front → length (put_in set front opened.seq) ≤ cells_of (first_pieces session.bytes (pieces_of set.a (slice_get (attempts_in set.functional (came_by frames_in front)) place)))
 front-cells set later [] place session opened whole idle counts is opened_is happened = omega arith
 front-cells set later (turn ∷ front) place session opened whole idle counts is opened_is happened =
     let seq : ℕ = opened.seq in
@@ -309,7 +310,7 @@ has-come set later front bound high place unit session opened happened idle coun
     let are : IsFrontOf bound now pieces = front-pieces set.a bound place fronts unit ticks cut in
     let told = received-more later front in
     let put = put-so set later front place told.more session opened happened idle told.is counts session_is opened_is in
-    let cells : Piece → ℕ = λ p. cells_of (length p.bytes) in
+    let cells : Piece → ℕ = λ p. cells_for (length p.bytes) in
     let bytes : Piece → ℕ = λ p. length p.bytes in
     record {
       cells = omega (arith, front-cells set later front place session opened happened idle counts session_is opened_is past, front-sum cells bound high (first_pieces session.bytes now) (first_pieces session.bytes pieces) le (first-front bound session.bytes now pieces are));

@@ -14,10 +14,11 @@ use Rattle.hub_core.specs.declared.record.SessionResult.{SessionResult}
 use Rattle.hub_core.specs.declared.record.SessionResult.TheVariants.{Whole, Overflow, WrongSn, RxTimeout, Restarted, NoRoom, WaitOver, NoReaders, Cancelled, RunEnd as EndOfRun}
 use Rattle.receiver_law.proofs.sessions.Stores.{cells_in-others, cells_in-puts, store}
 use Rattle.tp_receiver.proofs.Through.{step-through}
-use Rattle.tp_receiver.specs.Effects.{Ends, Looks, Opens, Puts, Refuses, RxDone, RxEffect, RxStage, Waits, used_after}
+use Rattle.tp_receiver.specs.Effects.{Ends, Forgets, Looks, Opens, Puts, Refuses, RxDone, RxEffect, RxStage, Waits, used_after}
 use Rattle.tp_receiver.specs.Runs.{cell_in, cells_in}
 use Rattle.tp_receiver.specs.State.{RxDid, RxEvent, RxState}
-use Rattle.tp_receiver.specs.Table.{RxStep, cells_of, puts}
+use Rattle.flow_plan.specs.Cells.{cells_for}
+use Rattle.tp_receiver.specs.Table.{RxStep, puts}
 use Rattle.tp_receiver.specs.declared.set.RxSet.{RxSet}
 
 -- all cells but the last one are full
@@ -33,7 +34,7 @@ abbrev pub PutNone : (path : ℕ) → List Event → Type 0
 PutNone path calls = (seq : ℕ) → cells_in path seq calls ≡ []
 
 abbrev pub PutFew : (path : ℕ) → List Event → Type 0
-PutFew path calls = (seq : ℕ) → (length (cells_in path seq calls) ≤ cells_of (length (store path calls seq))) × (counted (cells_in path seq calls) ≤ length (store path calls seq))
+PutFew path calls = (seq : ℕ) → (length (cells_in path seq calls) ≤ cells_for (length (store path calls seq))) × (counted (cells_in path seq calls) ≤ length (store path calls seq))
 
 keeps-none : (path : ℕ) (calls more : List Event) → PutNone path more → PutNone path calls → PutNone path (calls ++ more)
 keeps-none path calls more none so seq = flat_map-append (cell_in path seq) calls more ∙ ap (λ l. l ++ cells_in path seq more) (so seq) ∙ none seq
@@ -41,12 +42,12 @@ keeps-none path calls more none so seq = flat_map-append (cell_in path seq) call
 keeps-few : (path : ℕ) (calls more : List Event) → PutNone path more → PutFew path calls → PutFew path (calls ++ more)
 keeps-few path calls more none so seq =
     let same : cells_in path seq (calls ++ more) ≡ cells_in path seq calls = flat_map-append (cell_in path seq) calls more ∙ ap (λ l. cells_in path seq calls ++ l) (none seq) ∙ append-nil (cells_in path seq calls) in
-    let F : List ℕ → Type 0 = λ cells. (length cells ≤ cells_of (length (bytes_of cells))) × (counted cells ≤ length (bytes_of cells)) in
+    let F : List ℕ → Type 0 = λ cells. (length cells ≤ cells_for (length (bytes_of cells))) × (counted cells ≤ length (bytes_of cells)) in
     subst F (sym same) (so seq)
 
 puts-few : (path at : ℕ) (cells bytes : List ℕ) (calls more : List Event) → PutNone path calls → ((number : ℕ) → cells_in path number more ≡ cells_in path number (puts path at cells)) → IsPacked bytes cells → PutFew path (calls ++ more)
 puts-few path at cells bytes calls more none are packed seq =
-    let F : List ℕ → Type 0 = λ l. (length l ≤ cells_of (length (bytes_of l))) × (counted l ≤ length (bytes_of l)) in
+    let F : List ℕ → Type 0 = λ l. (length l ≤ cells_for (length (bytes_of l))) × (counted l ≤ length (bytes_of l)) in
     let all : cells_in path seq (calls ++ more) ≡ cells_in path seq (puts path at cells) = flat_map-append (cell_in path seq) calls more ∙ ap (λ l. l ++ cells_in path seq more) (none seq) ∙ are seq in
     elim (cases_eq seq at) [
       | inl same ↦
@@ -79,6 +80,7 @@ puts-effect set event tick old done calls records (Opens e) so =
 puts-effect set event tick old done calls records (Looks e) so = rw (e.calls, e.new) ((λ is. keeps-none set.path.0 calls _ (λ seq. refl) (so.0 is)), keeps-few set.path.0 calls _ (λ seq. refl) so.1)
 puts-effect set event tick old done calls records (Puts e) so = rw (e.calls, e.new) ((λ is. cc), puts-few set.path.0 e.busy.opened.seq e.cells _ calls _ (so.0 e.of.unused) (λ number. refl) e.packed)
 puts-effect set event tick old done calls records (Waits e) so = rw (e.calls, e.new, append-nil) so
+puts-effect set event tick old done calls records (Forgets e) so = rw (e.calls, e.new, append-nil) so
 puts-effect set event tick old done calls records (Ends e) so =
     rw (e.calls, e.new) ((λ is. keeps-none set.path.0 calls _ (λ seq. refl) (so.0 (unused-before e.result old.used is))), keeps-few set.path.0 calls _ (λ seq. refl) so.1)
 

@@ -23,7 +23,7 @@ use Rattle.tp_attempts.specs.Cuts.{Cut}
 use Rattle.tp_attempts.specs.Seen.{Seen}
 use Rattle.tp_attempts.specs.Walk.{Piece, joined, reassembled, walk_of}
 use Rattle.tp_receiver.proofs.Through.{state-through}
-use Rattle.tp_receiver.specs.Effects.{Ends, Looks, Opens, Puts, Refuses, RxDone, RxEffect, RxStage, Waits}
+use Rattle.tp_receiver.specs.Effects.{Ends, Forgets, Looks, Opens, Puts, Refuses, RxDone, RxEffect, RxStage, Waits}
 use Rattle.tp_receiver.specs.Runs.{HasReceived, frames_in}
 use Rattle.tp_receiver.specs.State.{Reception, RxEvent, RxState, RxTurn, rx_new}
 use Rattle.tp_receiver.specs.declared.set.RxSet.{RxSet}
@@ -55,6 +55,7 @@ next-effect set event tick opened old done calls records (Puts e) (inl (busy, wa
     rw (e.new, e.records, append-nil) (inl (_, refl, ap (λ (b : Reception). b.opened) (same-busy old.state.busy e.busy busy e.was was) ∙ is, none))
 next-effect set event tick opened old done calls records (Waits e) (inl (busy, was, is, none)) =
     rw (e.new, e.records, append-nil) (inl (_, refl, ap (λ (b : Reception). b.opened) (same-busy old.state.busy e.busy busy e.was was) ∙ is, none))
+next-effect set event tick opened old done calls records (Forgets e) (inl (busy, was, is, none)) = absurd (let no : None ≡ Some busy = sym e.idle ∙ was in cc)
 next-effect set event tick opened old done calls records (Ends e) (inl (busy, was, is, none)) =
     rw (e.new, e.records, none) (inr (_, [], refl, ap (λ (b : Reception). Some b.opened) (same-busy old.state.busy e.busy busy e.was was) ∙ ap (λ o. Some o) is))
 

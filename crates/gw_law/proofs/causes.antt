@@ -2,8 +2,8 @@
 pub mod Held
 pub mod HeldBytes
 pub mod JointCauses
-mod JointEnds
-mod JointTicks
+pub mod JointEnds
+pub mod JointTicks
 pub mod JointWaits
 mod SizedPieces
 pub mod SoonOver

@@ -11,7 +11,8 @@ use Rattle.hub_core.specs.View.{Reading, View, reading_at}
 use Rattle.hub_core.specs.declared.record.DestRecord.{DestRecord}
 use Rattle.hub_core.specs.declared.record.OpenedAt.{OpenedAt}
 use Rattle.hub_core.specs.declared.record.SessionRecord.{SessionRecord}
-use Rattle.receiver_law.proofs.records.PutCells.{AllSee, TellsCells, cells-told}
+use Rattle.receiver_law.proofs.records.PutCells.{TellsCells}
+use Rattle.receiver_law.proofs.records.PutSteps.{AllSee, cells-told}
 use Rattle.receiver_law.proofs.records.SoFars.{IsIdle, IsOver}
 use Rattle.receiver_law.proofs.records.SourceLaws.{idle-of}
 use Rattle.receiver_law.proofs.runs.RxLaws.{ends-idle}

@@ -9,7 +9,8 @@ use Rattle.hub_core.specs.declared.record.SessionRecord.{SessionRecord}
 use Rattle.hub_core.specs.declared.record.SessionResult.TheVariants.{NoRoom}
 use Rattle.receiver_law.proofs.records.JointReceivers.{known-sessions}
 use Rattle.receiver_law.proofs.records.JointSessions.{IsLeft}
-use Rattle.receiver_law.proofs.records.PutCells.{AllSee, AreSeen, TellsCells, cells-told}
+use Rattle.receiver_law.proofs.records.PutCells.{AreSeen, TellsCells}
+use Rattle.receiver_law.proofs.records.PutSteps.{AllSee, cells-told}
 use Rattle.receiver_law.proofs.runs.RxLaws.{ends-idle, source_law_of_run}
 use Rattle.receiver_law.proofs.sessions.Sessions.{stored_in}
 use Rattle.receiver_law.specs.RxRun.{IsRxRun, RxRun, source_of, turns_in}

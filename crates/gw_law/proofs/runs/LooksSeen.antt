@@ -6,7 +6,7 @@ use Rattle.hub_core.proofs.Turns.{calls-append}
 use Rattle.hub_core.specs.Floors.{AreFresh, Floors, IsRoomFresh, staying}
 use Rattle.hub_core.specs.Turns.{calls_by}
 use Rattle.hub_core.specs.View.{Asked, Event, Session, View, empty_view, grows, session_at}
-use Rattle.receiver_law.proofs.records.PutCells.{AllSee, SeesIn}
+use Rattle.receiver_law.proofs.records.PutSteps.{AllSee, SeesIn}
 use Rattle.tp_receiver.specs.Table.{EndRow}
 use Rattle.tp_receiver.specs.State.{Reception, RxDid, RxState, RxTurn}
 use Rattle.tp_receiver.specs.declared.set.RxSet.{RxSet}

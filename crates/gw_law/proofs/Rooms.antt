@@ -9,10 +9,10 @@ use Rattle.hub_core.specs.declared.record.SessionRecord.{SessionRecord}
 use Rattle.hub_core.specs.declared.record.SessionResult.TheVariants.{NoRoom}
 use Rattle.receiver_law.proofs.records.JointReceivers.{known-sessions}
 use Rattle.receiver_law.proofs.records.JointSessions.{IsLeft}
-use Rattle.receiver_law.proofs.records.PutCells.{TellsCells, cells-told}
+use Rattle.receiver_law.proofs.records.PutCells.{AreSeen, TellsCells}
+use Rattle.receiver_law.proofs.records.PutSteps.{AllSee, cells-told}
 use Rattle.receiver_law.proofs.runs.RxLaws.{ends-idle, source_law_of_run}
 use Rattle.receiver_law.proofs.sessions.Sessions.{stored_in}
-use Rattle.receiver_law.specs.PutCells.{TakeCells}
 use Rattle.receiver_law.specs.RxRun.{IsRxRun, RxRun, source_of, turns_in}
 use Rattle.receiver_law.specs.Source.{SourceLaw, Tells, is_overflow}
 use Rattle.tp_attempts.specs.Attempts.{attempts_in}
@@ -34,9 +34,9 @@ some-of : {A : Type 0} (x : Option A) → is_some x ≡ true → (y : A) × (x �
 some-of None is = absurd cc
 some-of (Some y) is = (y, refl)
 
-module _ (a : Account) (d : Deeds) (windows : List Window) (v : View) (place : ℕ) (run : RxRun) (is : IsRun a d windows v) (there : slice_get d.receivers place ≡ Some run) (run_is : IsRxRun run) where
+module _ (a : Account) (d : Deeds) (windows : List Window) (v : View) (place : ℕ) (run : RxRun) (is : IsRun a d windows v) (there : slice_get d.receivers place ≡ Some run) (run_is : IsRxRun run) (Sees : (seq tick : ℕ) → Type 0) where
   -- a record of too little room
-  room-told : (k : ℕ) (attempt : Cut Seen) (told : SessionRecord) (room need : ℕ) → slice_get (records_by (turns_in run)) k ≡ Some told → Tells run.set.chan.0 run.set.a attempt told → TellsCells run.set (calls_by (turns_in run)) attempt told → told.result ≡ NoRoom room need →
+  room-told : (k : ℕ) (attempt : Cut Seen) (told : SessionRecord) (room need : ℕ) → slice_get (records_by (turns_in run)) k ≡ Some told → Tells run.set.chan.0 run.set.a attempt told → TellsCells Sees run.set (calls_by (turns_in run)) attempt told → told.result ≡ NoRoom room need →
       HasHadRoom a.plan.groups (walk_of run.set.a attempt).pieces told room
   room-told k attempt told room need at tells cells how =
       let turns : List RxTurn = turns_in run in
@@ -50,7 +50,7 @@ module _ (a : Account) (d : Deeds) (windows : List Window) (v : View) (place : �
       let same : left.session ≡ by.session = same-some left.there own in
       let room_is : by.session.room ≡ room = ap (λ (s : Session). s.room) (sym same) ∙ left.full room need how in
       let roomy : IsRoomy by.session = grows-roomy (calls_by turns) empty_view (room-kept a d windows v place run is there run_is) (λ q j s none. cc) path opened.0.seq by.session own in
-      let take : TakeCells (walk_of run.set.a attempt).pieces told.bytes _ = cells opened.0 opened.1 in
+      let take : AreSeen Sees opened.0.seq (walk_of run.set.a attempt).pieces told.bytes _ = cells opened.0 opened.1 in
       let taken : IsTaken a.plan.groups v by.session = is.joint.owned.taken path opened.0.seq by.session by.there in
       let H : ℕ → Type 0 = λ buf. HasCells a.plan.groups buf by.session.size in
       record {
@@ -64,11 +64,11 @@ module _ (a : Account) (d : Deeds) (windows : List Window) (v : View) (place : �
         least = omega (arith, roomy.least, room_is, take.least, ap length (stored_in run.set turns run_is.happened opened.0.seq by.session own));
       }
 
-  pub room-law : (budget : ℕ) → RoomLaw a.plan.groups (source_of budget run)
-  room-law budget =
+  pub room-law : (budget : ℕ) → AllSee Sees run.set (turns_in run) → RoomLaw a.plan.groups (source_of budget run)
+  room-law budget see =
       let turns : List RxTurn = turns_in run in
       let attempts : List (Cut Seen) = attempts_in run.set.functional (came_by frames_in turns) in
       let law : SourceLaw run.set.chan.0 run.set.a run.set.functional _ (records_by turns) = source_law_of_run run budget run_is in
-      zip-index (TellsCells run.set (calls_by turns)) (TellsRoom a.plan.groups run.set.a) attempts (records_by turns)
+      zip-index (TellsCells Sees run.set (calls_by turns)) (TellsRoom a.plan.groups run.set.a) attempts (records_by turns)
       (λ k attempt told here at cells room need how. room-told k attempt told room need at (zip-pair (Tells run.set.chan.0 run.set.a) attempts (records_by turns) k attempt told law.tells here at) cells how)
-      (cells-told run.set turns run_is.happened (ends-idle run run_is))
+      (cells-told Sees run.set turns run_is.happened (ends-idle run run_is) see)

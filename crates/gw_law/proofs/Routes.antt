@@ -91,11 +91,11 @@ route-law c b e =
       };
     }
 
-same-path : (one other : PathNo) → one.0 ≡ other.0 → one ≡ other
+pub same-path : (one other : PathNo) → one.0 ≡ other.0 → one ≡ other
 same-path one other is = ap (λ (n : ℕ). record { 0 = n }) is
 
 -- a receiver and a sender of its path in a run
-crossing : (a : Account) (d : Deeds) (windows : List Window) (v : View) (place other : ℕ) (r : Receiving) (s : Sending) (rx : RxRun) (tx : TxRun) → IsRun a d windows v → slice_get d.receivers place ≡ Some rx → slice_get d.senders other ≡ Some tx →
+unfoldable pub crossing : (a : Account) (d : Deeds) (windows : List Window) (v : View) (place other : ℕ) (r : Receiving) (s : Sending) (rx : RxRun) (tx : TxRun) → IsRun a d windows v → slice_get d.receivers place ≡ Some rx → slice_get d.senders other ≡ Some tx →
     IsReceiverRun a r rx → IsSenderRun a s tx → slice_get a.plan.senders other ≡ Some s → s.set.path.0 ≡ r.set.path.0 → Crossing
 crossing a d windows v place other r s rx tx is rx_there tx_there rx_is tx_is s_there path =
     let rx_set : rx.set ≡ r.set = ap (λ (c : SourceChannel). c.rx) rx_is.tells in

@@ -32,6 +32,7 @@ use Rattle.gw_law.specs.Plan.{IsLawfulReceiving, Receiving}
 use Rattle.gw_law.specs.Records.{IsOfSource, SessionRecords}
 use Rattle.gw_law.specs.Rooms.{RoomLaw}
 use Rattle.gw_law.specs.Run.{IsReceiverRun, IsRun}
+use Rattle.gw_law.proofs.Readers.{Sees, all-see, reader-law}
 use Rattle.gw_law.proofs.Rooms.{room-law}
 use Rattle.gw_law.proofs.runs.Fronts.{TurnIn}
 use Rattle.gw_law.proofs.runs.Moments.{rx-within}
@@ -64,8 +65,8 @@ emission-of run budget is =
     }
 
 -- what is proved of what the run tells is proved of what is told of the channel
-source-of : (a : Account) (d : Deeds) (windows : List Window) (v : View) (place : ℕ) (r : Receiving) (run : RxRun) → IsRun a d windows v → slice_get d.receivers place ≡ Some run → IsLawfulReceiving a.plan r → IsReceiverRun a r run → IsLawfulSource a r
-source-of a d windows v place r run whole there plan is =
+source-of : (a : Account) (d : Deeds) (windows : List Window) (v : View) (place : ℕ) (r : Receiving) (run : RxRun) → IsRun a d windows v → slice_get a.plan.receivers place ≡ Some r → slice_get d.receivers place ≡ Some run → IsLawfulReceiving a.plan r → IsReceiverRun a r run → IsLawfulSource a r
+source-of a d windows v place r run whole here there plan is =
     let b : ℕ = a.plan.budget r.bus in
     let set : run.set ≡ r.set = ap (λ (c : SourceChannel). c.rx) is.tells in
     let full : ℕ → Bool = is_full_at a r in
@@ -79,11 +80,12 @@ source-of a d windows v place r run whole there plan is =
       records = subst SessionRecords is.tells (records-of run b is.run_is);
       emission = subst ControlEmission is.tells (emission-of run b is.run_is);
       receptions = subst (ReceptionLaw full) is.tells (law-fuller run.full full is.full (source_of b run) (reception_law_of run b is.run_is limits (looks-of a d windows v place run whole there is.run_is)));
-      rooms = subst (RoomLaw a.plan.groups) is.tells (room-law a d windows v place run whole there is.run_is b);
+      rooms = subst (RoomLaw a.plan.groups) is.tells (room-law a d windows v place run whole there is.run_is (Sees a d windows v place r run whole here there is) b (all-see a d windows v place r run whole here there is));
+      readers = reader-law a d windows v place r run whole here there is;
     }
 
 pub all-sources : (a : Account) (d : Deeds) (windows : List Window) (v : View) → IsRun a d windows v → AllByRecursion (IsLawfulSource a) a.plan.receivers
 all-sources a d windows v is =
     all-items (IsLawfulSource a) a.plan.receivers (λ place r here.
     let run = zip-at (IsReceiverRun a) a.plan.receivers d.receivers place r is.receivers here in
-    source-of a d windows v place r run.0 is run.1 (all-at (IsLawfulReceiving a.plan) a.plan.receivers place r is.plan.receivers here) run.2)
+    source-of a d windows v place r run.0 is here run.1 (all-at (IsLawfulReceiving a.plan) a.plan.receivers place r is.plan.receivers here) run.2)

@@ -3,8 +3,8 @@ pub mod FirstFrames
 pub mod Held
 pub mod HeldBytes
 pub mod JointCauses
-mod JointEnds
-mod JointTicks
+pub mod JointEnds
+pub mod JointTicks
 pub mod JointWaits
 mod OrderedPieces
 mod SizedPieces

@@ -8,5 +8,6 @@ pub mod Openings
 pub mod OwnCalls
 pub mod PartCalls
 pub mod Parts
+pub mod LooksSeen
 pub mod RoomKept
 pub mod Roomy

@@ -4,7 +4,7 @@ use Rattle.std.specs.Prelude.{ℕ, zero, suc, true, false, Some, None, List, [],
 use Rattle.can_frame.specs.Frame.{CanFrame}
 use Rattle.can_frame.specs.declared.id.CanId.TheVariants.{Std}
 use Rattle.hub_core.specs.declared.record.DestRecord.{DestRecord}
-use Rattle.hub_core.specs.declared.record.DestResult.TheVariants.{Sent, SourceEnded, RunEnd as DestRunEnd}
+use Rattle.hub_core.specs.declared.record.DestResult.TheVariants.{FcOverflow, Sent, SourceEnded, RunEnd as DestRunEnd}
 use Rattle.hub_core.specs.declared.record.Move.{Move}
 use Rattle.hub_core.specs.declared.record.RxWait.TheVariants.{Cf}
 use Rattle.hub_core.specs.declared.record.SessionRecord.{SessionRecord}
@@ -263,6 +263,30 @@ full_after_one_cell = record lawful_run {
   dests = record unsent { end = record { 0 = 0 }; result = SourceEnded } ∷ sent_on 1 ∷ [];
 }
 
+-- the destination of the long message, which sends from one cell on, ends in tick 1 by a flow control that refuses it
+abbrev pub refused_at_once : DestRecord
+refused_at_once = record unsent { sent = 6; end = record { 0 = 1 }; result = FcOverflow }
+
+abbrev pub came_late : ℕ → List InTick
+came_late zero = comes 0 0x700 first_frame ∷ comes 4 0x700 (0x21 ∷ 7 ∷ 8 ∷ 9 ∷ 10 ∷ []) ∷ []
+came_late (suc zero) = comes 1 0x718 (0x32 ∷ 0 ∷ 0 ∷ []) ∷ comes 2 0x500 single_frame ∷ []
+came_late (suc (suc bus)) = []
+
+abbrev pub left_both : ℕ → List Written
+left_both zero = single_then_control 0x600 single_frame
+left_both (suc zero) = leaves 0 0x710 first_frame ∷ []
+left_both (suc (suc bus)) = []
+
+-- and its consecutive frame is put in tick 4, when another window has begun
+abbrev pub put_for_none : Account
+put_for_none = record lawful_run {
+  plan = record (two_paths 0x600) { senders = sending 0 0x710 0x718 1 1 ∷ sending 1 0x600 0x608 1 0 ∷ [] };
+  came = came_late;
+  left = left_both;
+  sessions = record long_session { bytes = 10; result = Whole } ∷ short_session 2 ∷ [];
+  dests = refused_at_once ∷ sent_on 1 ∷ [];
+}
+
 -- both sessions take one buffer
 abbrev pub two_takes_of_one_buffer : Account
 two_takes_of_one_buffer = record lawful_run { moves = takes 1 0 ∷ takes 2 0 ∷ frees 3 0 ∷ frees 4 0 ∷ [] }
@@ -314,6 +338,8 @@ pub record NeighboursAreUnlawful : Type 0 where
   pub awaited_too_early : Lawful awaited_too_early → ⊥
   -- (RoomLaw)
   pub full_after_one_cell : Lawful full_after_one_cell → ⊥
+  -- (ReaderLaw)
+  pub put_for_none : Lawful put_for_none → ⊥
   -- (SessionRecords)
   pub session_after_the_end : Lawful session_after_the_end → ⊥
   -- (JointCauses)

@@ -11,6 +11,7 @@ use Rattle.gw_law.specs.Emission.{BusLaw, ControlEmission, NoOthers, WrittenLaw}
 use Rattle.gw_law.specs.JointCauses.{JointCauses}
 use Rattle.gw_law.specs.Plan.{Receiving, Sending}
 use Rattle.gw_law.specs.PoolOfAccount.{PoolOf}
+use Rattle.gw_law.specs.Readers.{ReaderLaw}
 use Rattle.gw_law.specs.Records.{SessionRecords}
 use Rattle.gw_law.specs.Rooms.{RoomLaw}
 use Rattle.gw_law.specs.Timely.{TimelyLaw, delivery_of_route}
@@ -36,6 +37,8 @@ pub record IsLawfulSource (a : Account) (r : Receiving) : Type 0 where
   pub receptions : ReceptionLaw (is_full_at a r) (source_in a r)
   -- a record that tells of too little room tells what room its buffer had, by what was put there
   pub rooms : RoomLaw a.plan.groups (source_in a r)
+  -- its consecutive frames are put while a destination of the path reads
+  pub readers : ReaderLaw a (source_in a r)
 
 -- a destination of a path, over the flow controls that came to its channel, the data frames that left, and its records
 pub record IsLawfulDest (a : Account) (s : Sending) : Type 0 where

@@ -10,6 +10,7 @@ pub mod Laws
 pub mod Plan
 pub mod Pool
 pub mod PoolOfAccount
+pub mod Readers
 pub mod Records
 pub mod Rooms
 pub mod Run

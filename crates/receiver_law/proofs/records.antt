@@ -2,6 +2,8 @@
 pub mod JointReceivers
 pub mod JointSessions
 pub mod PutCells
+pub mod PutLooks
+pub mod PutSteps
 pub mod SoFarSteps
 pub mod SoFars
 pub mod SourceLaws

@@ -199,7 +199,7 @@ all-short o r known =
     all-by (λ (told : DestRecord). IsShortBy r told told.result) r.leg.dests (λ k told is. short-by o r k told told.result known (ap (λ l. slice_get l k) (sym known.dests) ∙ is) refl)
 
 -- a record stands in the place of its session's number
-numbered-at : (first : ℕ) (records : List DestRecord) (p : ℕ) (told : DestRecord) → NumberedFrom first records → slice_get records p ≡ Some told → told.seq ≡ first + p
+pub numbered-at : (first : ℕ) (records : List DestRecord) (p : ℕ) (told : DestRecord) → NumberedFrom first records → slice_get records p ≡ Some told → told.seq ≡ first + p
 numbered-at first [] p told numbered is = cc
 numbered-at first (one ∷ records) zero told numbered is = let same : one ≡ told = cc in omega (arith, ap (λ (t : DestRecord). t.seq) (sym same), numbered.0)
 numbered-at first (one ∷ records) (suc p) told numbered is = omega (arith, numbered-at (first + 1) records p told numbered.1 is)

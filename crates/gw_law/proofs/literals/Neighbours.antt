@@ -1,6 +1,6 @@
 -- Each neighbour of the lawful run breaks a law.
 use Rattle.std.proofs.Common.{◌≡◌, ℕ, zero, suc, ◌<◌, ◌≤◌, Bool, true, false, List, [], ◌∷◌, ◌++◌, length, Option, Some, None, inl, inr, true≢false, refl, ap, sym, ◌∙◌, subst, arith, append-nil}
-use Rattle.std.specs.Prelude.{take, ◌&&◌, map, reverse}
+use Rattle.std.specs.Prelude.{drop, slice_get, take, ◌&&◌, map, reverse}
 use Rattle.gw_base.specs.declared.numbers.PathNo.{PathNo}
 use Rattle.hub_core.specs.declared.record.DestRecord.{DestRecord}
 use Rattle.hub_core.specs.declared.record.Move.{Move}
@@ -14,10 +14,11 @@ use Rattle.hub_core.specs.declared.record.RxWait.TheVariants.{Cf}
 use Rattle.hub_core.specs.declared.record.SessionRecord.{SessionRecord}
 use Rattle.hub_core.specs.declared.record.SessionResult.{SessionResult}
 use Rattle.hub_core.specs.declared.record.SessionResult.TheVariants.{RunEnd}
-use Rattle.std.specs.List.{AllZip}
+use Rattle.std.specs.List.{AllByRecursion, AllZip}
 use Rattle.std.proofs.lemmas.List.{length-map, length-reverse}
 use Rattle.tp_attempts.specs.Cuts.{Cut}
-use Rattle.gw_law.specs.Account.{source_in}
+use Rattle.gw_law.specs.Account.{dest_in, source_in}
+use Rattle.gw_law.specs.Readers.{IsReadIn}
 use Rattle.gw_law.specs.Rooms.{HasCells}
 use Rattle.hub_core.specs.declared.record.OpenedAt.{OpenedAt}
 use Rattle.receiver_law.specs.PutCells.{cells_of}
@@ -30,7 +31,7 @@ use Rattle.tp_attempts.specs.Seen.{Seen, is_data}
 use Rattle.gw_law.proofs.literals.Items.{alone}
 use Rattle.gw_law.specs.Channels.{address_in, is_addressed, is_control}
 use Rattle.gw_law.specs.Emission.{IsControlOn, IsDataOn, IsOfSending}
-use Rattle.gw_law.specs.Examples.{NeighboursAreUnlawful, awaited_too_early, full_after_one_cell, buffer_of_another_group, changed_byte, frame_of_no_channel, leaves, control_frame, long_session, lower_priority_first, no_such_destination, read_to_the_end, receiving, sent_before_it_came, sent_below_the_threshold, sent_on, single_frame, short_session, sending, source_ended_late, takes, two_takes_of_one_buffer, unsent}
+use Rattle.gw_law.specs.Examples.{NeighboursAreUnlawful, awaited_too_early, full_after_one_cell, buffer_of_another_group, changed_byte, frame_of_no_channel, leaves, control_frame, long_session, lower_priority_first, no_such_destination, put_for_none, read_to_the_end, refused_at_once, receiving, sent_before_it_came, sent_below_the_threshold, sent_on, single_frame, short_session, sending, source_ended_late, takes, two_takes_of_one_buffer, unsent}
 use Rattle.gw_law.specs.JointCauses.{IsOwnEnd}
 use Rattle.gw_law.specs.Lawful.{Lawful, is_full_at}
 use Rattle.gw_law.specs.Plan.{Receiving, Sending}
@@ -158,6 +159,35 @@ not-full law =
     let cells : 2 ≡ had.size = cc in
     omega (arith, cells, had.least, first-put had.put had.are_put.rest had.are_put.are had.are_put.sum)
 
+-- the destination that would read in tick 4 ended in tick 1
+not-read : IsReadIn put_for_none 0 0 4 → ⊥
+not-read reads = by reads.other reads.there
+  where
+    by : (other : ℕ) → slice_get put_for_none.plan.senders other ≡ Some reads.sending → ⊥
+    by zero there =
+        let same : sending 0 0x710 0x718 1 1 ≡ reads.sending = cc in
+        let told : Some refused_at_once ≡ Some reads.told = subst (λ (s : Sending). slice_get (dest_in put_for_none s).dests 0 ≡ Some reads.told) (sym same) reads.told_is in
+        let one : refused_at_once ≡ reads.told = cc in
+        omega (arith, reads.later, ap (λ (t : DestRecord). t.end.0) one)
+    by (suc zero) there = let same : sending 1 0x600 0x608 1 0 ≡ reads.sending = cc in omega (arith, ap (λ (s : Sending). s.set.path.0) same, reads.path_is)
+    by (suc (suc other)) there = absurd (let none : None ≡ Some reads.sending = there in cc)
+
+second-put : (put rest : List Piece) → record { at = 0; bytes = 1 ∷ 2 ∷ 3 ∷ 4 ∷ 5 ∷ 6 ∷ [] } ∷ record { at = 4; bytes = 7 ∷ 8 ∷ 9 ∷ 10 ∷ [] } ∷ [] ≡ put ++ rest → 10 ≡ length (joined put) → AllByRecursion (λ (p : Piece). IsReadIn put_for_none 0 0 p.at) (drop 1 put) → ⊥
+second-put [] rest are sum read = omega (arith, sum)
+second-put (first ∷ []) rest are sum read =
+    let same : record { at = 0; bytes = 1 ∷ 2 ∷ 3 ∷ 4 ∷ 5 ∷ 6 ∷ [] } ≡ first = cc in
+    let six : 10 ≡ 6 = subst (λ (p : Piece). 10 ≡ length (joined (p ∷ []))) (sym same) sum in
+    omega (arith, six)
+second-put (first ∷ second ∷ put) rest are sum read =
+    let same : record { at = 4; bytes = 7 ∷ 8 ∷ 9 ∷ 10 ∷ [] } ≡ second = cc in
+    not-read (subst (λ (p : Piece). IsReadIn put_for_none 0 0 p.at) (sym same) read.0)
+
+no-reader : Lawful put_for_none → ⊥
+unfolding unit_in
+no-reader law =
+    let told = law.sources.0.readers.0 _ refl in
+    second-put told.put told.are_put.rest told.are_put.are told.are_put.sum told.read
+
 -- the destination that doesn't read ended with the run
 still-reads : Lawful read_to_the_end → ⊥
 unfolding unit_in
@@ -208,6 +238,7 @@ neighbours = record {
   wrong_length = λ law. let len : 11 ≡ 10 = law.sources.0.source.tells.0.len in omega (arith, len);
   awaited_too_early = not-awaited;
   full_after_one_cell = not-full;
+  put_for_none = no-reader;
   session_after_the_end = λ law. let end : 5 ≤ 4 = law.sources.0.records.own.0.end in omega (arith, end);
   read_to_the_end = still-reads;
   source_ended_late = seen-late;

@@ -154,6 +154,7 @@ long_lawful = record {
   emission = long_emission;
   receptions = long_receptions;
   rooms = ((λ room need is. cc), tt);
+  readers = ((λ opened is. record { put = record { at = 0; bytes = 1 ∷ 2 ∷ 3 ∷ 4 ∷ 5 ∷ 6 ∷ [] } ∷ []; are_put = record { rest = []; are = refl; sum = refl }; read = tt }), tt);
 }
 
 pub short_lawful : IsLawfulSource lawful_run short_receiving
@@ -164,4 +165,5 @@ short_lawful = record {
   emission = record { order = tt; once = λ tick. omega arith; end = tt; are_controls = tt };
   receptions = short_receptions;
   rooms = ((λ room need is. cc), tt);
+  readers = ((λ opened is. record { put = record { at = 2; bytes = 7 ∷ 8 ∷ 9 ∷ [] } ∷ []; are_put = record { rest = []; are = refl; sum = refl }; read = tt }), tt);
 }

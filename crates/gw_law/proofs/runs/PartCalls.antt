@@ -1,5 +1,5 @@
 -- The calls that a machine makes in a part of its run are no older than what stood before the window in which the part lies.
-use Rattle.std.proofs.Common.{◌≡◌, ℕ, ◌<◌, ◌≤◌, Some, List, [], ◌∷◌, ◌++◌, zero, suc, ap, sym, ◌∙◌, subst, append_assoc}
+use Rattle.std.proofs.Common.{◌≡◌, ℕ, ◌<◌, ◌≤◌, arith, Some, List, [], ◌∷◌, ◌++◌, zero, suc, ap, sym, ◌∙◌, subst, append_assoc}
 use Rattle.std.specs.Prelude.{slice_get}
 use Rattle.std.proofs.lemmas.List.{append_cancel_left}
 use Rattle.hub_core.proofs.Growing.{grows-append}
@@ -7,12 +7,13 @@ use Rattle.hub_core.proofs.Turns.{calls-append}
 use Rattle.hub_core.specs.Floors.{AreFresh, Floors}
 use Rattle.hub_core.specs.Turns.{Part, Turn, calls_by, turns_of}
 use Rattle.hub_core.specs.View.{Event, View, empty_view, grow, grows}
-use Rattle.gw_law.specs.Deeds.{AreWindows, Deeds, IsWindow, Window, before, own_view, view_at}
+use Rattle.gw_law.specs.Deeds.{AreWindows, Deeds, IsWindow, LiesIn, Window, before, over_at, own_view, view_at}
+use Rattle.gw_law.proofs.runs.Barriers.{lies-earlier}
 use Rattle.gw_law.proofs.runs.Before.{AreRising, front-of, turns-append}
 use Rattle.gw_law.proofs.runs.Openings.{before-past, stands-before}
 
 -- of fresh calls the first ones are fresh, and so are the ones after them
-fresh-split : (f : Floors) (v : View) (calls more : List Event) → AreFresh f v (calls ++ more) → AreFresh f v calls × AreFresh f (grows calls v) more
+pub fresh-split : (f : Floors) (v : View) (calls more : List Event) → AreFresh f v (calls ++ more) → AreFresh f v calls × AreFresh f (grows calls v) more
 fresh-split f v [] more fresh = (tt, fresh)
 fresh-split f v (call ∷ calls) more fresh = let so = fresh-split f (grow call v) calls more fresh.1 in ((fresh.0, so.0), so.1)
 
@@ -41,11 +42,28 @@ part-calls {E = E} {A = A} {R = R} {S = S} f from to parts later part earlier ca
     let view : own_view (calls_by (turns_of earlier)) ≡ grows mid (own_view (calls_by first)) = ap (λ l. own_view (calls_by l)) old ∙ ap own_view (calls-append (turns_of front.0) first) ∙ grows-append (calls_by first) mid empty_view in
     subst V (sym view) (fresh-split f (grows mid (own_view (calls_by first))) (calls_by part.turns) last (fresh-split f (own_view (calls_by first)) mid (calls_by part.turns ++ last) (subst F same fresh)).1).0
 
--- a window is one after the windows before it
-pub window-at : (groups : List (List ℕ)) (most : ℕ) (d : Deeds) (windows : List Window) (place : ℕ) (w : Window) → AreWindows groups most d windows → slice_get windows place ≡ Some w → (opening : View) × IsWindow groups most d opening w
-window-at groups most d [] place w are there = absurd cc
-window-at groups most d (first ∷ earlier) zero w are there =
+-- the windows before one of some windows
+pub record BeforeIt (groups : List (List ℕ)) (most : ℕ) (d : Deeds) (windows : List Window) (w : Window) : Type 0 where
+  pub earlier : List Window
+  pub is : IsWindow groups most d (view_at earlier) w
+  pub over : over_at earlier ≤ w.from
+  pub are : AreWindows groups most d earlier
+  pub lies : (at : ℕ) → at < w.from → LiesIn windows at → LiesIn earlier at
+  pub to : w.to ≤ over_at windows
+
+pub window-by : (groups : List (List ℕ)) (most : ℕ) (d : Deeds) (windows : List Window) (place : ℕ) (w : Window) → AreWindows groups most d windows → slice_get windows place ≡ Some w → BeforeIt groups most d windows w
+window-by groups most d [] place w are there = absurd cc
+window-by groups most d (first ∷ earlier) zero w are there =
     let same : first ≡ w = cc in
-    let P : Window → Type 0 = λ x. IsWindow groups most d (view_at earlier) x in
-    (view_at earlier, subst P same are.0)
-window-at groups most d (first ∷ earlier) (suc place) w are there = window-at groups most d earlier place w are.2 there
+    let P : Window → Type 0 = λ x. BeforeIt groups most d (first ∷ earlier) x in
+    subst P same (record { earlier = earlier; is = are.0; over = are.1; are = are.2; lies = λ at below lies. lies-earlier first earlier at below lies; to = omega arith })
+window-by groups most d (first ∷ rest) (suc place) w are there =
+    let so : BeforeIt groups most d rest w = window-by groups most d rest place w are.2 there in
+    record {
+      earlier = so.earlier;
+      is = so.is;
+      over = so.over;
+      are = so.are;
+      lies = λ at below lies. so.lies at below (lies-earlier first rest at (omega (arith, below, so.is.some, so.to, are.1)) lies);
+      to = omega (arith, so.to, are.1, are.0.some);
+    }

@@ -14,10 +14,10 @@ use Rattle.tp_receiver.specs.State.{Reception, RxDid, RxEvent, RxState, RxTurn, 
 use Rattle.tp_receiver.specs.Table.{EndRow, RxStep}
 use Rattle.tp_receiver.specs.declared.set.RxSet.{RxSet}
 use Rattle.gw_law.specs.Account.{Account}
-use Rattle.gw_law.specs.Deeds.{AreWindows, Deeds, LiesWithin, SeesReceived, Window, own_view}
+use Rattle.gw_law.specs.Deeds.{AreWindows, Deeds, LiesWithin, SeesReceived, Window, own_view, view_at}
 use Rattle.gw_law.specs.Run.{IsRun}
 use Rattle.gw_law.proofs.runs.Before.{AreRising}
-use Rattle.gw_law.proofs.runs.PartCalls.{part-calls, window-at}
+use Rattle.gw_law.proofs.runs.PartCalls.{part-calls, window-by}
 use Rattle.gw_law.proofs.runs.Parts.{rx-rising}
 
 -- a look counts at least the room that the session's writer knew, at most the buffer, and at least all of it but the cells that were put
@@ -80,12 +80,13 @@ parts-keep groups most d windows run place later (part ∷ earlier) are there ri
     let rest : run.parts ≡ (later ++ part ∷ []) ++ earlier = split ∙ sym (append_assoc later (part ∷ []) earlier) in
     let before : KeepRoom empty_view (calls_by (turns_of earlier)) = parts-keep groups most d windows run place (later ++ part ∷ []) earlier are there rising rest lies.1 in
     let w : Window = lies.0.0 in
-    let window = window-at groups most d windows lies.0.1.0 w are lies.0.1.1 in
-    let sees : SeesReceived groups window.0 w run = all-at (SeesReceived groups window.0 w) d.receivers place run window.1.received_fresh there in
-    let fresh = part-calls (floors_of groups window.0) w.from w.to run.parts later part earlier sees.0 split rising lies.0.2 lies.0.3 sees.1 sees.2 in
+    let by = window-by groups most d windows lies.0.1.0 w are lies.0.1.1 in
+    let opening : View = view_at by.earlier in
+    let sees : SeesReceived groups opening w run = all-at (SeesReceived groups opening w) d.receivers place run by.is.received_fresh there in
+    let fresh = part-calls (floors_of groups opening) w.from w.to run.parts later part earlier sees.0 split rising lies.0.2 lies.0.3 sees.1 sees.2 in
     let K : List Event → Type 0 = λ c. KeepRoom empty_view c in
     subst K (sym (calls-append part.turns (turns_of earlier)))
-    (keep-join empty_view (calls_by (turns_of earlier)) (calls_by part.turns) before (fresh-keep (floors_of groups window.0) (own_view (calls_by (turns_of earlier))) (calls_by part.turns) fresh))
+    (keep-join empty_view (calls_by (turns_of earlier)) (calls_by part.turns) before (fresh-keep (floors_of groups opening) (own_view (calls_by (turns_of earlier))) (calls_by part.turns) fresh))
 
 -- the looks of each receiver of a run
 pub room-kept : (a : Account) (d : Deeds) (windows : List Window) (v : View) (place : ℕ) (run : RxRun) → IsRun a d windows v → slice_get d.receivers place ≡ Some run → IsRxRun run → KeepRoom empty_view (calls_by (turns_in run))

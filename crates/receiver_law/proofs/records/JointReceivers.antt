@@ -17,7 +17,7 @@ use Rattle.hub_core.specs.declared.record.SessionRecord.{SessionRecord}
 use Rattle.hub_core.specs.declared.record.SessionResult.{SessionResult}
 use Rattle.hub_core.specs.declared.record.SessionResult.TheVariants.{NoReaders, NoRoom}
 use Rattle.tp_receiver.specs.declared.set.RxSet.{RxSet}
-use Rattle.tp_receiver.specs.Effects.{Ends, EndsAt, Forgets, Looks, Opens, Puts, Refuses, RxDone, RxEffect, RxStage, Waits}
+use Rattle.tp_receiver.specs.Effects.{Ends, EndsAt, Forgets, Looks, Opens, Puts, Refuses, RxDone, RxEffect, RxStage, Waits, first_stage}
 use Rattle.tp_receiver.specs.Runs.{HasReceived}
 use Rattle.tp_receiver.specs.State.{Reception, RxEvent, RxState, RxTurn, rx_new}
 use Rattle.tp_receiver.specs.Table.{Opens as OpensSession, begun, puts}
@@ -124,8 +124,8 @@ abbrev IsLookedOf : Option Reception → Option Room → List Session → Type 0
 IsLookedOf busy look sessions = (going : Reception) (room : Room) (s : Session) → busy ≡ Some going → look ≡ Some room → slice_get sessions going.opened.seq ≡ Some s → (s.readers ≡ room.readers) × (s.room ≡ room.cells)
 
 -- a stage: what is known of the path's sessions
-record KnownAt (set : RxSet) (v : View) (records : List SessionRecord) (stage : RxStage) : Type 0 where
-  known : KnownBy set v records stage.state
+pub record KnownAt (set : RxSet) (v : View) (records : List SessionRecord) (stage : RxStage) : Type 0 where
+  pub known : KnownBy set v records stage.state
   looked : IsLookedOf stage.state.busy stage.look (v.sessions set.path.0)
 
 grow-refused : (group path number free need : ℕ) (v : View) → (grow (Refused group number free need) v).sessions path ≡ v.sessions path
@@ -151,7 +151,7 @@ asked set v records seq room readers busy known =
     (λ s put. record { len_is = put.len_is; told = put.told; shown = put.shown; full = put.full; dests = put.dests }) known)
 
 -- no look
-unlooked : (busy : Option Reception) (sessions : List Session) → IsLookedOf busy None sessions
+pub unlooked : (busy : Option Reception) (sessions : List Session) → IsLookedOf busy None sessions
 unlooked busy sessions going room s is none there = cc
 
 none-read : (set : RxSet) (event : RxEvent) (old : RxStage) (busy : Reception) (result : SessionResult) (sessions : List Session) → old.state.busy ≡ Some busy → EndsAt set event old busy result → IsLookedOf old.state.busy old.look sessions →
@@ -163,7 +163,7 @@ none-fits : (set : RxSet) (event : RxEvent) (old : RxStage) (busy : Reception) (
 none-fits set event old busy result sessions was at looked s there room need is = let full = subst (EndsAt set event old busy) is at in (looked busy full.0 s was full.1 there).1 ∙ full.3
 
 -- each effect
-known-effect : (set : RxSet) (event : RxEvent) (tick : ℕ) (old : RxStage) (done : RxDone) (v : View) (records : List SessionRecord) → RxEffect set event tick old done → KnownAt set v records old → KnownAt set (grows done.calls v) (records ++ done.records) done.new
+pub known-effect : (set : RxSet) (event : RxEvent) (tick : ℕ) (old : RxStage) (done : RxDone) (v : View) (records : List SessionRecord) → RxEffect set event tick old done → KnownAt set v records old → KnownAt set (grows done.calls v) (records ++ done.records) done.new
 known-effect set event tick old done v records (Refuses e) so =
     let known : KnownIn set v records old.state.seq None = subst (KnownIn set v records old.state.seq) e.of.idle so.known in
     rw (e.calls, e.records, e.new, e.of.idle) (record { known = rw (grow-refused set.group.0 set.path.0 e.number e.free _ v) (known-refused set (v.sessions set.path.0) records old.state.seq None _ refl known); looked = unlooked None _ })
@@ -201,3 +201,7 @@ known-sessions set (turn ∷ earlier) happened =
     (λ old done calls records effect so. subst (λ (v : View). KnownAt set v (records ++ done.records) done.new) (sym (grows-append calls done.calls empty_view)) (known-effect set turn.event turn.did.tick old done (grows calls empty_view) records effect so))
     happened.1 (calls_by earlier) (records_by earlier) (record { known = known-sessions set earlier happened.2; looked = unlooked _ _ }) in
     subst (λ (s : RxState). KnownBy set (grows (calls_by earlier ++ turn.did.calls) empty_view) (records_by earlier ++ turn.did.records) s) (sym by.state) by.holds.known
+
+-- at the first stage of a step after them
+pub known-first : (set : RxSet) (turns : List RxTurn) → HasReceived set turns → KnownAt set (grows (calls_by turns) empty_view) (records_by turns) (first_stage (state_after rx_new turns))
+known-first set turns happened = record { known = known-sessions set turns happened; looked = unlooked _ _ }

@@ -1,5 +1,5 @@
--- The cells of each session are those of the frames that were put: no more than these take, each in cells of its own.
-use Rattle.std.proofs.Common.{◌≡◌, ◌≢◌, ℕ, ◌+◌, ◌*◌, ◌<◌, ◌≤◌, suc, Bool, true, false, Option, Some, None, List, [], ◌∷◌, ◌++◌, length, take, All, refl, ap, sym, ◌∙◌, subst, arith, append-nil, append_assoc}
+-- What was put of each session, and that it stays: the cells, the frames that these are of, and what was seen as each consecutive one was put.
+use Rattle.std.proofs.Common.{◌≡◌, ℕ, ◌+◌, ◌*◌, ◌<◌, ◌≤◌, suc, Option, Some, None, List, [], ◌∷◌, ◌++◌, length, drop, All, refl, ap, sym, ◌∙◌, subst, arith, append-nil, append_assoc}
 use Rattle.std.specs.Prelude.{slice_index}
 use Rattle.std.specs.List.{AllByRecursion, AllZip}
 use Rattle.std.proofs.lemmas.List.{length-append, same_from_push}
@@ -11,35 +11,27 @@ use Rattle.flow_plan.specs.Cells.{cells_for}
 use Rattle.gw_base.proofs.Cells.{length-bytes_of}
 use Rattle.gw_base.proofs.Lists.{all-weaker, zip-all, zip-push}
 use Rattle.gw_base.specs.Cell.{IsCell, count_of, counted}
-use Rattle.hub_core.specs.Turns.{calls_by, came_by, now_of, records_by, state_after}
-use Rattle.hub_core.specs.View.{Event, Refused}
+use Rattle.hub_core.specs.View.{Event}
 use Rattle.hub_core.specs.declared.record.OpenedAt.{OpenedAt}
 use Rattle.hub_core.specs.declared.record.SessionRecord.{SessionRecord}
 use Rattle.hub_core.specs.declared.record.SessionResult.{SessionResult}
-use Rattle.hub_core.specs.declared.record.SessionResult.TheVariants.{Whole, Overflow, WrongSn, RxTimeout, Restarted, NoRoom, WaitOver, NoReaders, Cancelled, RunEnd as EndOfRun}
-use Rattle.tp_attempts.proofs.Cuts.{cuts-begin, cuts-grow, cuts-more, zip-grow}
 use Rattle.tp_attempts.proofs.Walks.{walk_of-more}
 use Rattle.tp_attempts.specs.Attempts.{attempts_in}
 use Rattle.tp_attempts.specs.Cuts.{Cut}
-use Rattle.tp_attempts.specs.Seen.{Seen, bytes_of, is_start, len_of}
-use Rattle.tp_attempts.specs.Walk.{Piece, Walk, look_at, walk_of}
-use Rattle.tp_receiver.proofs.Through.{IsThrough, step-through}
-use Rattle.tp_receiver.specs.Effects.{Ends, EndsAt, Forgets, HasConsecutive, IsPassed, IsUnused, Looks, Opens, Puts, Refuses, RxDone, RxEffect, RxStage, Waits, used_after}
-use Rattle.tp_receiver.specs.Runs.{HasReceived, cell_in, cells_in, frames_in}
-use Rattle.tp_receiver.specs.State.{Reception, RxDid, RxEvent, RxState, RxTurn, Came, Timer, FcLeft, RunEnd, rx_new}
-use Rattle.tp_receiver.specs.Table.{due as busy_due, begun, ended, gone_on, puts, refused}
+use Rattle.tp_attempts.specs.Seen.{Seen}
+use Rattle.tp_attempts.specs.Walk.{Piece, Walk, walk_of}
+use Rattle.tp_receiver.specs.Runs.{cell_in, cells_in}
+use Rattle.tp_receiver.specs.State.{Reception}
+use Rattle.tp_receiver.specs.Table.{ended}
 use Rattle.tp_receiver.specs.declared.set.RxSet.{RxSet}
-use Rattle.tp_unit.specs.Unit.{Meaning, ConsecutiveFrame}
-use Rattle.receiver_law.specs.PutCells.{TakeCells, cells_of}
+use Rattle.receiver_law.specs.PutCells.{cells_of}
+use Rattle.receiver_law.specs.ReceptionCauses.{ArePut}
 use Rattle.receiver_law.specs.Source.{sessions_in}
-use Rattle.receiver_law.proofs.receptions.Walks.{walk-counts, walk-ends}
-use Rattle.receiver_law.proofs.records.SoFars.{AreTold, IsBusy, IsIdle, IsOver, IsUnderway}
-use Rattle.receiver_law.proofs.records.SourceLaws.{HoldsAt, HoldsIn, Holds, busy-at, holds, holds-effect, holds-first, holds-later, idle-at, passes, seen_so, unused-busy}
+use Rattle.receiver_law.proofs.records.SoFars.{AreTold, IsBusy, IsOver, IsUnderway}
 use Rattle.receiver_law.proofs.records.Tellings.{looked, with_frame}
-use Rattle.receiver_law.proofs.sessions.Stores.{cells_in-others, cells_in-puts}
 
 -- cells that hold a frame's bytes are no more than a frame of so many takes
-packed-most : (bytes cells : List ℕ) → IsPacked bytes cells → length cells ≤ cells_for (length bytes)
+pub packed-most : (bytes cells : List ℕ) → IsPacked bytes cells → length cells ≤ cells_for (length bytes)
 packed-most bytes cells packed =
     let count : counted cells ≡ length bytes = sym (length-bytes_of cells packed.cells_only) ∙ ap length packed.same_bytes in
     omega (arith, count, many cells packed.cells_only packed.full)
@@ -51,291 +43,123 @@ packed-most bytes cells packed =
         let rest : 7 * length (y ∷ xs) ≤ counted (y ∷ xs) + 6 = many (y ∷ xs) (All-tail IsCell x (y ∷ xs) all) (λ k below. full (suc k) (omega (arith, below))) in
         omega (arith, rest, full 0 (omega arith), sum_by-cons count_of x (y ∷ xs))
 
-cells-more : (pieces : List Piece) (piece : Piece) → cells_of (pieces ++ piece ∷ []) ≡ cells_of pieces + cells_for (length piece.bytes)
+pub cells-more : (pieces : List Piece) (piece : Piece) → cells_of (pieces ++ piece ∷ []) ≡ cells_of pieces + cells_for (length piece.bytes)
 cells-more pieces piece =
     let count : Piece → ℕ = λ p. cells_for (length p.bytes) in
     omega (arith, sum_by-append count pieces (piece ∷ []), sum_by-cons count piece [])
 
 -- the session of that number has so many cells
-abbrev cells_put : RxSet → List Event → ℕ → ℕ
+abbrev pub cells_put : RxSet → List Event → ℕ → ℕ
 cells_put set calls seq = length (cells_in set.path.0 seq calls)
 
-put-more : (set : RxSet) (calls more : List Event) (seq : ℕ) → cells_put set (calls ++ more) seq ≡ cells_put set calls seq + cells_put set more seq
+pub put-more : (set : RxSet) (calls more : List Event) (seq : ℕ) → cells_put set (calls ++ more) seq ≡ cells_put set calls seq + cells_put set more seq
 put-more set calls more seq = ap length (flat_map-append (cell_in set.path.0 seq) calls more) ∙ length-append (cells_in set.path.0 seq calls) (cells_in set.path.0 seq more)
 
--- a record that opened a session, and its attempt
-abbrev pub TellsCells : RxSet → List Event → Cut Seen → SessionRecord → Type 0
-TellsCells set calls attempt told = (opened : OpenedAt) → told.opened ≡ Some opened → TakeCells (walk_of set.a attempt).pieces told.bytes (cells_put set calls opened.seq)
+-- first pieces, with as many cells at least, and what was seen as each consecutive frame of them was put
+pub record AreSeen (Sees : (seq tick : ℕ) → Type 0) (seq : ℕ) (pieces : List Piece) (bytes cells : ℕ) : Type 0 where
+  pub put : List Piece
+  pub are_put : ArePut pieces bytes put
+  pub least : cells ≤ cells_of put
+  pub found : AllByRecursion (λ (piece : Piece). Sees seq piece.at) (drop 1 put)
 
-abbrev OpensBelow : ℕ → SessionRecord → Type 0
+pub drop-first : (pieces : List Piece) (piece : Piece) → 0 < length pieces → drop 1 (pieces ++ piece ∷ []) ≡ drop 1 pieces ++ piece ∷ []
+drop-first [] piece some = absurd (omega (arith, some))
+drop-first (first ∷ pieces) piece some = refl
+
+abbrev pub OpensBelow : ℕ → SessionRecord → Type 0
 OpensBelow bound told = (opened : OpenedAt) → told.opened ≡ Some opened → opened.seq < bound
 
-below-told : (set : RxSet) (calls : List Event) (now : ℕ) (attempts : List (Cut Seen)) (records : List SessionRecord) → AreTold set calls now attempts records → AllByRecursion (OpensBelow (length (sessions_in records))) records
+pub below-told : (set : RxSet) (calls : List Event) (now : ℕ) (attempts : List (Cut Seen)) (records : List SessionRecord) → AreTold set calls now attempts records → AllByRecursion (OpensBelow (length (sessions_in records))) records
 below-told set calls now attempts records told = all-weaker (IsOver now (length (sessions_in records))) (OpensBelow (length (sessions_in records))) records (λ r over. over.below) told.over
 
--- calls that put nothing into its session leave it
-tells-keep : (set : RxSet) (calls more : List Event) (bound : ℕ) (attempts : List (Cut Seen)) (records : List SessionRecord) → AllByRecursion (OpensBelow bound) records → ((number : ℕ) → number < bound → cells_in set.path.0 number more ≡ []) → AllZip (TellsCells set calls) attempts records →
-    AllZip (TellsCells set (calls ++ more)) attempts records
-tells-keep set calls more bound attempts records below none tells =
-    zip-all (OpensBelow bound) (TellsCells set calls) (TellsCells set (calls ++ more)) attempts records (λ attempt told under is opened at.
-    let so : TakeCells (walk_of set.a attempt).pieces told.bytes (cells_put set calls opened.seq) = is opened at in
-    record { put = so.put; are_put = so.are_put; least = omega (arith, so.least, put-more set calls more opened.seq, ap length (none opened.seq (under opened at))) }) below tells
-
--- later frames leave what was put
-tells-grow : (set : RxSet) (calls : List Event) (frame : Seen) (attempt : Cut Seen) (told : SessionRecord) → TellsCells set calls attempt told → TellsCells set calls (with_frame attempt frame) told
-tells-grow set calls frame attempt told is opened at =
-    let so : TakeCells (walk_of set.a attempt).pieces told.bytes (cells_put set calls opened.seq) = is opened at in
-    let on = looked set.a (walk_of set.a attempt) frame.at frame.size frame.meaning in
-    record {
-      put = so.put;
-      are_put = record {
-        rest = so.are_put.rest ++ on.more;
-        are = ap (λ (w : Walk). w.pieces) (walk_of-more set.a attempt frame) ∙ on.pieces ∙ ap (λ p. p ++ on.more) so.are_put.are ∙ append_assoc so.put so.are_put.rest on.more;
-        sum = so.are_put.sum;
-      };
-      least = so.least;
-    }
-
--- what holds so far, by the reception that is in progress
-record IdleCells (set : RxSet) (seq : ℕ) (calls : List Event) (seen : List Seen) (records : List SessionRecord) : Type 0 where
-  told : AllZip (TellsCells set calls) (attempts_in set.functional seen) records
-  none : (number : ℕ) → seq ≤ number → cells_in set.path.0 number calls ≡ []
-
-record BusyCells (set : RxSet) (seq : ℕ) (busy : Reception) (calls : List Event) (seen : List Seen) (records : List SessionRecord) : Type 0 where
-  earlier : List (Cut Seen)
-  attempt : Cut Seen
-  cut : attempts_in set.functional seen ≡ earlier ++ attempt ∷ []
-  told : AllZip (TellsCells set calls) earlier records
-  none : (number : ℕ) → seq ≤ number → cells_in set.path.0 number calls ≡ []
-  put : cells_put set calls busy.opened.seq ≤ cells_of (walk_of set.a attempt).pieces
-
-abbrev CellsBy : RxSet → ℕ → Option Reception → List Event → List Seen → List SessionRecord → Type 0
-CellsBy set seq None calls seen records = IdleCells set seq calls seen records
-CellsBy set seq (Some busy) calls seen records = BusyCells set seq busy calls seen records
-
 -- more calls that put nothing
-none-more : (set : RxSet) (calls more : List Event) (number : ℕ) → cells_in set.path.0 number more ≡ [] → cells_in set.path.0 number calls ≡ [] → cells_in set.path.0 number (calls ++ more) ≡ []
+pub none-more : (set : RxSet) (calls more : List Event) (number : ℕ) → cells_in set.path.0 number more ≡ [] → cells_in set.path.0 number calls ≡ [] → cells_in set.path.0 number (calls ++ more) ≡ []
 none-more set calls more number later first = flat_map-append (cell_in set.path.0 number) calls more ∙ ap (λ c. c ++ cells_in set.path.0 number more) first ∙ later
 
-busy-keeps : (set : RxSet) (seq now next : ℕ) (busy : Reception) (calls more : List Event) (seen : List Seen) (records : List SessionRecord) → ((number : ℕ) → cells_in set.path.0 number more ≡ []) → IsBusy set next seq busy calls now seen records → BusyCells set seq busy calls seen records → BusyCells set seq busy (calls ++ more) seen records
-busy-keeps set seq now next busy calls more seen records nothing known so = record {
-  earlier = so.earlier;
-  attempt = so.attempt;
-  cut = so.cut;
-  told = tells-keep set calls more (length (sessions_in records)) so.earlier records (below-told set calls now known.earlier records known.told) (λ number below. nothing number) so.told;
-  none = λ number above. none-more set calls more number (nothing number) (so.none number above);
-  put = omega (arith, so.put, put-more set calls more busy.opened.seq, ap length (nothing busy.opened.seq));
-}
+module _ (Sees : (seq tick : ℕ) → Type 0) where
+  -- a record that opened a session, and its attempt
+  abbrev pub TellsCells : RxSet → List Event → Cut Seen → SessionRecord → Type 0
+  TellsCells set calls attempt told = (opened : OpenedAt) → told.opened ≡ Some opened → AreSeen Sees opened.seq (walk_of set.a attempt).pieces told.bytes (cells_put set calls opened.seq)
 
--- the attempt of a reception
-attempt-of : (set : RxSet) (seq now next : ℕ) (busy : Reception) (calls : List Event) (seen : List Seen) (records : List SessionRecord) (known : IsBusy set next seq busy calls now seen records) (so : BusyCells set seq busy calls seen records) → IsUnderway set busy calls now so.attempt × (known.attempt ≡ so.attempt)
-attempt-of set seq now next busy calls seen records known so =
-    let same : known.attempt ≡ so.attempt = (same_from_push known.earlier so.earlier known.attempt so.attempt (sym known.cut ∙ so.cut)).1 in
-    let P : Cut Seen → Type 0 = λ a. IsUnderway set busy calls now a in
-    (subst P same known.underway, same)
+  -- calls that put nothing into its session leave it
+  pub tells-keep : (set : RxSet) (calls more : List Event) (bound : ℕ) (attempts : List (Cut Seen)) (records : List SessionRecord) → AllByRecursion (OpensBelow bound) records → ((number : ℕ) → number < bound → cells_in set.path.0 number more ≡ []) → AllZip (TellsCells set calls) attempts records →
+      AllZip (TellsCells set (calls ++ more)) attempts records
+  tells-keep set calls more bound attempts records below none tells =
+      zip-all (OpensBelow bound) (TellsCells set calls) (TellsCells set (calls ++ more)) attempts records (λ attempt told under is opened at.
+      let so : AreSeen Sees opened.seq (walk_of set.a attempt).pieces told.bytes (cells_put set calls opened.seq) = is opened at in
+      record { put = so.put; are_put = so.are_put; least = omega (arith, so.least, put-more set calls more opened.seq, ap length (none opened.seq (under opened at))); found = so.found }) below tells
 
--- a reception ends, with an attempt of the same counted frames
-ends-cells : (set : RxSet) (seq now next : ℕ) (busy : Reception) (how : SessionResult) (tick : ℕ) (calls more : List Event) (seen after : List Seen) (records : List SessionRecord) (last : Cut Seen) (known : IsBusy set next seq busy calls now seen records) (so : BusyCells set seq busy calls seen records) →
-    ((number : ℕ) → cells_in set.path.0 number more ≡ []) → attempts_in set.functional after ≡ so.earlier ++ last ∷ [] → (walk_of set.a last).pieces ≡ (walk_of set.a so.attempt).pieces → IdleCells set seq (calls ++ more) after (records ++ ended set busy how tick ∷ [])
-unfolding busy-keeps
-ends-cells set seq now next busy how tick calls more seen after records last known so nothing cut same =
-    let kept : BusyCells set seq busy (calls ++ more) seen records = busy-keeps set seq now next busy calls more seen records nothing known so in
-    let r : SessionRecord = ended set busy how tick in
-    let P : List (Cut Seen) → Type 0 = λ attempts. AllZip (TellsCells set (calls ++ more)) attempts (records ++ r ∷ []) in
-    let under = (attempt-of set seq now next busy calls seen records known so).0 in
-    record {
-      told = subst P (sym cut) (zip-push (TellsCells set (calls ++ more)) so.earlier records last r kept.told (λ opened at.
-          let it : busy.opened ≡ opened = cc in
-          let Q : List Piece → Type 0 = λ pieces. TakeCells pieces busy.bytes (cells_put set (calls ++ more) opened.seq) in
-          subst Q (sym same) (record {
-            put = (walk_of set.a so.attempt).pieces;
-            are_put = record { rest = []; are = sym (append-nil (walk_of set.a so.attempt).pieces); sum = under.bytes };
-            least = omega (arith, kept.put, ap (λ (o : OpenedAt). cells_put set (calls ++ more) o.seq) it);
-          })));
-      none = kept.none;
-    }
+  -- later frames leave what was put
+  pub tells-grow : (set : RxSet) (calls : List Event) (frame : Seen) (attempt : Cut Seen) (told : SessionRecord) → TellsCells set calls attempt told → TellsCells set calls (with_frame attempt frame) told
+  tells-grow set calls frame attempt told is opened at =
+      let so : AreSeen Sees opened.seq (walk_of set.a attempt).pieces told.bytes (cells_put set calls opened.seq) = is opened at in
+      let on = looked set.a (walk_of set.a attempt) frame.at frame.size frame.meaning in
+      record {
+        put = so.put;
+        are_put = record {
+          rest = so.are_put.rest ++ on.more;
+          are = ap (λ (w : Walk). w.pieces) (walk_of-more set.a attempt frame) ∙ on.pieces ∙ ap (λ p. p ++ on.more) so.are_put.are ∙ append_assoc so.put so.are_put.rest on.more;
+          sum = so.are_put.sum;
+        };
+        least = so.least;
+        found = so.found;
+      }
 
--- what holds at a stage of a step
-abbrev CellsAt : RxSet → ℕ → RxEvent → List Seen → RxStage → List Event → List SessionRecord → Type 0
-CellsAt set tick event seen stage calls records = CellsBy set stage.state.seq stage.state.busy calls (seen_so seen tick event stage.used) records
+  -- what holds so far, by the reception that is in progress
+  pub record IdleCells (set : RxSet) (seq : ℕ) (calls : List Event) (seen : List Seen) (records : List SessionRecord) : Type 0 where
+    pub told : AllZip (TellsCells set calls) (attempts_in set.functional seen) records
+    pub none : (number : ℕ) → seq ≤ number → cells_in set.path.0 number calls ≡ []
 
-idle-cells : (set : RxSet) (tick : ℕ) (event : RxEvent) (seen : List Seen) (seq : ℕ) (busy : Option Reception) (used : Bool) (calls : List Event) (records : List SessionRecord) → busy ≡ None → used ≡ false → CellsBy set seq busy calls (seen_so seen tick event used) records → IdleCells set seq calls seen records
-idle-cells set tick event seen seq busy used calls records is unused so =
-    subst (λ (u : Bool). IdleCells set seq calls (seen_so seen tick event u) records) unused (subst (λ (b : Option Reception). CellsBy set seq b calls (seen_so seen tick event used) records) is so)
+  pub record BusyCells (set : RxSet) (seq : ℕ) (busy : Reception) (calls : List Event) (seen : List Seen) (records : List SessionRecord) : Type 0 where
+    pub earlier : List (Cut Seen)
+    pub attempt : Cut Seen
+    pub cut : attempts_in set.functional seen ≡ earlier ++ attempt ∷ []
+    pub told : AllZip (TellsCells set calls) earlier records
+    pub none : (number : ℕ) → seq ≤ number → cells_in set.path.0 number calls ≡ []
+    pub put : cells_put set calls busy.opened.seq ≤ cells_of (walk_of set.a attempt).pieces
+    pub found : AllByRecursion (λ (piece : Piece). Sees busy.opened.seq piece.at) (drop 1 (walk_of set.a attempt).pieces)
 
-busy-cells : (set : RxSet) (seq : ℕ) (was : Option Reception) (busy : Reception) (calls : List Event) (seen : List Seen) (records : List SessionRecord) → was ≡ Some busy → CellsBy set seq was calls seen records → BusyCells set seq busy calls seen records
-busy-cells set seq was busy calls seen records is so = subst (λ (b : Option Reception). CellsBy set seq b calls seen records) is so
+  abbrev pub CellsBy : RxSet → ℕ → Option Reception → List Event → List Seen → List SessionRecord → Type 0
+  CellsBy set seq None calls seen records = IdleCells set seq calls seen records
+  CellsBy set seq (Some busy) calls seen records = BusyCells set seq busy calls seen records
 
--- a start begins a reception
-opens-cells : (set : RxSet) (seq now next : ℕ) (frame : Seen) (opened : OpenedAt) (cells : List ℕ) (busy : Reception) (calls more : List Event) (seen : List Seen) (records : List SessionRecord) → is_start set.functional frame.meaning ≡ true → opened.seq ≡ seq → busy.opened ≡ opened → IsPacked (bytes_of frame.meaning) cells →
-    ((number : ℕ) → cells_in set.path.0 number more ≡ cells_in set.path.0 number (puts set.path.0 seq cells)) → IsIdle set next seq calls now seen records → IdleCells set seq calls seen records → BusyCells set (seq + 1) busy (calls ++ more) (seen ++ frame ∷ []) records
-opens-cells set seq now next frame opened cells busy calls more seen records start at own packed are known so =
-    let others : (number : ℕ) → number ≢ seq → cells_in set.path.0 number more ≡ [] = λ number ne. are number ∙ cells_in-others set.path.0 seq number (counted cells) cells ne in
-    let mine : cells_in set.path.0 seq more ≡ cells = are seq ∙ cells_in-puts set.path.0 seq (counted cells) cells in
-    let number_is : busy.opened.seq ≡ seq = ap (λ (o : OpenedAt). o.seq) own ∙ at in
-    record {
-      earlier = attempts_in set.functional seen;
-      attempt = record { start = frame; after = [] };
-      cut = cuts-begin (λ (s : Seen). is_start set.functional s.meaning) seen frame start;
-      told = tells-keep set calls more (length (sessions_in records)) (attempts_in set.functional seen) records (below-told set calls now (attempts_in set.functional seen) records known.told) (λ number below. others number (λ is. absurd (omega (arith, is, below, known.seq_is)))) so.told;
-      none = λ number above. none-more set calls more number (others number (λ is. absurd (omega (arith, is, above)))) (so.none number (omega (arith, above)));
-      put = omega (
-        arith,
-        ap (cells_put set (calls ++ more)) number_is,
-        put-more set calls more seq,
-        ap length (so.none seq (omega arith)),
-        ap length mine,
-        packed-most (bytes_of frame.meaning) cells packed,
-        sum_by-cons (λ (p : Piece). cells_for (length p.bytes)) (record { at = frame.at; bytes = bytes_of frame.meaning }) [],
-      );
-    }
+  pub busy-keeps : (set : RxSet) (seq now next : ℕ) (busy : Reception) (calls more : List Event) (seen : List Seen) (records : List SessionRecord) → ((number : ℕ) → cells_in set.path.0 number more ≡ []) → IsBusy set next seq busy calls now seen records → BusyCells set seq busy calls seen records → BusyCells set seq busy (calls ++ more) seen records
+  busy-keeps set seq now next busy calls more seen records nothing known so = record {
+    earlier = so.earlier;
+    attempt = so.attempt;
+    cut = so.cut;
+    told = tells-keep set calls more (length (sessions_in records)) so.earlier records (below-told set calls now known.earlier records known.told) (λ number below. nothing number) so.told;
+    none = λ number above. none-more set calls more number (nothing number) (so.none number above);
+    put = omega (arith, so.put, put-more set calls more busy.opened.seq, ap length (nothing busy.opened.seq));
+    found = so.found;
+  }
 
--- a consecutive frame is put
-puts-cells : (set : RxSet) (seq next at size : ℕ) (bytes cells : List ℕ) (busy on : Reception) (calls more : List Event) (seen : List Seen) (records : List SessionRecord) → on.opened ≡ busy.opened → busy.bytes < busy.len → size ≤ busy.size → busy_due set.a busy ≤ length bytes → IsPacked (take (busy_due set.a busy) bytes) cells →
-    ((number : ℕ) → cells_in set.path.0 number more ≡ cells_in set.path.0 number (puts set.path.0 busy.opened.seq cells)) → IsBusy set next seq busy calls at seen records → BusyCells set seq busy calls seen records →
-    BusyCells set seq on (calls ++ more) (seen ++ record { at = at; size = size; meaning = ConsecutiveFrame busy.number bytes } ∷ []) records
-puts-cells set seq next at size bytes cells busy on calls more seen records own left short enough packed are known so =
-    let mine_at : ℕ = busy.opened.seq in
-    let frame : Seen = record { at = at; size = size; meaning = ConsecutiveFrame busy.number bytes } in
-    let others : (number : ℕ) → number ≢ mine_at → cells_in set.path.0 number more ≡ [] = λ number ne. are number ∙ cells_in-others set.path.0 mine_at number (counted cells) cells ne in
-    let mine : cells_in set.path.0 mine_at more ≡ cells = are mine_at ∙ cells_in-puts set.path.0 mine_at (counted cells) cells in
-    let piece : Piece = record { at = at; bytes = take (busy_due set.a busy) bytes } in
-    let under = (attempt-of set seq at next busy calls seen records known so).0 in
-    let walk = walk-counts set busy calls at at size busy.number bytes so.attempt under left short enough refl in
-    record {
-      earlier = so.earlier;
-      attempt = with_frame so.attempt frame;
-      cut = cuts-more (λ (s : Seen). is_start set.functional s.meaning) seen frame so.earlier so.attempt refl so.cut;
-      told = tells-keep set calls more (length (sessions_in records)) so.earlier records (below-told set calls at known.earlier records known.told) (λ number below. others number (λ is. absurd (omega (arith, is, below, known.at_is)))) so.told;
-      none = λ number above. none-more set calls more number (others number (λ is. absurd (omega (arith, is, above, known.at_is, known.seq_is)))) (so.none number above);
-      put = omega (
-        arith,
-        ap (λ (o : OpenedAt). cells_put set (calls ++ more) o.seq) own,
-        put-more set calls more mine_at,
-        so.put,
-        ap length mine,
-        packed-most piece.bytes cells packed,
-        cells-more (walk_of set.a so.attempt).pieces piece,
-        ap (λ (w : Walk). cells_of w.pieces) walk,
-      );
-    }
+  -- the attempt of a reception
+  pub attempt-of : (set : RxSet) (seq now next : ℕ) (busy : Reception) (calls : List Event) (seen : List Seen) (records : List SessionRecord) (known : IsBusy set next seq busy calls now seen records) (so : BusyCells set seq busy calls seen records) → IsUnderway set busy calls now so.attempt × (known.attempt ≡ so.attempt)
+  attempt-of set seq now next busy calls seen records known so =
+      let same : known.attempt ≡ so.attempt = (same_from_push known.earlier so.earlier known.attempt so.attempt (sym known.cut ∙ so.cut)).1 in
+      let P : Cut Seen → Type 0 = λ a. IsUnderway set busy calls now a in
+      (subst P same known.underway, same)
 
--- a reception ends, by its result
-ends-by : (set : RxSet) (tick : ℕ) (event : RxEvent) (seen : List Seen) (old : RxStage) (busy : Reception) (how : SessionResult) (calls more : List Event) (records : List SessionRecord) → HoldsIn set tick event seen old.state.next old.state.seq (Some busy) old.used calls records →
-    BusyCells set old.state.seq busy calls (seen_so seen tick event old.used) records → ((number : ℕ) → cells_in set.path.0 number more ≡ []) → EndsAt set event old busy how →
-    IdleCells set old.state.seq (calls ++ more) (seen_so seen tick event (used_after how old.used)) (records ++ ended set busy how tick ∷ [])
-ends-by set tick event seen old busy Whole calls more records known so nothing at = ends-cells set _ tick _ busy Whole tick calls more _ _ records so.attempt known.0 so nothing so.cut refl
-ends-by set tick event seen old busy (Overflow change free need) calls more records known so nothing at = absurd at
-ends-by set tick event seen old busy (WrongSn want got) calls more records known so nothing at =
-    let came : HasConsecutive set event old busy at.2.0 got at.2.1 = at.2.2 in
-    let frame : Seen = record { at = tick; size = at.2.0; meaning = ConsecutiveFrame got at.2.1 } in
-    let known_then : IsBusy set old.state.next old.state.seq busy calls tick seen records = unused-busy set tick event seen _ _ busy old.used calls records came.unused known in
-    let so_then : BusyCells set old.state.seq busy calls seen records = subst (λ (u : Bool). BusyCells set old.state.seq busy calls (seen_so seen tick event u) records) came.unused so in
-    let under = (attempt-of set old.state.seq tick old.state.next busy calls seen records known_then so_then).0 in
-    let wrong : IdleCells set old.state.seq (calls ++ more) (seen ++ frame ∷ []) (records ++ ended set busy (WrongSn want got) tick ∷ []) =
-    ends-cells set _ tick _ busy (WrongSn want got) tick calls more seen (seen ++ frame ∷ []) records (with_frame so_then.attempt frame) known_then so_then nothing (cuts-more (λ (s : Seen). is_start set.functional s.meaning) seen frame so_then.earlier so_then.attempt refl so_then.cut)
-    (walk-ends set busy calls tick tick at.2.0 got at.2.1 so_then.attempt under (known.1 came.unused) came.looked.short came.looked.enough at.1) in
-    rw came.came wrong
-ends-by set tick event seen old busy (RxTimeout limit) calls more records known so nothing at = ends-cells set _ tick _ busy (RxTimeout limit) tick calls more _ _ records so.attempt known.0 so nothing so.cut refl
-ends-by set tick event seen old busy Restarted calls more records known so nothing at = ends-cells set _ tick _ busy Restarted tick calls more _ _ records so.attempt known.0 so nothing so.cut refl
-ends-by set tick event seen old busy (NoRoom room need) calls more records known so nothing at = ends-cells set _ tick _ busy (NoRoom room need) tick calls more _ _ records so.attempt known.0 so nothing so.cut refl
-ends-by set tick event seen old busy WaitOver calls more records known so nothing at = ends-cells set _ tick _ busy WaitOver tick calls more _ _ records so.attempt known.0 so nothing so.cut refl
-ends-by set tick event seen old busy NoReaders calls more records known so nothing at = ends-cells set _ tick _ busy NoReaders tick calls more _ _ records so.attempt known.0 so nothing so.cut refl
-ends-by set tick event seen old busy Cancelled calls more records known so nothing at = absurd at
-ends-by set tick event seen old busy (EndOfRun wait since) calls more records known so nothing at = ends-cells set _ tick _ busy (EndOfRun wait since) tick calls more _ _ records so.attempt known.0 so nothing so.cut refl
-
--- each effect
-cells-effect : (set : RxSet) (event : RxEvent) (tick : ℕ) (seen : List Seen) (old : RxStage) (done : RxDone) (calls : List Event) (records : List SessionRecord) → RxEffect set event tick old done → HoldsAt set tick event seen old calls records → CellsAt set tick event seen old calls records →
-    CellsAt set tick event seen done.new (calls ++ done.calls) (records ++ done.records)
-cells-effect set event tick seen old done calls records (Refuses e) known so =
-    let frame : Seen = record { at = tick; size = e.size; meaning = e.meaning } in
-    let idle : IsIdle set old.state.next old.state.seq calls tick seen records = idle-at set tick event seen _ _ old.state.busy old.used calls records e.of.idle e.of.unused known in
-    let cells : IdleCells set old.state.seq calls seen records = idle-cells set tick event seen old.state.seq old.state.busy old.used calls records e.of.idle e.of.unused so in
-    let more : List Event = Refused set.group.0 e.number e.free _ ∷ [] in
-    let r : SessionRecord = refused set old.state.next (len_of e.meaning) tick e.number e.free _ in
-    let P : List (Cut Seen) → Type 0 = λ attempts. AllZip (TellsCells set (calls ++ more)) attempts (records ++ r ∷ []) in
-    rw (e.calls, e.records, e.new, e.of.came, e.of.idle) (record {
-      told = subst P (sym (cuts-begin (λ (s : Seen). is_start set.functional s.meaning) seen frame e.of.start)) (zip-push (TellsCells set (calls ++ more)) (attempts_in set.functional seen) records (record { start = frame; after = [] }) r
-          (tells-keep set calls more (length (sessions_in records)) (attempts_in set.functional seen) records (below-told set calls tick (attempts_in set.functional seen) records idle.told) (λ number below. refl) cells.told) (λ opened at. cc));
-      none = λ number above. none-more set calls more number refl (cells.none number above);
-    })
-cells-effect set event tick seen old done calls records (Opens e) known so =
-    let frame : Seen = record { at = tick; size = e.size; meaning = e.meaning } in
-    let idle : IsIdle set old.state.next old.state.seq calls tick seen records = idle-at set tick event seen _ _ old.state.busy old.used calls records e.of.idle e.of.unused known in
-    let cells : IdleCells set old.state.seq calls seen records = idle-cells set tick event seen old.state.seq old.state.busy old.used calls records e.of.idle e.of.unused so in
-    rw (e.records, e.new, e.of.came, append-nil)
-    (opens-cells set old.state.seq tick old.state.next frame e.opened e.opens.cells (begun old.state.next (len_of e.meaning) e.size (length (bytes_of e.meaning)) tick e.opened) calls done.calls seen records e.of.start e.opens.seq_is refl e.opens.packed (λ number. ap (cells_in set.path.0 number) e.opens.calls_are) idle cells)
-cells-effect set event tick seen old done calls records (Looks e) known so =
-    let on = busy-at set tick event seen _ _ old.state.busy e.busy old.used calls records e.was known in
-    let cells = busy-cells set old.state.seq old.state.busy e.busy calls (seen_so seen tick event old.used) records e.was so in
-    rw (e.calls, e.records, e.new, e.was, append-nil) (busy-keeps set _ tick _ e.busy calls _ (seen_so seen tick event old.used) records (λ number. refl) on.0 cells)
-cells-effect set event tick seen old done calls records (Puts e) known so =
-    let on = busy-at set tick event seen _ _ old.state.busy e.busy old.used calls records e.was known in
-    let cells = busy-cells set old.state.seq old.state.busy e.busy calls (seen_so seen tick event old.used) records e.was so in
-    let then : BusyCells set old.state.seq e.busy calls seen records = subst (λ (u : Bool). BusyCells set old.state.seq e.busy calls (seen_so seen tick event u) records) e.of.unused cells in
-    rw (e.calls, e.records, e.new, e.of.came, append-nil)
-    (puts-cells set _ _ tick e.size e.bytes e.cells e.busy (gone_on e.busy (length (take (busy_due set.a e.busy) e.bytes)) tick) calls _ seen records refl (on.1 e.of.unused) e.of.looked.short e.of.looked.enough e.packed (λ number. refl)
-    (unused-busy set tick event seen _ _ e.busy old.used calls records e.of.unused on) then)
-cells-effect set event tick seen old done calls records (Waits e) known so =
-    let cells = busy-cells set old.state.seq old.state.busy e.busy calls (seen_so seen tick event old.used) records e.was so in
-    rw (e.calls, e.records, e.new, append-nil, append-nil) (record { earlier = cells.earlier; attempt = cells.attempt; cut = cells.cut; told = cells.told; none = cells.none; put = cells.put })
-cells-effect set event tick seen old done calls records (Forgets e) known so = rw (e.calls, e.records, e.new, append-nil, append-nil) so
-cells-effect set event tick seen old done calls records (Ends e) known so =
-    let on = busy-at set tick event seen _ _ old.state.busy e.busy old.used calls records e.was known in
-    let cells = busy-cells set old.state.seq old.state.busy e.busy calls (seen_so seen tick event old.used) records e.was so in
-    rw (e.records, e.new) (ends-by set tick event seen old e.busy e.result calls done.calls records on cells (λ number. ap (cells_in set.path.0 number) e.calls) e.at)
-
--- after the last effect: a frame that isn't used is passed over
-passed-cells : (set : RxSet) (tick size : ℕ) (meaning : Meaning) (seen : List Seen) (next seq : ℕ) (busy : Option Reception) (calls : List Event) (records : List SessionRecord) → HoldsIn set tick (Came size meaning) seen next seq busy false calls records → CellsBy set seq busy calls seen records →
-    is_start set.functional meaning ≡ false → ((going : Reception) → busy ≡ Some going → IsPassed set going size meaning) → CellsBy set seq busy calls (seen ++ record { at = tick; size = size; meaning = meaning } ∷ []) records
-passed-cells set tick size meaning seen next seq None calls records known so other passed =
-    let frame : Seen = record { at = tick; size = size; meaning = meaning } in
-    let P : List (Cut Seen) → Type 0 = λ attempts. AllZip (TellsCells set calls) attempts records in
-    record {
-      told = subst P (sym (cuts-grow (λ (s : Seen). is_start set.functional s.meaning) seen frame other)) (zip-grow (TellsCells set calls) frame (attempts_in set.functional seen) records (λ attempt told. tells-grow set calls frame attempt told) so.told);
-      none = so.none;
-    }
-passed-cells set tick size meaning seen next seq (Some busy) calls records known so other passed =
-    let frame : Seen = record { at = tick; size = size; meaning = meaning } in
-    let same = (attempt-of set seq tick next busy calls seen records known.0 so).1 in
-    let A : Cut Seen → Type 0 = λ a. look_at set.a (walk_of set.a a) tick size meaning ≡ walk_of set.a a in
-    let walk : walk_of set.a (with_frame so.attempt frame) ≡ walk_of set.a so.attempt = walk_of-more set.a so.attempt frame ∙ subst A same (passes set next seq busy calls seen records tick size meaning known.0 other (passed busy refl)) in
-    record {
-      earlier = so.earlier;
-      attempt = with_frame so.attempt frame;
-      cut = cuts-more (λ (s : Seen). is_start set.functional s.meaning) seen frame so.earlier so.attempt other so.cut;
-      told = so.told;
-      none = so.none;
-      put = omega (arith, so.put, ap (λ (w : Walk). cells_of w.pieces) walk);
-    }
-
-last-cells : (set : RxSet) (tick : ℕ) (event : RxEvent) (seen : List Seen) (state : RxState) (used : Bool) (calls : List Event) (records : List SessionRecord) → HoldsIn set tick event seen state.next state.seq state.busy used calls records → CellsBy set state.seq state.busy calls (seen_so seen tick event used) records →
-    (used ≡ false → IsUnused set event state) → CellsBy set state.seq state.busy calls (seen ++ frames_in tick event) records
-last-cells set tick event seen state true calls records known so unused = so
-last-cells set tick (Came size meaning) seen state false calls records known so unused = passed-cells set tick size meaning seen state.next state.seq state.busy calls records known so (unused refl).0 (unused refl).1
-last-cells set tick Timer seen state false calls records known so unused = rw append-nil so
-last-cells set tick FcLeft seen state false calls records known so unused = rw append-nil so
-last-cells set tick RunEnd seen state false calls records known so unused = rw append-nil so
-
--- all turns
-cells-by : (set : RxSet) (turns : List RxTurn) → HasReceived set turns → CellsBy set (state_after rx_new turns).seq (state_after rx_new turns).busy (calls_by turns) (came_by frames_in turns) (records_by turns)
-cells-by set [] happened = record { told = tt; none = λ number above. refl }
-cells-by set (turn ∷ earlier) happened =
-    let old : RxState = state_after rx_new earlier in
-    let m : RxDid = turn.did in
-    let seen : List Seen = came_by frames_in earlier in
-    let known : Holds set old (calls_by earlier) m.tick seen (records_by earlier) = holds-later set old.next old.seq old.busy (calls_by earlier) (now_of earlier) m.tick seen (records_by earlier) happened.0 (holds set earlier happened.2) in
-    let Both : RxStage → List Event → List SessionRecord → Type 0 = λ stage calls records. HoldsAt set m.tick turn.event seen stage calls records × CellsAt set m.tick turn.event seen stage calls records in
-    let by : IsThrough set turn.event m (λ last. Both last (calls_by earlier ++ m.calls) (records_by earlier ++ m.records)) =
-    step-through set old turn.event m Both (λ stage done calls records effect so. (holds-effect set turn.event m.tick seen stage done calls records effect so.0, cells-effect set turn.event m.tick seen stage done calls records effect so.0 so.1)) happened.1 (calls_by earlier) (records_by earlier)
-    (holds-first set m.tick turn.event seen old.next old.seq old.busy (calls_by earlier) (records_by earlier) known, cells-by set earlier happened.2) in
-    subst (λ (s : RxState). CellsBy set s.seq s.busy (calls_by earlier ++ m.calls) (seen ++ frames_in m.tick turn.event) (records_by earlier ++ m.records)) (sym by.state)
-    (last-cells set m.tick turn.event seen by.last.state by.last.used (calls_by earlier ++ m.calls) (records_by earlier ++ m.records) by.holds.0 by.holds.1 by.unused)
-
-idle-by : (set : RxSet) (seq : ℕ) (busy : Option Reception) (calls : List Event) (seen : List Seen) (records : List SessionRecord) → busy ≡ None → CellsBy set seq busy calls seen records → IdleCells set seq calls seen records
-idle-by set seq None calls seen records is so = so
-idle-by set seq (Some busy) calls seen records is so = cc
-
--- where no reception is in progress each record tells of its session's cells
-pub cells-told : (set : RxSet) (turns : List RxTurn) → HasReceived set turns → (state_after rx_new turns).busy ≡ None → AllZip (TellsCells set (calls_by turns)) (attempts_in set.functional (came_by frames_in turns)) (records_by turns)
-cells-told set turns happened idle = (idle-by set (state_after rx_new turns).seq (state_after rx_new turns).busy (calls_by turns) (came_by frames_in turns) (records_by turns) idle (cells-by set turns happened)).told
+  -- a reception ends, with an attempt of the same counted frames
+  pub ends-cells : (set : RxSet) (seq now next : ℕ) (busy : Reception) (how : SessionResult) (tick : ℕ) (calls more : List Event) (seen after : List Seen) (records : List SessionRecord) (last : Cut Seen) (known : IsBusy set next seq busy calls now seen records) (so : BusyCells set seq busy calls seen records) →
+      ((number : ℕ) → cells_in set.path.0 number more ≡ []) → attempts_in set.functional after ≡ so.earlier ++ last ∷ [] → (walk_of set.a last).pieces ≡ (walk_of set.a so.attempt).pieces → IdleCells set seq (calls ++ more) after (records ++ ended set busy how tick ∷ [])
+  unfolding busy-keeps
+  ends-cells set seq now next busy how tick calls more seen after records last known so nothing cut same =
+      let kept : BusyCells set seq busy (calls ++ more) seen records = busy-keeps set seq now next busy calls more seen records nothing known so in
+      let r : SessionRecord = ended set busy how tick in
+      let P : List (Cut Seen) → Type 0 = λ attempts. AllZip (TellsCells set (calls ++ more)) attempts (records ++ r ∷ []) in
+      let under = (attempt-of set seq now next busy calls seen records known so).0 in
+      record {
+        told = subst P (sym cut) (zip-push (TellsCells set (calls ++ more)) so.earlier records last r kept.told (λ opened at.
+            let it : busy.opened ≡ opened = cc in
+            let Q : List Piece → Type 0 = λ pieces. AreSeen Sees opened.seq pieces busy.bytes (cells_put set (calls ++ more) opened.seq) in
+            let N : ℕ → Type 0 = λ n. AllByRecursion (λ (piece : Piece). Sees n piece.at) (drop 1 (walk_of set.a so.attempt).pieces) in
+            subst Q (sym same) (record {
+              put = (walk_of set.a so.attempt).pieces;
+              are_put = record { rest = []; are = sym (append-nil (walk_of set.a so.attempt).pieces); sum = under.bytes };
+              least = omega (arith, kept.put, ap (λ (o : OpenedAt). cells_put set (calls ++ more) o.seq) it);
+              found = subst N (ap (λ (o : OpenedAt). o.seq) it) so.found;
+            })));
+        none = kept.none;
+      }

@@ -85,21 +85,32 @@ fn message_text(alloc: Global, row: LongRow, leaves: bool) -> Result<Bytes, Fail
     Ok(text)
 }
 
-/// Fails unless the message comes whole and is sent whole.
-fn try_long<R: Threads + Sync>(rt: &R, alloc: Global, row: LongRow) -> Result<(), Fail> {
-    let (_, _, _, _, report) = row;
+/// Fails unless a run over this log of can0 gives this output of can1 and this report.
+fn expect_run<'a, R: Threads + Sync>(
+    rt: &R,
+    alloc: Global,
+    log: &'a [u8],
+    output: &'a [u8],
+    report: &'a [u8],
+) -> Result<(), Fail> {
     let configuration = changed(alloc, NINE_CELLS)?;
-    let log = message_text(alloc, row, false)?;
-    let output = message_text(alloc, row, true)?;
-    let mut depot = depot_with(alloc, configuration.as_str(), [log.items(), IN_TIME])?;
+    let mut depot = depot_with(alloc, configuration.as_str(), [log, IN_TIME])?;
     let mut say = MemSink::new(alloc);
     let wanted = Outcome {
         code: 0,
         said: DONE,
         names: ["can1.out", "gw.report", "can2.out"],
-        left: [Some(output.items()), Some(report), None],
+        left: [Some(output), Some(report), None],
     };
     expect(rt, alloc, RUN, &mut depot, &mut say, wanted)
+}
+
+/// Fails unless the message comes whole and is sent whole.
+fn try_long<R: Threads + Sync>(rt: &R, alloc: Global, row: LongRow) -> Result<(), Fail> {
+    let (_, _, _, _, report) = row;
+    let log = message_text(alloc, row, false)?;
+    let output = message_text(alloc, row, true)?;
+    expect_run(rt, alloc, log.items(), output.items(), report)
 }
 
 #[test]

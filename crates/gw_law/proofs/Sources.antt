@@ -35,6 +35,7 @@ use Rattle.gw_law.proofs.Readers.{Sees, all-see, reader-law}
 use Rattle.gw_law.proofs.Rooms.{room-law}
 use Rattle.gw_law.proofs.runs.Fronts.{TurnIn}
 use Rattle.gw_law.proofs.runs.Moments.{rx-within}
+use Rattle.gw_law.proofs.runs.RoomKept.{looks-of}
 
 -- the records, in turns up to a tick
 pub sessions-of : (set : RxSet) (last : ℕ) (turns : List RxTurn) → HasReceived set turns → AllByRecursion (TurnIn (λ (t : ℕ). t ≤ last)) turns → AllByRecursion (λ (told : SessionRecord). (told.chan ≡ set.chan) × (told.end.0 ≤ last)) (records_by turns)
@@ -77,7 +78,7 @@ source-of a d windows v place r run whole here there plan is =
       source = subst (λ (c : SourceChannel). SourceLaw c.rx.chan.0 c.rx.a c.rx.functional c.seen c.sessions) is.tells (source_law_of_run run b is.run_is);
       records = subst SessionRecords is.tells (records-of run b is.run_is);
       emission = subst ControlEmission is.tells (emission-of run b is.run_is);
-      receptions = subst (ReceptionLaw full) is.tells (law-fuller run.full full is.full (source_of b run) (reception_law_of run b is.run_is limits));
+      receptions = subst (ReceptionLaw full) is.tells (law-fuller run.full full is.full (source_of b run) (reception_law_of run b is.run_is limits (looks-of a d windows v place run whole there is.run_is)));
       rooms = subst (RoomLaw a.plan.groups) is.tells (room-law a d windows v place run whole there is.run_is (Sees a d windows v place r run whole here there is) b (all-see a d windows v place r run whole here there is));
       readers = reader-law a d windows v place r run whole here there is;
     }

@@ -17,3 +17,5 @@ pub mod Ticks
 pub mod Timing
 pub mod Gone
 pub mod AtEnd
+pub mod Rooms
+pub mod RoomSteps

@@ -36,10 +36,21 @@ IsOver full set frames left (Continue block) tick = (0 < block) × HaveCome full
 IsOver full set frames left Wait tick = left + set.n_br ≤ tick
 IsOver full set frames left Refuse tick = ⊥
 
+-- a flow control that left lets no frame come any more: it asked to wait, or its block came by a tick
+abbrev pub IsSpent : (full : ℕ → Bool) → List Piece → (left : ℕ) → ControlKind → (tick : ℕ) → Type 0
+IsSpent full frames left (Continue block) tick = (0 < block) × HaveCome full frames block left tick
+IsSpent full frames left Wait tick = Unit {0}
+IsSpent full frames left Refuse tick = ⊥
+
 -- a further flow control may leave in that tick
 abbrev pub MayFollow : (full : ℕ → Bool) → RxSet → List Piece → List ControlLeft → (tick : ℕ) → Type 0
 MayFollow full set frames [] tick = Unit {0}
 MayFollow full set frames (control ∷ earlier) tick = IsOver full set frames control.tick control.kind tick
+
+-- none lets a frame come any more: none left yet, the newest one asked to wait, or its block came
+abbrev pub LetsNoneCome : (full : ℕ → Bool) → List Piece → List ControlLeft → (tick : ℕ) → Type 0
+LetsNoneCome full frames [] tick = Unit {0}
+LetsNoneCome full frames (control ∷ earlier) tick = IsSpent full frames control.tick control.kind tick
 
 -- each one leaves once what the one before it asks for is over
 abbrev pub FollowOneAnother : (full : ℕ → Bool) → RxSet → List Piece → List ControlLeft → Type 0

@@ -1,10 +1,11 @@
 -- The laws of a receiver's runs, as their functions state them: whatever the receiver, its bus and its channel.
+use Rattle.receiver_law.specs.Looks.{LooksKeepRoom}
 use Rattle.std.specs.Prelude.{◌≡◌, ℕ, ◌≤◌, List, None, Some}
 use Rattle.gw_base.specs.Cell.{bytes_of}
 use Rattle.hub_core.specs.Turns.{calls_by, came_by, records_by, state_after}
 use Rattle.hub_core.specs.View.{Session, empty_view, grows, session_at}
 use Rattle.receiver_law.specs.ReceptionCauses.{ReceptionLaw}
-use Rattle.receiver_law.specs.RxRun.{IsRxRun, RxRun, source_of}
+use Rattle.receiver_law.specs.RxRun.{IsRxRun, RxRun, source_of, turns_in}
 use Rattle.receiver_law.specs.Source.{SourceLaw, StoredLaw}
 use Rattle.tp_receiver.specs.Runs.{HasReceived, frames_in, put_in}
 use Rattle.tp_receiver.specs.State.{RxTurn, rx_new}
@@ -35,6 +36,6 @@ pub record HasLimits (set : RxSet) : Type 0 where
   pub n_br : 1 ≤ set.n_br
   pub n_cr : 1 ≤ set.n_cr
 
--- in each run the flow controls that leave are those of the receptions, and each record comes of its cause
+-- in each run whose looks keep the room, the flow controls that leave are those of the receptions, and each record comes of its cause
 abbrev pub RunsHaveReceptions : Type 0
-RunsHaveReceptions = (run : RxRun) (budget : ℕ) → IsRxRun run → HasLimits run.set → ReceptionLaw run.full (source_of budget run)
+RunsHaveReceptions = (run : RxRun) (budget : ℕ) → IsRxRun run → HasLimits run.set → LooksKeepRoom run.set (calls_by (turns_in run)) → ReceptionLaw run.full (source_of budget run)

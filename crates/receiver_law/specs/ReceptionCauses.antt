@@ -15,7 +15,7 @@ use Rattle.tp_attempts.specs.Seen.{Seen}
 use Rattle.tp_attempts.specs.Walk.{Piece, joined, last_place, walk_of}
 use Rattle.tp_receiver.specs.declared.set.RxSet.{RxSet}
 use Rattle.receiver_law.specs.Channel.{SourceChannel}
-use Rattle.receiver_law.specs.FlowControls.{IsAnswered, IsFullFrom, IsLate}
+use Rattle.receiver_law.specs.FlowControls.{IsAnswered, IsFullFrom, IsLate, LetsNoneCome}
 use Rattle.receiver_law.specs.Receptions.{Continue, ControlLeft, Received, Wait, controls_of, counted, frames_of, last_by, waits_in, written_as}
 
 -- the next start of the channel has its record, which begins in that tick
@@ -71,12 +71,13 @@ pub data IsUnread (set : RxSet) (attempt : Cut Seen) (one : Received) : Type 0 w
   FoundByFrame : (piece : Piece) → IsNextIn (walk_of set.a attempt).pieces one.told.bytes one.told.end.0 piece → IsUnread set attempt one
   FoundByGrant : (put : List Piece) → ArePut (walk_of set.a attempt).pieces one.told.bytes put → IsAskedIn set put one.told.begin.0 one.told.end.0 one.controls → IsUnread set attempt one
 
--- the next counted frame takes so many cells, and fewer had room
-pub record IsTooFull (set : RxSet) (attempt : Cut Seen) (one : Received) (room need : ℕ) : Type 0 where
+-- the next counted frame takes so many cells, and fewer had room; it wasn't let come
+pub record IsTooFull (full : ℕ → Bool) (set : RxSet) (attempt : Cut Seen) (one : Received) (room need : ℕ) : Type 0 where
   pub piece : Piece
   pub next : IsNextIn (walk_of set.a attempt).pieces one.told.bytes one.told.end.0 piece
   pub need_is : need ≡ cells_for (length piece.bytes)
   pub little : room < need
+  pub none : LetsNoneCome full (drop 1 next.put) one.controls one.told.end.0
 
 -- a consecutive frame is awaited since the newest flow control left that lets frames come, or since the last counted frame
 pub record IsAwaited (set : RxSet) (attempt : Cut Seen) (one : Received) (since last : ℕ) : Type 0 where
@@ -107,7 +108,7 @@ HasCause full r attempt one (Overflow change free need) = Unit {0}
 HasCause full r attempt one (WrongSn want got) = Unit {0}
 HasCause full r attempt one (RxTimeout limit) = IsOverLimit full r.rx attempt one limit
 HasCause full r attempt one Restarted = NextBegins r.sessions one.told.n one.told.end.0
-HasCause full r attempt one (NoRoom room need) = IsTooFull r.rx attempt one room need
+HasCause full r attempt one (NoRoom room need) = IsTooFull full r.rx attempt one room need
 HasCause full r attempt one WaitOver = IsWaitOver r.rx attempt one
 HasCause full r attempt one NoReaders = IsUnread r.rx attempt one
 HasCause full r attempt one Cancelled = ⊥

@@ -1,6 +1,9 @@
 -- A consecutive frame that comes, by the rows of the receiver's table.
-use Rattle.std.proofs.Common.{◌≡◌, inl, ℕ, ◌+◌, ◌<◌, ◌≤◌, Bool, false, Option, Some, None, List, [], ◌∷◌, ◌++◌, length, take, refl, ap, sym, ◌∙◌, subst, arith, append-nil}
-use Rattle.std.proofs.lemmas.List.{length-append}
+use Rattle.receiver_law.proofs.receptions.RoomSteps.{IsTight}
+use Rattle.receiver_law.specs.FlowControls.{LetsNoneCome}
+use Rattle.flow_plan.specs.Cells.{cells_for}
+use Rattle.std.proofs.Common.{◌≡◌, inl, ℕ, ◌+◌, ◌<◌, ◌≤◌, Bool, false, Option, Some, None, List, [], ◌∷◌, ◌++◌, length, take, refl, ap, sym, ◌∙◌, subst, arith, append-nil, drop}
+use Rattle.std.proofs.lemmas.List.{length-append, length-take-le}
 use Rattle.hub_core.specs.View.{Event}
 use Rattle.hub_core.specs.declared.record.SessionRecord.{SessionRecord}
 use Rattle.hub_core.specs.declared.record.SessionResult.TheVariants.{Whole, WrongSn, NoRoom, NoReaders}
@@ -19,7 +22,7 @@ use Rattle.tp_unit.specs.declared.shape.Shape.{Shape}
 use Rattle.receiver_law.specs.ReceptionCauses.{FoundByFrame}
 use Rattle.receiver_law.specs.Receptions.{ControlLeft, Received}
 use Rattle.receiver_law.proofs.receptions.Asked.{asked-so, ends-so, finish, lies-over}
-use Rattle.receiver_law.proofs.receptions.Ends.{going-same, next-in, settles, under-found, under-same}
+use Rattle.receiver_law.proofs.receptions.Ends.{going-same, next-in, settles, under-found, under-same, lets-none}
 use Rattle.receiver_law.proofs.receptions.Frames.{going-asks, going-more, under-more}
 use Rattle.receiver_law.proofs.receptions.Going.{IsGoing}
 use Rattle.receiver_law.proofs.receptions.Settled.{starts_of}
@@ -66,10 +69,10 @@ module _ (full : ℕ → Bool) (set : RxSet) (shape : Shape) where
       subst (λ (r : Option ℕ). BoxSo set tick tick r (box_then (revoking busy.wait) lies) so.parts) (sym so.none) (lies-over full set tick tick lies busy so.attempt so.own so.going)
 
   -- the due bytes of a consecutive frame, whose number is right
-  carries : (old : RxState) (busy : Reception) (size number : ℕ) (bytes : List ℕ) (m : RxDid) (next seq : ℕ) (calls : List Event) (before : ℕ) (lies : Option Meaning) (seen : List Seen) (records : List SessionRecord) (written : List Written) → 1 ≤ set.n_cr → 1 ≤ set.n_ar → IsBusy set next seq busy calls before seen records →
+  carries : (old : RxState) (busy : Reception) (size number : ℕ) (bytes : List ℕ) (m : RxDid) (next seq : ℕ) (calls : List Event) (before : ℕ) (lies : Option Meaning) (seen : List Seen) (records : List SessionRecord) (written : List Written) → 1 ≤ set.n_cr → 1 ≤ set.n_ar → old.busy ≡ Some busy → IsTight set old m → IsBusy set next seq busy calls before seen records →
       busy.bytes < busy.len → size ≤ busy.size → busy_due set.a busy ≤ length bytes → number ≡ busy.number → BusySo full set shape m.tick m.tick old.refusing lies busy seen records written → Carries set (idle old) busy (take (busy_due set.a busy) bytes) m →
       SoFar full set shape m.tick m.tick m.new (box_then m.act lies) (seen ++ consecutive_at m.tick size number bytes ∷ []) (records ++ m.records) written
-  carries old busy size number bytes m next seq calls before lies seen records written some some_ar known more short enough right so row = by row
+  carries old busy size number bytes m next seq calls before lies seen records written some some_ar was tight known more short enough right so row = by row
     where
       frame : Seen
       frame = consecutive_at m.tick size number bytes
@@ -111,10 +114,13 @@ module _ (full : ℕ → Bool) (set : RxSet) (shape : Shape) where
           (under-found full set m.tick busy so.attempt (with_frame so.attempt frame) so.going.start piece so.going.frames so.own refl counts so.going.under)
           (FoundByFrame piece (next-in (walk_of set.a so.attempt).pieces busy.bytes m.tick piece (walk_of set.a (with_frame so.attempt frame)).pieces counts under_way.bytes refl))) box told row.row
       by (TooLittleRoom room readers need readers_some need_is little row) =
+          let taken : length due ≡ busy_due set.a busy = length-take-le (busy_due set.a busy) bytes enough in
+          let left : busy.left ≡ Some 0 = tight busy room readers row.rest was row.calls (omega (arith, little, need_is, ap cells_for taken)) in
+          let none : LetsNoneCome full (drop 1 (walk_of set.a so.attempt).pieces) so.own m.tick = subst (λ (f : List Piece). LetsNoneCome full f so.own m.tick) (sym (ap (drop 1) so.going.under.pieces)) (lets-none full set m.tick m.tick lies busy so.attempt so.own left so.going) in
           ends-so full set shape m.tick (idle old) busy (NoRoom room need) (record m { calls = row.rest }) lies (seen ++ frame ∷ []) records written so.earlier (with_frame so.attempt frame) so.own so.parts cut refl (inl so.none)
           (settles full set m.tick m.tick starts busy (with_frame so.attempt frame) so.going.start (so.going.frames ++ piece ∷ []) so.own (NoRoom room need) refl refl (omega arith) so.first
           (under-found full set m.tick busy so.attempt (with_frame so.attempt frame) so.going.start piece so.going.frames so.own refl counts so.going.under)
-          (record { piece = piece; next = next-in (walk_of set.a so.attempt).pieces busy.bytes m.tick piece (walk_of set.a (with_frame so.attempt frame)).pieces counts under_way.bytes refl; need_is = need_is; little = little })) box told row.row
+          (record { piece = piece; next = next-in (walk_of set.a so.attempt).pieces busy.bytes m.tick piece (walk_of set.a (with_frame so.attempt frame)).pieces counts under_way.bytes refl; need_is = need_is; little = little; none = none })) box told row.row
       by (Adds room readers cells readers_some fits packed other row) =
           finish full set shape m.tick m (busy_with (idle old) (gone_on busy (length due) m.tick)) Keeps lies (seen ++ frame ∷ []) records [] written row.row.row.new row.row.row.act row.row.row.records
           (subst (λ (r : List SessionRecord). BusySo full set shape m.tick m.tick old.refusing lies (gone_on busy (length due) m.tick) (seen ++ frame ∷ []) r written) (sym (append-nil records))
@@ -130,39 +136,39 @@ module _ (full : ℕ → Bool) (set : RxSet) (shape : Shape) where
           (sym (ap (last_place busy.begin) counts ∙ last_place-more busy.begin (walk_of set.a so.attempt).pieces piece), omega (arith, whole, sum, under_way.len, len-walk_of set.a so.attempt, ap (λ (w : Walk). w.len) walk))) box told row.row.row
 
   -- a consecutive frame, where a reception is in progress
-  continues : (old : RxState) (busy : Reception) (size number : ℕ) (bytes : List ℕ) (m : RxDid) (next seq : ℕ) (calls : List Event) (before : ℕ) (lies : Option Meaning) (seen : List Seen) (records : List SessionRecord) (written : List Written) → 1 ≤ set.n_cr → 1 ≤ set.n_ar → IsBusy set next seq busy calls before seen records →
+  continues : (old : RxState) (busy : Reception) (size number : ℕ) (bytes : List ℕ) (m : RxDid) (next seq : ℕ) (calls : List Event) (before : ℕ) (lies : Option Meaning) (seen : List Seen) (records : List SessionRecord) (written : List Written) → 1 ≤ set.n_cr → 1 ≤ set.n_ar → old.busy ≡ Some busy → IsTight set old m → IsBusy set next seq busy calls before seen records →
       busy.bytes < busy.len → BusySo full set shape m.tick m.tick old.refusing lies busy seen records written → Continues set (idle old) busy size number bytes m →
       SoFar full set shape m.tick m.tick m.new (box_then m.act lies) (seen ++ consecutive_at m.tick size number bytes ∷ []) (records ++ m.records) written
-  continues old busy size number bytes m next seq calls before lies seen records written some some_ar known more so (TooLong long row) =
+  continues old busy size number bytes m next seq calls before lies seen records written some some_ar was tight known more so (TooLong long row) =
       let frame : Seen = consecutive_at m.tick size number bytes in
       let under_way = under set next seq busy calls before seen records known so.earlier so.attempt so.cut in
       finish full set shape m.tick m (busy_with (idle old) busy) Keeps lies (seen ++ frame ∷ []) records [] written row.new row.act row.records
       (subst (λ (r : List SessionRecord). BusySo full set shape m.tick m.tick old.refusing lies busy (seen ++ frame ∷ []) r written) (sym (append-nil records))
       (busy-frame m.tick m.tick old.refusing lies busy busy seen records written frame refl so
       (going-same full set m.tick m.tick lies busy so.attempt (with_frame so.attempt frame) so.own (walk-long set busy calls before m.tick size number bytes so.attempt under_way long) so.going)))
-  continues old busy size number bytes m next seq calls before lies seen records written some some_ar known more so (TooShort short row) =
+  continues old busy size number bytes m next seq calls before lies seen records written some some_ar was tight known more so (TooShort short row) =
       let frame : Seen = consecutive_at m.tick size number bytes in
       let under_way = under set next seq busy calls before seen records known so.earlier so.attempt so.cut in
       finish full set shape m.tick m (busy_with (idle old) busy) Keeps lies (seen ++ frame ∷ []) records [] written row.new row.act row.records
       (subst (λ (r : List SessionRecord). BusySo full set shape m.tick m.tick old.refusing lies busy (seen ++ frame ∷ []) r written) (sym (append-nil records))
       (busy-frame m.tick m.tick old.refusing lies busy busy seen records written frame refl so
       (going-same full set m.tick m.tick lies busy so.attempt (with_frame so.attempt frame) so.own (walk-short set busy calls before m.tick size number bytes so.attempt under_way short) so.going)))
-  continues old busy size number bytes m next seq calls before lies seen records written some some_ar known more so (WrongNumber looked other row) =
+  continues old busy size number bytes m next seq calls before lies seen records written some some_ar was tight known more so (WrongNumber looked other row) =
       let frame : Seen = consecutive_at m.tick size number bytes in
       let under_way = under set next seq busy calls before seen records known so.earlier so.attempt so.cut in
       ends-so full set shape m.tick (idle old) busy (WrongSn busy.number number) m lies (seen ++ frame ∷ []) records written so.earlier (with_frame so.attempt frame) so.own so.parts (frame-cut seen frame so.earlier so.attempt refl so.cut) refl (inl so.none)
       (settles full set m.tick m.tick (starts_of (attempts_in set.functional (seen ++ frame ∷ []))) busy (with_frame so.attempt frame) so.going.start so.going.frames so.own (WrongSn busy.number number) refl refl (omega arith) so.first
       (under-same full set m.tick busy so.attempt (with_frame so.attempt frame) so.going.start so.going.frames so.own (walk-ends set busy calls before m.tick size number bytes so.attempt under_way more looked.short looked.enough other) so.going.under) tt)
       (empty-box m.tick old.refusing lies busy seen records written so) (frame-told m.tick m.tick seen frame so.earlier records written so.own so.parts refl so.told) row
-  continues old busy size number bytes m next seq calls before lies seen records written some some_ar known more so (RightNumber looked right row) =
-      carries old busy size number bytes m next seq calls before lies seen records written some some_ar known more looked.short looked.enough right so row
+  continues old busy size number bytes m next seq calls before lies seen records written some some_ar was tight known more so (RightNumber looked right row) =
+      carries old busy size number bytes m next seq calls before lies seen records written some some_ar was tight known more looked.short looked.enough right so row
 
-  pub consecutive : (old : RxState) (busy : Option Reception) (size number : ℕ) (bytes : List ℕ) (m : RxDid) (calls : List Event) (before : ℕ) (lies : Option Meaning) (seen : List Seen) (records : List SessionRecord) (written : List Written) → 1 ≤ set.n_cr → 1 ≤ set.n_ar → old.busy ≡ busy →
+  pub consecutive : (old : RxState) (busy : Option Reception) (size number : ℕ) (bytes : List ℕ) (m : RxDid) (calls : List Event) (before : ℕ) (lies : Option Meaning) (seen : List Seen) (records : List SessionRecord) (written : List Written) → 1 ≤ set.n_cr → 1 ≤ set.n_ar → old.busy ≡ busy → IsTight set old m →
       HoldsBy set old.next old.seq busy calls before seen records → SoBy full set shape m.tick m.tick old.refusing lies busy seen records written → ConsecutiveRow set old size number bytes busy m →
       SoFar full set shape m.tick m.tick m.new (box_then m.act lies) (seen ++ consecutive_at m.tick size number bytes ∷ []) (records ++ m.records) written
-  consecutive old None size number bytes m calls before lies seen records written some some_ar is known so row =
+  consecutive old None size number bytes m calls before lies seen records written some some_ar is tight known so row =
       let frame : Seen = consecutive_at m.tick size number bytes in
       finish full set shape m.tick m old Keeps lies (seen ++ frame ∷ []) records [] written row.new row.act row.records
       (subst (λ (b : Option Reception). SoBy full set shape m.tick m.tick old.refusing lies b (seen ++ frame ∷ []) (records ++ []) written) (sym is)
       (subst (λ (r : List SessionRecord). IdleSo full set shape m.tick m.tick old.refusing lies (seen ++ frame ∷ []) r written) (sym (append-nil records)) (idle-frame full set shape m.tick m.tick old.refusing lies seen records written frame refl (omega arith) so)))
-  consecutive old (Some busy) size number bytes m calls before lies seen records written some some_ar is known so row = continues old busy size number bytes m old.next old.seq calls before lies seen records written some some_ar known.0 known.1 so row
+  consecutive old (Some busy) size number bytes m calls before lies seen records written some some_ar is tight known so row = continues old busy size number bytes m old.next old.seq calls before lies seen records written some some_ar is tight known.0 known.1 so row

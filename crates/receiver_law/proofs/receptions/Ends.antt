@@ -1,9 +1,10 @@
 -- A reception ends, and its record comes of its cause.
-use Rattle.std.proofs.Common.{◌≡◌, ◌⊎◌, inl, inr, suc, zero, ℕ, ◌+◌, ◌<◌, ◌≤◌, Bool, true, false, if◌then◌else◌, drop, Option, Some, List, [], ◌∷◌, ◌++◌, length, refl, ap, sym, ◌∙◌, subst, arith, append-nil}
+use Rattle.hub_core.specs.declared.record.RxWait.{RxWait}
+use Rattle.std.proofs.Common.{◌≡◌, ◌⊎◌, inl, inr, suc, zero, ℕ, ◌+◌, ◌<◌, ◌≤◌, Bool, true, false, if◌then◌else◌, drop, Option, Some, List, [], ◌∷◌, ◌++◌, length, refl, ap, sym, ◌∙◌, subst, arith, append-nil, None}
 use Rattle.std.specs.List.{AllByRecursion}
 use Rattle.gw_base.proofs.Lists.{all-push, all-weaker}
 use Rattle.hub_core.specs.declared.record.RxLimit.TheVariants.{Box as BoxLimit}
-use Rattle.hub_core.specs.declared.record.RxWait.TheVariants.{Box, Cf}
+use Rattle.hub_core.specs.declared.record.RxWait.TheVariants.{Box, Cf, Room}
 use Rattle.hub_core.specs.declared.record.SessionResult.{SessionResult}
 use Rattle.hub_core.specs.declared.record.SessionResult.TheVariants.{RxTimeout, WaitOver, NoReaders}
 use Rattle.tp_attempts.specs.Cuts.{Cut}
@@ -13,12 +14,12 @@ use Rattle.tp_receiver.specs.Receptions.{ended}
 use Rattle.tp_receiver.specs.State.{Reception}
 use Rattle.tp_receiver.specs.declared.set.RxSet.{RxSet}
 use Rattle.tp_unit.specs.Unit.{Meaning}
-use Rattle.receiver_law.specs.FlowControls.{AreAnswers, IsFirst, IsLate, bound_of}
+use Rattle.receiver_law.specs.FlowControls.{AreAnswers, IsFirst, IsLate, bound_of, IsOver, IsSpent, LetsNoneCome, MayFollow}
 use Rattle.receiver_law.specs.ReceptionCauses.{ArePut, FoundByGrant, IsBoxLate, IsNextIn, IsUnread, IsWaitOver}
-use Rattle.receiver_law.specs.Receptions.{Continue, ControlLeft, Received, counted, frames_of, last_by}
+use Rattle.receiver_law.specs.Receptions.{Continue, ControlLeft, Received, counted, frames_of, last_by, ControlKind, Wait, Refuse}
 use Rattle.receiver_law.specs.Source.{is_overflow, is_run_end}
 use Rattle.receiver_law.proofs.receptions.Answers.{answers-more}
-use Rattle.receiver_law.proofs.receptions.Counting.{ComeBy, last-newest}
+use Rattle.receiver_law.proofs.receptions.Counting.{ComeBy, last-newest, counted-later}
 use Rattle.receiver_law.proofs.receptions.Frames.{all-left}
 use Rattle.receiver_law.proofs.receptions.Going.{IsAsking, IsBoxed, IsForFrame, IsGoing, IsUnder, LetsYet, WaitsFor}
 use Rattle.receiver_law.proofs.receptions.Passing.{fewer-came}
@@ -73,8 +74,32 @@ pub going-same : (full : ℕ → Bool) (set : RxSet) (tick over : ℕ) (lies : O
 going-same full set tick over lies busy attempt next controls is so = record { start = so.start; frames = so.frames; under = under-same full set tick busy attempt next so.start so.frames controls is so.under; waits_for = so.waits_for }
 
 -- the next frame finds too little room, or that no destination reads
-pub next-in : (pieces : List Piece) (bytes tick : ℕ) (piece : Piece) (all : List Piece) → all ≡ pieces ++ piece ∷ [] → bytes ≡ length (joined pieces) → piece.at ≡ tick → IsNextIn all bytes tick piece
+abbrev pub next-in : (pieces : List Piece) (bytes tick : ℕ) (piece : Piece) (all : List Piece) → all ≡ pieces ++ piece ∷ [] → bytes ≡ length (joined pieces) → piece.at ≡ tick → IsNextIn all bytes tick piece
 next-in pieces bytes tick piece all are sum at = record { put = pieces; rest = []; are = are; sum = sum; at = at }
+
+-- where no frame is let come of a reception in progress, none of its flow controls does
+spent-later : (full : ℕ → Bool) (set : RxSet) (frames : List Piece) (left : ℕ) (kind : ControlKind) (tick later : ℕ) → tick ≤ later → IsOver full set frames left kind tick → IsSpent full frames left kind later
+spent-later full set frames left (Continue block) tick later le is = (is.0, record { from = is.1.from; by = is.1.by; boxed = is.1.boxed; enough = omega (arith, is.1.enough, counted-later is.1.from tick later frames le) })
+spent-later full set frames left Wait tick later le is = tt
+spent-later full set frames left Refuse tick later le is = is
+
+none-later : (full : ℕ → Bool) (set : RxSet) (frames : List Piece) (controls : List ControlLeft) (tick later : ℕ) → tick ≤ later → MayFollow full set frames controls tick → LetsNoneCome full frames controls later
+none-later full set frames [] tick later le is = tt
+none-later full set frames (control ∷ earlier) tick later le is = spent-later full set frames control.tick control.kind tick later le is
+
+not-yet : (from by waits : ℕ) (kind : ControlKind) (left : Option ℕ) (frames : List Piece) → left ≡ Some 0 → LetsYet from by kind left waits frames → kind ≡ Wait
+not-yet from by waits (Continue zero) left frames is lets = let clash : None ≡ Some 0 = sym lets.0 ∙ is in cc
+not-yet from by waits (Continue (suc block)) left frames is lets = let both : Some lets.0.rest ≡ Some 0 = sym lets.0.left_is ∙ is in let none : lets.0.rest ≡ 0 = cc in absurd (omega (arith, none, lets.0.some))
+not-yet from by waits Wait left frames is lets = refl
+not-yet from by waits Refuse left frames is lets = absurd lets
+
+pub lets-none : (full : ℕ → Bool) (set : RxSet) (tick due : ℕ) (lies : Option Meaning) (busy : Reception) (attempt : Cut Seen) (controls : List ControlLeft) → busy.left ≡ Some 0 → (so : IsGoing full set tick due lies busy attempt controls) → LetsNoneCome full so.frames controls tick
+lets-none full set tick due lies busy attempt controls none so = of busy.wait so.waits_for
+  where
+    of : (wait : RxWait) → WaitsFor full set tick due lies busy so.start so.frames controls wait → LetsNoneCome full so.frames controls tick
+    of Box waits = none-later full set so.frames controls busy.since tick waits.by waits.may
+    of Room waits = subst (λ (c : List ControlLeft). LetsNoneCome full so.frames c tick) (sym waits.newest) tt
+    of Cf waits = let clash : Continue waits.block ≡ Wait = not-yet waits.from waits.left busy.waits (Continue waits.block) busy.left so.frames none waits.lets in absurd cc
 
 -- a flow control that is asked for finds that no destination reads, or that too many asked to wait
 asked-put : (set : RxSet) (attempt : Cut Seen) (busy : Reception) (start : Piece) (frames : List Piece) → (walk_of set.a attempt).pieces ≡ start ∷ frames → busy.bytes ≡ length (joined (walk_of set.a attempt).pieces) → ArePut (walk_of set.a attempt).pieces busy.bytes (start ∷ frames)

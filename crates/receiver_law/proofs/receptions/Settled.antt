@@ -49,7 +49,7 @@ CauseSo full set over starts attempt one (Overflow change free need) = Unit {0}
 CauseSo full set over starts attempt one (WrongSn want got) = Unit {0}
 CauseSo full set over starts attempt one (RxTimeout limit) = LimitSo full set over attempt one limit
 CauseSo full set over starts attempt one Restarted = slice_get starts (one.told.n + 1) ≡ Some one.told.end.0
-CauseSo full set over starts attempt one (NoRoom room need) = IsTooFull set attempt one room need
+CauseSo full set over starts attempt one (NoRoom room need) = IsTooFull full set attempt one room need
 CauseSo full set over starts attempt one WaitOver = IsWaitOver set attempt one
 CauseSo full set over starts attempt one NoReaders = IsUnread set attempt one
 CauseSo full set over starts attempt one Cancelled = ⊥
@@ -184,6 +184,7 @@ late-more set frames more tick (Some control) all late = of control.kind late
     of Refuse late = late
 
 cause-frame : (full : ℕ → Bool) (set : RxSet) (over : ℕ) (starts : List ℕ) (frame : Seen) (attempt : Cut Seen) (one : Received) (result : SessionResult) → over ≤ frame.at → CauseSo full set over starts attempt one result → CauseSo full set over starts (with_frame attempt frame) one result
+unfolding next-more
 cause-frame full set over starts frame attempt one Whole by so =
     let P : Walk → Type 0 = λ w. (one.told.end.0 ≡ last_place one.told.begin.0 w.pieces) × (w.len ≤ length (joined w.pieces)) in
     subst P (sym (walk_of-more set.a attempt frame ∙ look-full set.a (walk_of set.a attempt) frame.at frame.size frame.meaning so.1)) so
@@ -195,7 +196,7 @@ cause-frame full set over starts frame attempt one (RxTimeout CfLimit) by so =
     let end : ℕ = one.told.end.0 in
     (subst (λ (f : List Piece). IsLate set f (last_by end one.controls) end) (sym on.frames) (late-more set (frames_of set.a attempt) on.more end (last_by end one.controls) (from-later (end + 1) frame.at on.more (omega (arith, so.1, by)) on.late) so.0), so.1)
 cause-frame full set over starts frame attempt one Restarted by so = so
-cause-frame full set over starts frame attempt one (NoRoom room need) by so = record { piece = so.piece; next = next-more set.a attempt frame one.told.bytes one.told.end.0 so.piece so.next; need_is = so.need_is; little = so.little }
+cause-frame full set over starts frame attempt one (NoRoom room need) by so = record { piece = so.piece; next = next-more set.a attempt frame one.told.bytes one.told.end.0 so.piece so.next; need_is = so.need_is; little = so.little; none = so.none }
 cause-frame full set over starts frame attempt one WaitOver by so = record { put = so.put; are_put = put-more set.a attempt frame one.told.bytes so.put so.are_put; many = so.many; asked = so.asked }
 cause-frame full set over starts frame attempt one NoReaders by (FoundByFrame piece next) = FoundByFrame piece (next-more set.a attempt frame one.told.bytes one.told.end.0 piece next)
 cause-frame full set over starts frame attempt one NoReaders by (FoundByGrant put are asked) = FoundByGrant put (put-more set.a attempt frame one.told.bytes put are) asked

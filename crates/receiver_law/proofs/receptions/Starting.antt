@@ -1,4 +1,5 @@
 -- A start that comes, by the rows of the receiver's table.
+use Rattle.receiver_law.proofs.receptions.RoomSteps.{IsTight}
 use Rattle.std.proofs.Common.{◌≡◌, inl, inr, ℕ, ◌+◌, ◌≤◌, Bool, true, false, not, Option, Some, None, List, [], ◌∷◌, ◌++◌, length, refl, ap, sym, ◌∙◌, subst, arith, append-nil, append_assoc}
 use Rattle.std.specs.Prelude.{slice_get}
 use Rattle.std.proofs.lemmas.List.{length-append, length-map, same_from_push}
@@ -163,12 +164,12 @@ module _ (full : ℕ → Bool) (set : RxSet) (shape : Shape) where
   first old size len bytes false m calls before lies seen records written some is known so row = starts old size (FirstFrame len bytes) m calls before lies seen records written some (ap not is) known so row
 
   -- a frame
-  pub came : (old : RxState) (size : ℕ) (meaning : Meaning) (m : RxDid) (calls : List Event) (before : ℕ) (lies : Option Meaning) (seen : List Seen) (records : List SessionRecord) (written : List Written) → 1 ≤ set.n_cr → 1 ≤ set.n_ar → HoldsBy set old.next old.seq old.busy calls before seen records →
+  pub came : (old : RxState) (size : ℕ) (meaning : Meaning) (m : RxDid) (calls : List Event) (before : ℕ) (lies : Option Meaning) (seen : List Seen) (records : List SessionRecord) (written : List Written) → 1 ≤ set.n_cr → 1 ≤ set.n_ar → IsTight set old m → HoldsBy set old.next old.seq old.busy calls before seen records →
       SoFar full set shape m.tick m.tick old lies seen records written → RxStep set old (Came size meaning) m → SoFar full set shape m.tick m.tick m.new (box_then m.act lies) (seen ++ record { at = m.tick; size = size; meaning = meaning } ∷ []) (records ++ m.records) written
-  came old size (SingleFrame bytes) m calls before lies seen records written some some_ar known so row = starts old size (SingleFrame bytes) m calls before lies seen records written some_ar refl known so row
-  came old size (FirstFrame len bytes) m calls before lies seen records written some some_ar known so row = first old size len bytes set.functional m calls before lies seen records written some_ar refl known so row
-  came old size (ConsecutiveFrame number bytes) m calls before lies seen records written some some_ar known so row = consecutive full set shape old old.busy size number bytes m calls before lies seen records written some some_ar refl known so row
-  came old size (FlowControl status block_size separation) m calls before lies seen records written some some_ar known so row =
+  came old size (SingleFrame bytes) m calls before lies seen records written some some_ar tight known so row = starts old size (SingleFrame bytes) m calls before lies seen records written some_ar refl known so row
+  came old size (FirstFrame len bytes) m calls before lies seen records written some some_ar tight known so row = first old size len bytes set.functional m calls before lies seen records written some_ar refl known so row
+  came old size (ConsecutiveFrame number bytes) m calls before lies seen records written some some_ar tight known so row = consecutive full set shape old old.busy size number bytes m calls before lies seen records written some some_ar refl tight known so row
+  came old size (FlowControl status block_size separation) m calls before lies seen records written some some_ar tight known so row =
       ignored old m lies seen records written _ row.new row.act row.records (passes full set shape m.tick old.refusing lies old.busy seen records written (record { at = m.tick; size = size; meaning = FlowControl status block_size separation }) refl refl (λ walk. refl) so)
-  came old size (NoUnit why) m calls before lies seen records written some some_ar known so row =
+  came old size (NoUnit why) m calls before lies seen records written some some_ar tight known so row =
       ignored old m lies seen records written _ row.new row.act row.records (passes full set shape m.tick old.refusing lies old.busy seen records written (record { at = m.tick; size = size; meaning = NoUnit why }) refl refl (λ walk. refl) so)

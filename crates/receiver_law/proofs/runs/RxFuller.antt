@@ -1,5 +1,5 @@
 -- The law of receptions, where a bus is said to be full in more ticks.
-use Rattle.std.proofs.Common.{◌≡◌, ℕ, ◌+◌, Bool, true, List, [], ◌∷◌}
+use Rattle.std.proofs.Common.{◌≡◌, ℕ, ◌+◌, Bool, true, List, [], ◌∷◌, drop}
 use Rattle.gw_base.proofs.Lists.{zip-weaker}
 use Rattle.hub_core.specs.declared.record.RxLimit.TheVariants.{Box as BoxLimit, Cf as CfLimit}
 use Rattle.hub_core.specs.declared.record.RxWait.{RxWait}
@@ -12,7 +12,7 @@ use Rattle.tp_attempts.specs.Seen.{Seen}
 use Rattle.tp_attempts.specs.Walk.{Piece}
 use Rattle.tp_receiver.specs.declared.set.RxSet.{RxSet}
 use Rattle.receiver_law.specs.Channel.{SourceChannel}
-use Rattle.receiver_law.specs.FlowControls.{AreAnswers, FollowOneAnother, IsFullFrom, IsOver, MayFollow}
+use Rattle.receiver_law.specs.FlowControls.{AreAnswers, FollowOneAnother, IsFullFrom, IsOver, MayFollow, IsSpent, LetsNoneCome}
 use Rattle.receiver_law.specs.ReceptionCauses.{HasCause, IsReception, LiesSince, ReceptionLaw, StillWaits}
 use Rattle.receiver_law.specs.Receptions.{ControlKind, Continue, ControlLeft, Received, Refuse, Wait}
 
@@ -24,6 +24,15 @@ module _ (full other : ℕ → Bool) (more : (tick : ℕ) → full tick ≡ true
   over set frames left (Continue block) tick so = (so.0, record { from = so.1.from; by = so.1.by; boxed = full-from so.1.from left so.1.boxed; enough = so.1.enough })
   over set frames left Wait tick so = so
   over set frames left Refuse tick so = so
+
+  spent : (frames : List Piece) (left : ℕ) (kind : ControlKind) (tick : ℕ) → IsSpent full frames left kind tick → IsSpent other frames left kind tick
+  spent frames left (Continue block) tick so = (so.0, record { from = so.1.from; by = so.1.by; boxed = full-from so.1.from left so.1.boxed; enough = so.1.enough })
+  spent frames left Wait tick so = so
+  spent frames left Refuse tick so = so
+
+  lets-none : (frames : List Piece) (controls : List ControlLeft) (tick : ℕ) → LetsNoneCome full frames controls tick → LetsNoneCome other frames controls tick
+  lets-none frames [] tick so = tt
+  lets-none frames (control ∷ earlier) tick so = spent frames control.tick control.kind tick so
 
   may-follow : (set : RxSet) (frames : List Piece) (controls : List ControlLeft) (tick : ℕ) → MayFollow full set frames controls tick → MayFollow other set frames controls tick
   may-follow set frames [] tick so = tt
@@ -58,7 +67,7 @@ module _ (full other : ℕ → Bool) (more : (tick : ℕ) → full tick ≡ true
   cause r attempt one (RxTimeout BoxLimit) so = record { since = so.since; limit = so.limit; lies = lies one.told.begin.0 so.since one.told.end.0 one.controls so.lies }
   cause r attempt one (RxTimeout CfLimit) so = so
   cause r attempt one Restarted so = so
-  cause r attempt one (NoRoom room need) so = so
+  cause r attempt one (NoRoom room need) so = record { piece = so.piece; next = so.next; need_is = so.need_is; little = so.little; none = lets-none (drop 1 so.next.put) one.controls one.told.end.0 so.none }
   cause r attempt one WaitOver so = so
   cause r attempt one NoReaders so = so
   cause r attempt one Cancelled so = so

@@ -1,7 +1,9 @@
 -- The laws of a receiver's run: its records, and its receptions with their flow controls and causes.
+use Rattle.receiver_law.proofs.receptions.RoomSteps.{looks-front}
+use Rattle.receiver_law.specs.Looks.{LooksKeepRoom}
 use Rattle.std.proofs.Common.{◌≡◌, inl, inr, Bool, ℕ, ◌+◌, ◌<◌, Option, Some, None, List, [], ◌∷◌, ◌++◌, refl, ap, sym, ◌∙◌, subst, arith, append-nil}
 use Rattle.std.specs.List.{AllZip}
-use Rattle.hub_core.specs.Turns.{came_by, records_by, state_after, tick_after, turns_of}
+use Rattle.hub_core.specs.Turns.{came_by, records_by, state_after, tick_after, turns_of, calls_by}
 use Rattle.hub_core.specs.declared.record.SessionRecord.{SessionRecord}
 use Rattle.tp_attempts.specs.Attempts.{attempts_in}
 use Rattle.tp_attempts.specs.Seen.{Seen}
@@ -56,14 +58,14 @@ module _ (full : ℕ → Bool) (r : SourceChannel) (tells : AllZip (Tells r.rx.c
   law-ended old (Some busy) m refusing lies records told at since so row =
       law-busy full r tells refusing lies busy records (told ∙ ap (λ (more : List SessionRecord). records ++ more) row.records ∙ ap (λ (t : ℕ). records ++ ended r.rx busy (EndOfRun busy.wait (record { 0 = busy.since })) t ∷ []) at) (omega (arith, since busy refl)) so
 
-pub reception_law_of : (run : RxRun) (budget : ℕ) → IsRxRun run → HasLimits run.set → ReceptionLaw run.full (source_of budget run)
-reception_law_of run budget is limits =
+pub reception_law_of : (run : RxRun) (budget : ℕ) → IsRxRun run → HasLimits run.set → LooksKeepRoom run.set (calls_by (turns_in run)) → ReceptionLaw run.full (source_of budget run)
+reception_law_of run budget is limits keep =
     let turns : List RxTurn = turns_of run.parts in
     let r : SourceChannel = source_of budget run in
     let one : IsOneEnd run.last run.end = one-end run.last run.end is.ends in
     let happened : HasReceived run.set (one.turn ∷ turns) = subst (λ (t : List RxTurn). HasReceived run.set (t ++ turns)) one.is is.happened in
     let law : SourceLaw run.set.chan.0 run.set.a run.set.functional r.seen r.sessions = source_law_of_run run budget is in
-    let so : IsPast run.full run.set run.shape limits (tick_after run.parts) turns = parts-so run.full run.set run.shape limits run.parts is.parts_are happened.2 in
+    let so : IsPast run.full run.set run.shape limits (tick_after run.parts) turns = parts-so run.full run.set run.shape limits run.parts is.parts_are happened.2 (looks-front run.set run.end turns keep) in
     let controls : controls_by run.shape turns ≡ r.controls =
     sym (ap (λ t. controls_by run.shape (t ++ turns)) one.is ∙ ap (λ e. controls_by run.shape turns ++ control_at run.shape e one.turn.did.tick (control_after turns)) one.event ∙ append-nil (controls_by run.shape turns)) in
     let seen : came_by frames_in turns ≡ r.seen = sym (ap (λ t. came_by frames_in (t ++ turns)) one.is ∙ ap (λ e. came_by frames_in turns ++ frames_in one.turn.did.tick e) one.event ∙ append-nil (came_by frames_in turns)) in

@@ -1,4 +1,6 @@
 -- A run of a receiver, turn by turn and tick by tick.
+use Rattle.receiver_law.proofs.receptions.RoomSteps.{IsTight, looks-front, tight-so}
+use Rattle.receiver_law.specs.Looks.{LooksKeepRoom}
 use Rattle.std.proofs.Common.{◌≡◌, inl, inr, ◌⊎◌, ℕ, ◌+◌, ◌-◌, ◌<◌, ◌≤◌, zero, suc, Bool, true, Option, Some, None, List, [], ◌∷◌, ◌++◌, map, refl, ap, sym, ◌∙◌, subst, arith, append-nil, append_assoc}
 use Rattle.std.specs.List.{AllByRecursion}
 use Rattle.hub_core.proofs.Turns.{happened-front}
@@ -45,19 +47,20 @@ module _ (full : ℕ → Bool) (set : RxSet) (shape : Shape) (limits : HasLimits
   abbrev pub WaitsSince : ℕ → Option Reception → Type 0
   WaitsSince tick busy = (on : Reception) → busy ≡ Some on → on.since ≤ tick
 
-  came-step : (tick : ℕ) (turn : RxTurn) (turns : List RxTurn) (event : RxEvent) → turn.event ≡ event → CameIn tick event turn.did.tick → RxStep set (state_after rx_new turns) turn.event turn.did → HasReceived set turns → Holds tick tick turns → Holds tick tick (turn ∷ turns)
-  came-step tick turn turns (Came size meaning) is at row happened so =
+  came-step : (tick : ℕ) (turn : RxTurn) (turns : List RxTurn) (event : RxEvent) → turn.event ≡ event → CameIn tick event turn.did.tick → RxStep set (state_after rx_new turns) turn.event turn.did → HasReceived set turns → IsTight set (state_after rx_new turns) turn.did → Holds tick tick turns → Holds tick tick (turn ∷ turns)
+  came-step tick turn turns (Came size meaning) is at row happened tight so =
       let step : RxStep set (state_after rx_new turns) (Came size meaning) turn.did = subst (λ (e : RxEvent). RxStep set (state_after rx_new turns) e turn.did) is row in
       let here : Holds turn.did.tick turn.did.tick turns = subst (λ (t : ℕ). Holds t t turns) (sym at) so in
-      let all = came full set shape (state_after rx_new turns) size meaning turn.did (calls_by turns) (now_of turns) (control_after turns) (came_by frames_in turns) (records_by turns) (controls_by shape turns) limits.n_cr limits.n_ar (holds set turns happened) here step in
+      let all = came full set shape (state_after rx_new turns) size meaning turn.did (calls_by turns) (now_of turns) (control_after turns) (came_by frames_in turns) (records_by turns) (controls_by shape turns) limits.n_cr limits.n_ar tight (holds set turns happened) here step in
       subst (λ (t : ℕ). Holds t t (turn ∷ turns)) at (rw (is, append-nil) all)
-  came-step tick turn turns Timer is at row happened so = absurd at
-  came-step tick turn turns FcLeft is at row happened so = absurd at
-  came-step tick turn turns RunEnd is at row happened so = absurd at
+  came-step tick turn turns Timer is at row happened tight so = absurd at
+  came-step tick turn turns FcLeft is at row happened tight so = absurd at
+  came-step tick turn turns RunEnd is at row happened tight so = absurd at
 
-  all-came : (tick : ℕ) (frames earlier : List RxTurn) → AllByRecursion (λ (turn : RxTurn). CameIn tick turn.event turn.did.tick) frames → HasReceived set (frames ++ earlier) → Holds tick tick earlier → Holds tick tick (frames ++ earlier)
-  all-came tick [] earlier all happened so = so
-  all-came tick (turn ∷ frames) earlier all happened so = came-step tick turn (frames ++ earlier) turn.event refl all.0 happened.1 happened.2 (all-came tick frames earlier all.1 happened.2 so)
+  all-came : (tick : ℕ) (frames earlier : List RxTurn) → AllByRecursion (λ (turn : RxTurn). CameIn tick turn.event turn.did.tick) frames → HasReceived set (frames ++ earlier) → LooksKeepRoom set (calls_by (frames ++ earlier)) → Holds tick tick earlier → Holds tick tick (frames ++ earlier)
+  all-came tick [] earlier all happened keep so = so
+  all-came tick (turn ∷ frames) earlier all happened keep so =
+      came-step tick turn (frames ++ earlier) turn.event refl all.0 happened.1 happened.2 (tight-so set turn (frames ++ earlier) happened keep) (all-came tick frames earlier all.1 happened.2 (looks-front set (turn ∷ []) (frames ++ earlier) keep) so)
 
   timer-step : (tick : ℕ) (turn : RxTurn) (turns : List RxTurn) → turn.event ≡ Timer → turn.did.tick ≡ tick → RxStep set (state_after rx_new turns) turn.event turn.did → HasReceived set turns → Holds tick tick turns → Holds tick (tick + 1) (turn ∷ turns)
   timer-step tick turn turns is at row happened so =
@@ -126,13 +129,15 @@ module _ (full : ℕ → Bool) (set : RxSet) (shape : Shape) (limits : HasLimits
       (so-since tick (state_after rx_new before).refusing (control_after before) (state_after rx_new before).busy (came_by frames_in before) (records_by before) (controls_by shape before) so)))
 
   -- a part of a tick
-  part-step : (earlier : List RxTurn) (part : Part RxTurn) → IsRxPart full earlier part → HasReceived set (part.turns ++ earlier) → Holds part.tick part.tick earlier → IsPast (part.tick + 1) (part.turns ++ earlier)
-  part-step earlier part did happened so =
+  part-step : (earlier : List RxTurn) (part : Part RxTurn) → IsRxPart full earlier part → HasReceived set (part.turns ++ earlier) → LooksKeepRoom set (calls_by (part.turns ++ earlier)) → Holds part.tick part.tick earlier → IsPast (part.tick + 1) (part.turns ++ earlier)
+  part-step earlier part did happened keep so =
       let before : List RxTurn = did.timer ∷ (did.came ++ earlier) in
       let is : part.turns ++ earlier ≡ did.left ++ before = ap (λ t. t ++ earlier) did.turns_are ∙ append_assoc did.left (did.timer ∷ did.came) earlier in
       let all : HasReceived set (did.left ++ before) = subst (HasReceived set) is happened in
       let here : HasReceived set before = happened-front _ did.left before all in
-      let frames : Holds part.tick part.tick (did.came ++ earlier) = all-came part.tick did.came earlier did.came_only here.2 so in
+      let keep_all : LooksKeepRoom set (calls_by (did.left ++ before)) = subst (λ (t : List RxTurn). LooksKeepRoom set (calls_by t)) is keep in
+      let keep_frames : LooksKeepRoom set (calls_by (did.came ++ earlier)) = looks-front set (did.timer ∷ []) (did.came ++ earlier) (looks-front set did.left before keep_all) in
+      let frames : Holds part.tick part.tick (did.came ++ earlier) = all-came part.tick did.came earlier did.came_only here.2 keep_frames so in
       subst (IsPast (part.tick + 1)) (sym is)
       (leaves-by part.tick (control_after before) did.left before refl did.left_is all here (timer-step part.tick did.timer (did.came ++ earlier) did.timer_is did.timer_tick here.1 here.2 frames))
 
@@ -172,12 +177,12 @@ module _ (full : ℕ → Bool) (set : RxSet) (shape : Shape) (limits : HasLimits
       never [] one is = cc
       never (x ∷ front) one is = cc
 
-  pub parts-so : (parts : List (Part RxTurn)) → AreRxParts full parts → HasReceived set (turns_of parts) → IsPast (tick_after parts) (turns_of parts)
-  parts-so [] are happened = nothing-came
-  parts-so (part ∷ earlier) are happened =
+  pub parts-so : (parts : List (Part RxTurn)) → AreRxParts full parts → HasReceived set (turns_of parts) → LooksKeepRoom set (calls_by (turns_of parts)) → IsPast (tick_after parts) (turns_of parts)
+  parts-so [] are happened keep = nothing-came
+  parts-so (part ∷ earlier) are happened keep =
       let before : HasReceived set (turns_of earlier) = happened-front _ part.turns (turns_of earlier) happened in
-      let so : IsPast (tick_after earlier) (turns_of earlier) = parts-so earlier are.1 before in
-      part-step (turns_of earlier) part are.0.part_is happened (elim are.0.next [
+      let so : IsPast (tick_after earlier) (turns_of earlier) = parts-so earlier are.1 before (looks-front set part.turns (turns_of earlier) keep) in
+      part-step (turns_of earlier) part are.0.part_is happened keep (elim are.0.next [
         | inr next ↦ subst (λ (t : ℕ). Holds t t (turns_of earlier)) (sym next) so.holds
         | inl idle ↦
             let later : IdleSo full set shape part.tick part.tick (state_after rx_new (turns_of earlier)).refusing None (came_by frames_in (turns_of earlier)) (records_by (turns_of earlier)) (controls_by shape (turns_of earlier)) = idle-later (tick_after earlier) part.tick (turns_of earlier) are.0.later idle before so.holds in

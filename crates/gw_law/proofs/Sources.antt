@@ -14,7 +14,6 @@ use Rattle.receiver_law.proofs.runs.RxRises.{controls-of-run-rise}
 use Rattle.receiver_law.proofs.runs.RxWritten.{are-controls}
 use Rattle.receiver_law.specs.Channel.{SourceChannel}
 use Rattle.receiver_law.specs.Laws.{HasLimits}
-use Rattle.receiver_law.specs.Looks.{LooksKeepRoom}
 use Rattle.receiver_law.specs.ReceptionCauses.{ReceptionLaw}
 use Rattle.receiver_law.specs.RxRun.{IsRxRun, RxRun, source_of, turns_in}
 use Rattle.receiver_law.specs.Source.{SourceLaw}

@@ -1,3 +1,4 @@
+mod OnePiece
 pub mod Pieces
 pub mod RxCame
 mod RxCells

@@ -108,7 +108,7 @@ module _ (a : Account) (d : Deeds) (windows : List Window) (v : View) (place : �
       let s : Sending = has.sending in
       let tx = zip-at (IsSenderRun a) a.plan.senders d.senders has.place s is.senders has.there in
       let c : Crossing = crossing a d windows v place has.place r s run tx.0 is there tx.1 rx_is tx.2 has.there has.path_is in
-      let op : Opening c.whole.pair tick = record { w = w; from = from; to = to; opens = record { earlier = by.earlier; is = by.is; over = by.over; are = by.are; lies = by.lies } } in
+      let op : Opening c.whole.pair tick = record { w = w; from = from; to = to; opens = by } in
       let tx_set : tx.0.set ≡ s.set = ap (λ (x : DestChannel). x.tx) tx.2.tells in
       let path : tx.0.set.path.0 ≡ run.set.path.0 = ap (λ (x : TxSet). x.path.0) tx_set ∙ has.path_is ∙ ap (λ (x : RxSet). x.path.0) (sym set_is) in
       let dest_is : tx.0.set.dest.0 ≡ dest = ap (λ (x : TxSet). x.dest.0) tx_set ∙ has.dest_is in

@@ -1,16 +1,34 @@
 -- The calls that a machine makes in a part of its run are no older than what stood before the window in which the part lies.
-use Rattle.std.proofs.Common.{◌≡◌, ℕ, ◌<◌, ◌≤◌, arith, Some, List, [], ◌∷◌, ◌++◌, zero, suc, ap, sym, ◌∙◌, subst, append_assoc}
-use Rattle.std.specs.Prelude.{slice_get}
+use Rattle.std.proofs.Common.{◌≡◌, ℕ, ◌<◌, ◌≤◌, arith, Some, List, [], ◌∷◌, ◌++◌, zero, suc, ap, sym, ◌∙◌, subst, append_assoc, cond, refl, true, false}
+use Rattle.std.specs.Prelude.{nat_lt, slice_get}
+use Rattle.std.proofs.lemmas.Bool.Decides.{nat_tests}
 use Rattle.std.proofs.lemmas.List.{append_cancel_left}
 use Rattle.hub_core.proofs.Growing.{grows-append}
 use Rattle.hub_core.proofs.Turns.{calls-append}
 use Rattle.hub_core.specs.Floors.{AreFresh, Floors}
-use Rattle.hub_core.specs.Turns.{Part, Turn, calls_by, turns_of}
+use Rattle.hub_core.specs.Turns.{Part, Turn, calls_by, tick_after, turns_of}
 use Rattle.hub_core.specs.View.{Event, View, empty_view, grow, grows}
 use Rattle.gw_law.specs.Deeds.{AreWindows, Deeds, IsWindow, LiesIn, Window, before, over_at, own_view, view_at}
 use Rattle.gw_law.proofs.runs.Barriers.{lies-earlier}
 use Rattle.gw_law.proofs.runs.Before.{AreRising, front-of, turns-append}
-use Rattle.gw_law.proofs.runs.Openings.{before-past, stands-before}
+
+-- a part of a window, and what its machine did between the window's opening and it
+stands-before : {T : Type 0} (bound : ℕ) (later : List (Part T)) (part : Part T) (earlier : List (Part T)) → part.tick < bound → (mid : List (Part T)) × (before bound (later ++ part ∷ earlier) ≡ mid ++ part ∷ earlier)
+stands-before bound [] part earlier below = let keeps : nat_lt part.tick bound ≡ true = grind (arith, nat_tests, below) in ([], ap (λ b. cond b (part ∷ earlier) (before bound earlier)) keeps)
+stands-before bound (first ∷ later) part earlier below =
+    let so = stands-before bound later part earlier below in
+    stands-by (first ∷ (later ++ part ∷ earlier)) (before bound (later ++ part ∷ earlier)) first later part earlier so.0 (nat_lt first.tick bound) refl so.1
+  where
+    stands-by : {T : Type 0} (whole rest : List (Part T)) (first : Part T) (later : List (Part T)) (part : Part T) (earlier mid : List (Part T)) (keeps : _) → whole ≡ first ∷ (later ++ part ∷ earlier) → rest ≡ mid ++ part ∷ earlier → (more : List (Part T)) × (cond keeps whole rest ≡ more ++ part ∷ earlier)
+    stands-by whole rest first later part earlier mid true all is = (first ∷ later, all)
+    stands-by whole rest first later part earlier mid false all is = (mid, is)
+
+before-past : {T : Type 0} (bound : ℕ) (later : List (Part T)) (part : Part T) (earlier : List (Part T)) → AreRising (later ++ part ∷ earlier) → bound ≤ part.tick → (before bound (later ++ part ∷ earlier) ≡ before bound earlier) × (part.tick < tick_after (later ++ part ∷ earlier))
+before-past bound [] part earlier rising from = let drops : nat_lt part.tick bound ≡ false = grind (arith, nat_tests, from) in (ap (λ b. cond b (part ∷ earlier) (before bound earlier)) drops, omega arith)
+before-past bound (first ∷ later) part earlier rising from =
+    let so = before-past bound later part earlier rising.1 from in
+    let drops : nat_lt first.tick bound ≡ false = grind (arith, nat_tests, from, so.1, rising.0) in
+    (ap (λ b. cond b (first ∷ (later ++ part ∷ earlier)) (before bound (later ++ part ∷ earlier))) drops ∙ so.0, omega (arith, so.1, rising.0))
 
 -- of fresh calls the first ones are fresh, and so are the ones after them
 pub fresh-split : (f : Floors) (v : View) (calls more : List Event) → AreFresh f v (calls ++ more) → AreFresh f v calls × AreFresh f (grows calls v) more

@@ -12,6 +12,7 @@ use Rattle.hub_core.specs.View.{Event}
 use Rattle.hub_core.specs.declared.record.SessionRecord.{SessionRecord}
 use Rattle.hub_core.specs.declared.record.SessionResult.{SessionResult}
 use Rattle.hub_core.specs.declared.record.SessionResult.TheVariants.{Whole, Overflow, WrongSn, RxTimeout, Restarted, NoRoom, WaitOver, NoReaders, Cancelled, RunEnd as EndOfRun}
+use Rattle.receiver_law.proofs.records.PutCells.{packed-most}
 use Rattle.receiver_law.proofs.sessions.Stores.{cells_in-others, cells_in-puts, store}
 use Rattle.tp_receiver.proofs.Through.{step-through}
 use Rattle.tp_receiver.specs.Effects.{Ends, Forgets, Looks, Opens, Puts, Refuses, RxDone, RxEffect, RxStage, Waits, used_after}
@@ -20,14 +21,6 @@ use Rattle.tp_receiver.specs.State.{RxDid, RxEvent, RxState}
 use Rattle.flow_plan.specs.Cells.{cells_for}
 use Rattle.tp_receiver.specs.Table.{RxStep, puts}
 use Rattle.tp_receiver.specs.declared.set.RxSet.{RxSet}
-
--- all cells but the last one are full
-packed-few : (cells : List ℕ) → All IsCell cells → ((k : ℕ) → k + 1 < length cells → count_of (slice_index cells k) ≡ 7) → 7 * length cells ≤ counted cells + 6
-packed-few [] all full = omega arith
-packed-few (cell ∷ []) all full = omega (arith, (All-head IsCell cell [] all).some)
-packed-few (cell ∷ next ∷ cells) all full =
-    let one : count_of cell ≡ 7 = full 0 (omega arith) in
-    omega (arith, one, sum_by-cons count_of cell (next ∷ cells), packed-few (next ∷ cells) (All-tail IsCell cell (next ∷ cells) all) (λ k lt. full (suc k) (omega (arith, lt))))
 
 -- calls that put nothing, and calls that put no more cells into a session than its bytes fill, which count no more bytes
 abbrev pub PutNone : (path : ℕ) → List Event → Type 0
@@ -52,7 +45,7 @@ puts-few path at cells bytes calls more none are packed seq =
     elim (cases_eq seq at) [
       | inl same ↦
           let P : ℕ → Type 0 = λ n. F (cells_in path n (puts path at cells)) in
-          let few : F cells = (omega (arith, packed-few cells packed.cells_only packed.full, length-bytes_of cells packed.cells_only), omega (arith, length-bytes_of cells packed.cells_only)) in
+          let few : F cells = (omega (arith, packed-most bytes cells packed, ap cells_for (ap length packed.same_bytes)), omega (arith, length-bytes_of cells packed.cells_only)) in
           subst F (sym all) (subst P (sym same) (subst F (sym (cells_in-puts path at (counted cells) cells)) few))
       | inr other ↦ subst F (sym (all ∙ cells_in-others path at seq (counted cells) cells other)) (omega arith, omega arith)
     ]

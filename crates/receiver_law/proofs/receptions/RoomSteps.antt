@@ -22,7 +22,8 @@ use Rattle.flow_plan.specs.Cells.{cells_for}
 use Rattle.tp_receiver.specs.Grant.{left_of}
 use Rattle.tp_unit.specs.Unit.{BoxMeaning, Meaning}
 use Rattle.receiver_law.specs.Looks.{LooksKeepRoom}
-use Rattle.receiver_law.proofs.receptions.Rooms.{HasRoomFor, after-put, grant-has-room, has-more, packed-few, too-little}
+use Rattle.receiver_law.proofs.records.PutCells.{packed-most}
+use Rattle.receiver_law.proofs.receptions.Rooms.{HasRoomFor, after-put, grant-has-room, has-more, too-little}
 
 -- calls that leave a path so many sessions, of which the one at a place has that room
 pub record KnowsRoom (path n seq room : ℕ) (v : View) : Type 0 where
@@ -142,7 +143,7 @@ room-effect set event tick old done v (Puts e) keep (Idle none many) = let clash
 room-effect set event tick old done v (Puts e) keep (Busy busy was so) =
     let same : busy ≡ e.busy = let both : Some busy ≡ Some e.busy = sym was ∙ e.was in cc in
     let bytes : length (take (due set.a e.busy) e.bytes) ≡ due set.a e.busy = length-take-le (due set.a e.busy) e.bytes e.of.looked.enough in
-    let few : length e.cells ≤ cells_for (due set.a e.busy) = omega (arith, packed-few (take (due set.a e.busy) e.bytes) e.cells e.packed, ap cells_for bytes) in
+    let few : length e.cells ≤ cells_for (due set.a e.busy) = omega (arith, packed-most (take (due set.a e.busy) e.bytes) e.cells e.packed, ap cells_for bytes) in
     let on : Reception = gone_on e.busy (length (take (due set.a e.busy) e.bytes)) tick in
     let knows : KnowsRoom set.path.0 old.state.seq e.busy.opened.seq so.room v = subst (λ (b : Reception). KnowsRoom set.path.0 old.state.seq b.opened.seq so.room v) same so.knows in
     let granted : HasRoomFor set e.busy so.room e.busy.left = subst (λ (b : Reception). HasRoomFor set b so.room b.left) same (elim so.granted [ inl granted ↦ granted | inr begun ↦ let clash : false ≡ true = sym e.of.unused ∙ begun.used in absurd cc ]) in

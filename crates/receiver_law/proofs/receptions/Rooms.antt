@@ -3,17 +3,12 @@ use Rattle.std.proofs.Common.{◌≡◌, ◌≢◌, ◌⊎◌, inl, inr, ℕ, �
 use Rattle.std.specs.Prelude.{All, slice_index}
 use Rattle.std.proofs.Math.Nat.{div-mul-le_self, min-eq_left, min-eq_right, min-le_left, mod-lt, mul-le-mul_right, suc-mul}
 use Rattle.std.proofs.lemmas.Bool.{cases_lt}
-use Rattle.std.proofs.lemmas.List.Elements.{All-head, All-tail}
-use Rattle.std.proofs.lemmas.List.Sums.{sum_by-cons}
 use Rattle.std.proofs.lemmas.Bool.Decides.{eqb_tells, leb_tells}
-use Rattle.cell_stream.specs.Packing.{IsPacked}
 use Rattle.flow_plan.proofs.Payloads.{left-full, left-short}
 use Rattle.flow_plan.specs.Cells.{cells_for, cells_left}
 use Rattle.flow_plan.specs.Grant.{granted_of, most_of, with_room}
 use Rattle.flow_plan.specs.declared.block.Grant.{Grant}
 use Rattle.flow_plan.specs.declared.block.Grant.TheVariants.{All as AllFrames, Block, Wait as NoFrames}
-use Rattle.gw_base.proofs.Cells.{length-bytes_of}
-use Rattle.gw_base.specs.Cell.{IsCell, count_of, counted}
 use Rattle.tp_receiver.specs.Grant.{frames_for, full_part, grant_in, left_of}
 use Rattle.tp_receiver.specs.Table.{due, one_less}
 use Rattle.tp_receiver.specs.State.{Reception}
@@ -172,16 +167,3 @@ grant-has-room set busy room grant is =
     let part : ℕ = full_part set.a busy.size in
     let left : ℕ = busy.len - busy.bytes in
     room-for set busy room (with_room room (cells_for part) (cells_left part left) (frames_for part left)) (cells_left part left) (cells_for part) (frames_for part left) grant refl (all-most part left room) is refl refl
-
--- cells that hold a frame's bytes are no more than a frame of so many takes
-pub packed-few : (bytes cells : List ℕ) → IsPacked bytes cells → length cells ≤ cells_for (length bytes)
-packed-few bytes cells packed =
-    let count : counted cells ≡ length bytes = sym (length-bytes_of cells packed.cells_only) ∙ ap length packed.same_bytes in
-    omega (arith, count, many cells packed.cells_only packed.full)
-  where
-    many : (xs : List ℕ) → All IsCell xs → ((k : ℕ) → k + 1 < length xs → count_of (slice_index xs k) ≡ 7) → 7 * length xs ≤ counted xs + 6
-    many [] all full = omega arith
-    many (x ∷ []) all full = let one : IsCell x = All-head IsCell x [] all in omega (arith, one.some, sum_by-cons count_of x [])
-    many (x ∷ y ∷ xs) all full =
-        let rest : 7 * length (y ∷ xs) ≤ counted (y ∷ xs) + 6 = many (y ∷ xs) (All-tail IsCell x (y ∷ xs) all) (λ k below. full (suc k) (omega (arith, below))) in
-        omega (arith, rest, full 0 (omega arith), sum_by-cons count_of x (y ∷ xs))

@@ -9,7 +9,7 @@ mod Ledger
 mod Looks
 mod Merging
 mod Owning
-mod Places
+pub mod Places
 pub mod Pools
 pub mod Quiet
 mod Rows

@@ -4,6 +4,7 @@ mod Cores
 mod Dealt
 mod Exchanges
 mod Histories
+mod Holding
 mod Hubs
 mod Learns
 mod Parties

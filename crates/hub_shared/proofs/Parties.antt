@@ -5,7 +5,7 @@ use mathlib.Core.Option.{some}
 use lib.ListN.{get_elem?}
 use Rattle.atomic_table.proofs.Lists.{at_set}
 use Rattle.hub_shared.proofs.Dealt.{each-set, each-added, total-set, total-two, total-added}
-use Rattle.hub_shared.specs.Rule.{counts_one, IsOfOne}
+use Rattle.hub_shared.specs.Counts.{counts_one, IsOfOne}
 use Rattle.hub_shared.specs.declared.sight.Sight.{Sight}
 
 module _ {A : Type 0} (acts : Sight → Bool) (own : Sight → List A) (whole : List A) (views : List Sight) (so : IsOfOne acts own whole views) (id : ℕ) (v : Sight) (at : get_elem? views id ≡ some v) where

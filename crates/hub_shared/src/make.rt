@@ -7,7 +7,7 @@ ghost use Rattle.hub_core.specs.View.{empty_view};
 ghost use Rattle.hub_layout.specs.Places.{words_in};
 ghost use Rattle.hub_layout.specs.Pool.{IsPool};
 ghost use Rattle.hub_shared.specs.History.{everyone, part_of, without, within, united};
-ghost use Rattle.hub_shared.specs.Rule.{AreWhole};
+ghost use Rattle.hub_shared.specs.Rule.{AreWhole, AreClear};
 ghost use Rattle.hub_shared.specs.Seats.{IsSeatOf, IsWordAt, AreWordsAt, HasFloors};
 ghost use Rattle.hub_shared.specs.Seats.{groups_of, seat_view, seat_part, parts_of, as_port};
 
@@ -31,6 +31,7 @@ fn first_words(alloc: Global, layout: &Layout, counts: &[u8]) -> Result<Vec<u64>
     requires groups { All (λ count. (1 ≤ count) × (count ≤ 32)) counts.now }
     ensures all { IfOk result (λ words. length words.items ≡ words_in layout.now.groups layout.now.cells) }
     ensures pools { IfOk result (λ words. AreWhole counts.now words.items) }
+    ensures others { IfOk result (λ words. AreClear (length counts.now) words.items) }
 {
     let mut words = vec![in alloc; 0; layout.words()]?;
     for group in 0..counts.len() {

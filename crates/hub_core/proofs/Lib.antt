@@ -8,7 +8,7 @@ mod Leaving
 mod Ledger
 mod Looks
 mod Merging
-mod Owning
+pub mod Owning
 pub mod Places
 pub mod Pools
 pub mod Quiet

@@ -51,11 +51,11 @@ abbrev changed : HubState → List ℕ → ℕ → Sight → HubState
 changed s words id w = record { words = words; homes = s.homes; views = set s.views id w }
 
 -- the length of a session that is to be entered
-abbrev IsLength : List (List ℕ) → List ℕ → Opening → Type 0
+abbrev pub IsLength : List (List ℕ) → List ℕ → Opening → Type 0
 IsLength groups words o = get_or words (place_of_word groups (Length o.buf)) 0 ≡ o.len
 
 -- what a seat knows as the machine and the words go on
-knows-on : (groups : List (List ℕ)) (core next : View) (words more : List ℕ) → Rise (floors_of groups core) (floors_of groups next) → ((group word : ℕ) → WasWord groups group core word → WasWord groups group next word) → (v : Sight) →
+pub knows-on : (groups : List (List ℕ)) (core next : View) (words more : List ℕ) → Rise (floors_of groups core) (floors_of groups next) → ((group word : ℕ) → WasWord groups group core word → WasWord groups group next word) → (v : Sight) →
     ((o : Opening) → (view_of v).held o.buf ≡ Some (record { number = o.change; size = o.cells }) → IsLength groups words o → IsLength groups more o) → Knows groups core words v → Knows groups next more v
 knows-on groups core next words more rise was v length-on known = record { groups_are = known.groups_are; whole = known.whole; floors = rise-twice (floors_at v) (floors_of groups core) (floors_of groups next) known.floors rise; hand = on v.hand known.hand }
   where

@@ -57,6 +57,10 @@ module _ (groups : List (List ℕ)) (s : HubState) (k : Kept groups s) where
   pub held-there : (buf : ℕ) (t : Taking) → k.core.held buf ≡ Some t → buf < length (all_sizes groups)
   held-there buf t is = bought buf t.number t.size ((lawful groups s k).owned.held_is buf t is)
 
+  -- what a seat holds is held
+  pub held-whole : (j : ℕ) (u : Sight) → get_elem? s.views j ≡ some u → (buf : ℕ) (t : Taking) → (view_of u).held buf ≡ Some t → k.core.held buf ≡ Some t
+  held-whole j u is buf t mine = elim ((k.holders buf).each j u is) [ inl nothing ↦ absurd (let no : None ≡ Some t = sym nothing ∙ mine in cc) | inr all ↦ sym all ∙ mine ]
+
   -- a session of which a party takes part isn't in a buffer that is held
   pub apart : (buf : ℕ) (h : Taking) → k.core.held buf ≡ Some h → (path seq : ℕ) (t : Session) → session_at k.core path seq ≡ Some t → 0 < parties_of k.core path seq t → t.buf ≢ buf
   apart buf h is path seq t at stands same = elim (so.turn path seq t at) [
@@ -73,10 +77,10 @@ module _ (groups : List (List ℕ)) (s : HubState) (k : Kept groups s) where
       so = (lawful groups s k).owned
 
 -- two words of buffers that are there
-card-length : (groups : List (List ℕ)) (a b : ℕ) → a < length (all_sizes groups) → b < length (all_sizes groups) → place_of_word groups (Card a) ≢ place_of_word groups (Length b)
+pub card-length : (groups : List (List ℕ)) (a b : ℕ) → a < length (all_sizes groups) → b < length (all_sizes groups) → place_of_word groups (Card a) ≢ place_of_word groups (Length b)
 card-length groups a b here there is = absurd (let no : Card a ≡ Length b = differ (length groups) (all_sizes groups) (Card a) (Length b) here there is in cc)
 
-length-length : (groups : List (List ℕ)) (a b : ℕ) → a < length (all_sizes groups) → b < length (all_sizes groups) → a ≢ b → place_of_word groups (Length a) ≢ place_of_word groups (Length b)
+pub length-length : (groups : List (List ℕ)) (a b : ℕ) → a < length (all_sizes groups) → b < length (all_sizes groups) → a ≢ b → place_of_word groups (Length a) ≢ place_of_word groups (Length b)
 length-length groups a b here there other is = other (let same : Length a ≡ Length b = differ (length groups) (all_sizes groups) (Length a) (Length b) here there is in cc)
 
 -- the length of a session that is to be entered is stored in a buffer that the seat holds
@@ -110,7 +114,7 @@ prepares groups slots id m o live hand holds s k long at low = (
         (λ some-part. record { groups_are = known.groups_are; whole = known.whole; floors = known.floors; hand = (holds, get_or-set_same s.words p o.len 0 (omega (arith, k.wide, within (length groups) (all_sizes groups) (Length o.buf) there))) })
         (λ j u other is some-part. knows-on groups k.core k.core s.words words (rise-same (floors_of groups k.core)) (λ g word so. so) u (λ o' theirs so.
             get_or-set_other s.words p (place_of_word groups (Length o'.buf)) o.len 0
-              (length-length groups o'.buf o.buf (held-there groups s k o'.buf (record { number = o'.change; size = o'.cells }) (whole-of j u is o'.buf (record { number = o'.change; size = o'.cells }) theirs)) there
+              (length-length groups o'.buf o.buf (held-there groups s k o'.buf (record { number = o'.change; size = o'.cells }) (held-whole groups s k j u is o'.buf (record { number = o'.change; size = o'.cells }) theirs)) there
                 (λ same. absurd (let no : None ≡ Some (record { number = o'.change; size = o'.cells }) = sym (others-none _ _ s.views (k.holders o.buf) id m.0 at h holds j u other is) ∙ ap (view_of u).held (sym same) ∙ theirs in cc)))
             ∙ so) (k.each j u is some-part));
     spent_is = each-set (λ j u. u.parts ≡ 0 → u.entries ≡ []) s.views id w (λ nothing. absurd (omega (arith, nothing, live))) (λ j u other is. k.spent_is j u is);
@@ -133,12 +137,8 @@ prepares groups slots id m o live hand holds s k long at low = (
     known : Knows groups k.core s.words m.0
     known = k.each id m.0 at live
 
-    -- what a seat holds is held
-    whole-of : (j : ℕ) (u : Sight) → get_elem? s.views j ≡ some u → (buf : ℕ) (t : Taking) → (view_of u).held buf ≡ Some t → k.core.held buf ≡ Some t
-    whole-of j u is buf t mine = elim ((k.holders buf).each j u is) [ inl nothing ↦ absurd (let no : None ≡ Some t = sym nothing ∙ mine in cc) | inr all ↦ sym all ∙ mine ]
-
     whole : k.core.held o.buf ≡ Some h
-    whole = whole-of id m.0 at o.buf h holds
+    whole = held-whole groups s k id m.0 at o.buf h holds
 
     there : o.buf < length (all_sizes groups)
     there = held-there groups s k o.buf h whole

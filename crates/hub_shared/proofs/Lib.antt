@@ -2,6 +2,7 @@ mod Answering
 mod Closings
 mod Cores
 mod Dealt
+mod Entered
 mod Enters
 mod Exchanges
 mod Histories

@@ -6,6 +6,8 @@ use Rattle.std.proofs.lemmas.Option.{slice_get_within}
 use Rattle.std.specs.Prelude.{if◌then◌else◌, slice_get}
 use mathlib.Core.Option.{none, some}
 use lib.ListN.{get_elem?}
+use prog.Atomic.{either}
+use Rattle.atomic_table.proofs.Lists.{exchanged}
 use Rattle.atomic_table.specs.Table.{step, keeps, Allows}
 use Rattle.hub_core.proofs.Cut.{size-in}
 use Rattle.hub_core.proofs.Fresh.{rise-same}
@@ -21,13 +23,14 @@ use Rattle.hub_shared.proofs.Cores.{HubState, lawful}
 use Rattle.hub_shared.proofs.Dealt.{each-set, total-set, dealt-same}
 use Rattle.hub_shared.proofs.Holding.{held-same, others-none}
 use Rattle.hub_shared.proofs.Parties.{of-one-same}
-use Rattle.hub_shared.proofs.Steps.{IsLength, knows-on}
+use Rattle.hub_shared.proofs.Steps.{Goes, IsLength, knows-on, same-word, stays}
 use Rattle.hub_shared.specs.Cards.{ShowCards, dests_of, parties_of, place_of_word}
 use Rattle.hub_shared.specs.Counts.{counts_one}
-use Rattle.hub_shared.specs.Plays.{SeatMe, prepared}
+use Rattle.hub_shared.specs.Plays.{SeatMe, IsEntering, entering, prepared}
 use Rattle.hub_shared.specs.Rule.{Knows, Kept, WasWord}
 use Rattle.hub_shared.specs.Sights.{view_of}
 use Rattle.hub_shared.specs.declared.sight.Hand.TheVariants.{Entering, Prepared}
+use Rattle.hub_shared.specs.declared.sight.Note.TheVariants.{Opens}
 use Rattle.hub_shared.specs.declared.sight.Opening.{Opening}
 use Rattle.hub_shared.specs.declared.sight.Sight.{Sight}
 
@@ -145,3 +148,20 @@ prepares groups slots id m o live hand holds s k long at low = (
 
     told : (o' : Opening) → Entering o ≡ Entering o' → ◌≡◌ {A = SeatMe} (w, m.1) (record m.0 { hand = Prepared o' }, m.1)
     told o' same = let is : o ≡ o' = cc in ap (λ (x : Opening). let u : SeatMe = (record m.0 { hand = Prepared x }, m.1) in u) is
+
+-- a seat announces the session that it is to enter, by an exchange of 0 for 0 that changes nothing
+pub opens-may : (groups : List (List ℕ)) (slots id word : ℕ) (m : SeatMe) (o : Opening) → 0 < m.0.parts → Allows (Kept groups) slots id m word (λ n. either (eqb n 0) 0 n) (entering (step slots word 0 0 (some (Opens o))) m)
+opens-may groups slots id word m o live s k long at low =
+    let n : ℕ = get_or s.words word 0 in
+    let tale : ℕ → SeatMe → Type 0 = entering (step slots word 0 0 (some (Opens o))) m in
+    let w : Sight = record m.0 { hand = Entering o } in
+    let kept = same-word groups s (set s.views id w) word (stays groups s k id m.0 at live (Entering o) tt) in
+    let tells : tale n (w, m.1) = (λ other said. (let same : Opens o ≡ Opens other = mathlib.Core.Option.some-injective _ _ said in told other same)) in
+    exchanged n 0 0 (Goes groups s id word m tale n) (λ hit. (w, keeps, tt, subst (λ (z : ℕ). Kept groups (record { words = set s.words word z; homes = s.homes; views = set s.views id w })) hit kept, tells)) (λ other. (w, keeps, tt, kept, tells))
+  where
+    there : (view_of m.0).held o.buf ≡ Some (record { number = o.change; size = o.cells }) → o.buf < length (all_sizes m.0.groups)
+    there holds = subst (λ (g : List (List ℕ)). o.buf < length (all_sizes g)) (sym (k.each id m.0 at live).groups_are)
+        (held-there groups s k o.buf (record { number = o.change; size = o.cells }) (held-whole groups s k id m.0 at o.buf (record { number = o.change; size = o.cells }) holds))
+
+    told : (other : Opening) → Opens o ≡ Opens other → IsEntering other m (record m.0 { hand = Entering o }, m.1)
+    told other same = let is : o ≡ other = cc in subst (λ (x : Opening). IsEntering x m (record m.0 { hand = Entering o }, m.1)) is (record { me = refl; there = there })

@@ -9,6 +9,7 @@ mod Histories
 mod Holding
 mod Hubs
 mod Learns
+mod Opened
 mod Parties
 mod Seats
 mod Steps

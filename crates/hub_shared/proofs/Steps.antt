@@ -177,7 +177,7 @@ looks groups slots id group m live there s k long at low = (
 )
 
 -- what a step owes at a state
-abbrev Goes : (groups : List (List ℕ)) → (s : HubState) → (id group : ℕ) → (m : SeatMe) → (ℕ → SeatMe → Type 0) → ℕ → ℕ → Type 0
+abbrev pub Goes : (groups : List (List ℕ)) → (s : HubState) → (id group : ℕ) → (m : SeatMe) → (ℕ → SeatMe → Type 0) → ℕ → ℕ → Type 0
 Goes groups s id group m tale n z = (w : Sight) × (a : Act Note) × Valid s.homes m.1 a × Kept groups (stepped s group z id m.1 w a) × tale n (w, carried_after m.1 a)
 
 -- an exchange that loses

@@ -27,9 +27,9 @@ dests_of v path seq (suc dest) = (if has_left (λ r. r.stands) (reading_at v pat
 abbrev pub parties_of : View → (path seq : ℕ) → Session → ℕ
 parties_of v path seq s = counts_one s.stands + dests_of v path seq s.dests
 
--- a card: the number in its upper 48 bits, then seven bits for the path, and nine for the parties
+-- a card: the number in its upper 47 bits, then eight bits for the path, and nine for the parties
 abbrev pub card_of : (path seq parties : ℕ) → ℕ
-card_of path seq parties = seq * 2 ^ 16 + path * 2 ^ 9 + parties
+card_of path seq parties = seq * 2 ^ 17 + path * 2 ^ 9 + parties
 
 -- the words show each session of which a party takes part; no party's bit is set elsewhere
 pub record ShowCards (groups : List (List ℕ)) (words : List ℕ) (v : View) : Type 0 where

@@ -1,8 +1,8 @@
 -- What each kind of step tells the seat that makes it.
-use Rattle.std.specs.Prelude.{◌≡◌, ◌≢◌, ℕ, ◌+◌, ◌-◌, ◌/◌, ◌%◌, ◌^◌, ◌<◌, ◌≤◌, ◌∷◌}
+use Rattle.std.specs.Prelude.{◌≡◌, ◌≢◌, ℕ, ◌+◌, ◌-◌, ◌/◌, ◌%◌, ◌^◌, ◌<◌, ◌≤◌, List, ◌∷◌, length, Some}
 use mathlib.Core.Option.{some}
 use Rattle.atomic_table.specs.Table.{Me, Step}
-use Rattle.hub_core.specs.Groups.{IsWordOf}
+use Rattle.hub_core.specs.Groups.{IsWordOf, all_sizes}
 use Rattle.hub_core.specs.Joint.{Joint}
 use Rattle.hub_core.specs.declared.history.Deed.{Deed}
 use Rattle.hub_core.specs.declared.history.Deed.TheVariants.{Took, Refused, Entered as EnteredDeed}
@@ -77,8 +77,13 @@ abbrev pub learned : Step Note → SeatMe → ℕ → SeatMe → Type 0
 learned step m found after = (after ≡ m) × (m.0.takes ≤ 8000000) × (m.0.parts ≡ 1024 → KnowsWhole step.word found m.0)
 
 -- a seat announced the session that it is to enter, stored the session's length, and then its card: the session is entered
+-- who holds the buffer is told that there is such a buffer
+pub record IsEntering (opening : Opening) (m after : SeatMe) : Type 0 where
+  pub me : after ≡ (record m.0 { hand = Entering opening }, m.1)
+  pub there : (view_of m.0).held opening.buf ≡ Some (record { number = opening.change; size = opening.cells }) → opening.buf < length (all_sizes m.0.groups)
+
 abbrev pub entering : Step Note → SeatMe → ℕ → SeatMe → Type 0
-entering step m found after = (opening : Opening) → step.said ≡ some (Opens opening) → after ≡ (record m.0 { hand = Entering opening }, m.1)
+entering step m found after = (opening : Opening) → step.said ≡ some (Opens opening) → IsEntering opening m after
 
 abbrev pub prepared : Step Note → SeatMe → ℕ → SeatMe → Type 0
 prepared step m found after = (opening : Opening) → m.0.hand ≡ Entering opening → after ≡ (record m.0 { hand = Prepared opening }, m.1)

@@ -1,5 +1,5 @@
 -- The state of the plain machine that the words show, and what one more change leaves of what was known.
-use Rattle.std.proofs.Common.{◌≡◌, ◌≢◌, ℕ, ◌+◌, ◌*◌, ◌/◌, ◌%◌, ◌^◌, ◌<◌, ◌≤◌, inl, inr, zero, suc, List, [], ◌∷◌, ◌++◌, length, set, get_or, get_or-set_same, Some, refl, ap, sym, ◌∙◌, subst, arith, length-append}
+use Rattle.std.proofs.Common.{◌≡◌, ◌≢◌, ℕ, ◌+◌, ◌/◌, ◌%◌, ◌^◌, ◌<◌, ◌≤◌, inl, inr, zero, suc, List, [], ◌∷◌, ◌++◌, length, set, get_or, get_or-set_same, Some, refl, ap, sym, ◌∙◌, subst, arith, length-append}
 use Rattle.std.proofs.lemmas.Bool.Decides.{eqb_tells}
 use Rattle.std.proofs.lemmas.List.{get_or-set_other}
 use Rattle.std.specs.Prelude.{slice_index, replicate, IsBitSet, Option, None}
@@ -73,10 +73,10 @@ free-unheld groups s k buf free = go (k.core.held buf) refl
 -- the words of the sessions are as before as a pool word changes, and no party's list
 pub shown-on : (groups : List (List ℕ)) (words : List ℕ) (group word : ℕ) (core next : View) → group < length groups → next.sessions ≡ core.sessions → next.readings ≡ core.readings → ShowCards groups words core → ShowCards groups (set words group word) next
 shown-on groups words group word core next there sessions readings so = subst (λ (x : (ℕ → List Session) × (ℕ → ℕ → List Reading)). ShowCards groups (set words group word) (record next { sessions = x.0; readings = x.1 })) (λ i. (sym sessions i, sym readings i)) (record {
-    cards = λ path seq s at some. get_or-set_other words group (place_of_word groups (Card s.buf)) word 0 (λ e. past-card s.buf e) ∙ so.cards path seq s at some;
-    lengths = λ path seq s at some. get_or-set_other words group (place_of_word groups (Length s.buf)) word 0 (λ e. past-length s.buf e) ∙ so.lengths path seq s at some;
-    empty = λ buf below none. ap (λ (n : ℕ). n % 2 ^ 9) (get_or-set_other words group (place_of_word groups (Card buf)) word 0 (λ e. past-card buf e)) ∙ so.empty buf below none;
-  })
+  cards = λ path seq s at some. get_or-set_other words group (place_of_word groups (Card s.buf)) word 0 (λ e. past-card s.buf e) ∙ so.cards path seq s at some;
+  lengths = λ path seq s at some. get_or-set_other words group (place_of_word groups (Length s.buf)) word 0 (λ e. past-length s.buf e) ∙ so.lengths path seq s at some;
+  empty = λ buf below none. ap (λ (n : ℕ). n % 2 ^ 9) (get_or-set_other words group (place_of_word groups (Card buf)) word 0 (λ e. past-card buf e)) ∙ so.empty buf below none;
+})
   where
     past-card : (buf : ℕ) → place_of_word groups (Card buf) ≡ group → ⊥
     past-card buf is = omega (arith, is, there)

@@ -1,5 +1,5 @@
 -- The card of a session is stored in a buffer that the seat holds, and so the session is entered.
-use Rattle.std.proofs.Common.{◌≡◌, ◌≢◌, ℕ, ◌+◌, ◌-◌, ◌*◌, ◌%◌, ◌^◌, ◌<◌, ◌≤◌, inl, inr, zero, suc, Bool, true, false, List, [], ◌∷◌, ◌++◌, length, set, get_or, Option, Some, None, refl, ap, sym, ◌∙◌, subst, arith, length-set, get_or-set_same}
+use Rattle.std.proofs.Common.{◌≡◌, ◌≢◌, ℕ, ◌+◌, ◌%◌, ◌^◌, ◌<◌, inl, inr, zero, suc, Bool, true, false, List, [], ◌∷◌, ◌++◌, length, set, get_or, Option, Some, None, refl, ap, sym, ◌∙◌, subst, arith, length-set, get_or-set_same}
 use Rattle.std.proofs.lemmas.Bool.Decides.{eqb_tells}
 use Rattle.std.proofs.lemmas.List.{get_or-set_other}
 use Rattle.std.proofs.lemmas.Option.{slice_get_within}
@@ -11,11 +11,11 @@ use Rattle.hub_core.proofs.Fresh.{rise-grow, rise-twice}
 use Rattle.hub_core.proofs.Growing.{at_one-same, at_one-other, slice_get-pushed}
 use Rattle.hub_core.proofs.Led.{leads-more}
 use Rattle.hub_core.proofs.Places.{session-pushed}
-use Rattle.hub_core.specs.Core.{Step, Does, MayDo}
+use Rattle.hub_core.specs.Core.{Does, MayDo}
 use Rattle.hub_core.specs.Floors.{Rise, floors_of, has_left}
 use Rattle.hub_core.specs.Groups.{all_sizes}
 use Rattle.hub_core.specs.Joint.{IsFreed, IsOver, IsQuiet}
-use Rattle.hub_core.specs.View.{View, Taking, Session, Reading, Event, Entered, at_one, session_new, session_at, reading_at, empty_view, grow}
+use Rattle.hub_core.specs.View.{View, Taking, Session, Reading, Event, Entered, session_new, session_at, reading_at, empty_view, grow}
 use Rattle.hub_layout.proofs.Places.{differ, within}
 use Rattle.hub_layout.specs.Places.{Card, Length}
 use Rattle.pool_words.proofs.Bits.{power}
@@ -175,11 +175,11 @@ module _ (groups : List (List ℕ)) (id : ℕ) (m : SeatMe) (o : Opening) (parti
   writers path = elim (eqb_tells path o.path) [
     | inl same ↦ subst (λ (q : ℕ). IsOfOne (λ u. (state_of u.entries).part.writes q) (λ u. (view_of u).sessions q) (next.sessions q) (set s.views id w)) (sym same.1)
         (subst (λ (l : List Session). IsOfOne (λ u. (state_of u.entries).part.writes o.path) (λ u. (view_of u).sessions o.path) l (set s.views id w)) (sym (at_one-same o.path (k.core.sessions o.path ++ new ∷ []) k.core.sessions))
-          (of-one-own _ _ _ s.views (k.writers o.path) id m.0 at w (k.core.sessions o.path ++ new ∷ []) can.acts (ap (λ x. x.part.writes o.path) went.is ∙ can.acts)
-            (ap (λ x. x.view.sessions o.path) went.is ∙ at_one-same o.path ((view_of m.0).sessions o.path ++ new ∷ []) (view_of m.0).sessions ∙ ap (λ (l : List Session). l ++ new ∷ []) own-list)))
+        (of-one-own _ _ _ s.views (k.writers o.path) id m.0 at w (k.core.sessions o.path ++ new ∷ []) can.acts (ap (λ x. x.part.writes o.path) went.is ∙ can.acts)
+        (ap (λ x. x.view.sessions o.path) went.is ∙ at_one-same o.path ((view_of m.0).sessions o.path ++ new ∷ []) (view_of m.0).sessions ∙ ap (λ (l : List Session). l ++ new ∷ []) own-list)))
     | inr other ↦ subst (λ (l : List Session). IsOfOne (λ u. (state_of u.entries).part.writes path) (λ u. (view_of u).sessions path) l (set s.views id w)) (sym (at_one-other o.path path (k.core.sessions o.path ++ new ∷ []) k.core.sessions other.1))
         (of-one-same _ _ _ s.views (k.writers path) id m.0 at w (ap (λ x. x.part.writes path) went.is)
-          (ap (λ x. x.view.sessions path) went.is ∙ at_one-other o.path path ((view_of m.0).sessions o.path ++ new ∷ []) (view_of m.0).sessions other.1))
+        (ap (λ x. x.view.sessions path) went.is ∙ at_one-other o.path path ((view_of m.0).sessions o.path ++ new ∷ []) (view_of m.0).sessions other.1))
   ]
 
   holders : (buf : ℕ) → IsHeldByOne (λ u. (view_of u).held buf) (next.held buf) (set s.views id w)
@@ -187,7 +187,7 @@ module _ (groups : List (List ℕ)) (id : ℕ) (m : SeatMe) (o : Opening) (parti
   holders buf = elim (eqb_tells buf o.buf) [
     | inl same ↦ subst (λ (b : ℕ). IsHeldByOne (λ u. (view_of u).held b) (next.held b) (set s.views id w)) (sym same.1)
         (subst (λ (x : Option Taking). IsHeldByOne (λ u. (view_of u).held o.buf) x (set s.views id w)) (sym (at_one-same o.buf None k.core.held))
-          (held-used _ _ s.views (k.holders o.buf) id m.0 at w h prepared-is.0 (ap (λ x. x.view.held o.buf) went.is ∙ at_one-same o.buf None (view_of m.0).held)))
+        (held-used _ _ s.views (k.holders o.buf) id m.0 at w h prepared-is.0 (ap (λ x. x.view.held o.buf) went.is ∙ at_one-same o.buf None (view_of m.0).held)))
     | inr other ↦ subst (λ (x : Option Taking). IsHeldByOne (λ u. (view_of u).held buf) x (set s.views id w)) (sym (at_one-other o.buf buf None k.core.held other.1))
         (held-same _ _ s.views (k.holders buf) id m.0 at w (ap (λ x. x.view.held buf) went.is ∙ at_one-other o.buf buf None (view_of m.0).held other.1))
   ]
@@ -215,7 +215,7 @@ module _ (groups : List (List ℕ)) (id : ℕ) (m : SeatMe) (o : Opening) (parti
     each = each-set (λ j u. 0 < u.parts → Knows groups next words u) s.views id w
         (λ some-part. record { groups_are = known.groups_are; whole = went.whole; floors = rise-twice (floors_at m.0) (floors_of groups k.core) (floors_of groups next) known.floors rise; hand = tt })
         (λ j u other is some-part. knows-on groups k.core next s.words words rise (λ g word so. so) u
-          (λ o' theirs so. length-stays o' (held-there groups s k o'.buf (record { number = o'.change; size = o'.cells }) (held-whole groups s k j u is o'.buf (record { number = o'.change; size = o'.cells }) theirs)) so) (k.each j u is some-part));
+        (λ o' theirs so. length-stays o' (held-there groups s k o'.buf (record { number = o'.change; size = o'.cells }) (held-whole groups s k j u is o'.buf (record { number = o'.change; size = o'.cells }) theirs)) so) (k.each j u is some-part));
     spent_is = each-set (λ j u. u.parts ≡ 0 → u.entries ≡ []) s.views id w (λ nothing. absurd (omega (arith, nothing, can.live))) (λ j u other is. k.spent_is j u is);
   }
 

@@ -1,9 +1,8 @@
 -- A session is entered in a buffer that the seat holds: its length is stored, and then its card.
-use Rattle.std.proofs.Common.{◌≡◌, ◌≢◌, ℕ, ◌+◌, ◌*◌, ◌%◌, ◌^◌, ◌<◌, ◌≤◌, inl, inr, zero, suc, Bool, true, false, List, [], ◌∷◌, ◌++◌, length, set, get_or, Option, Some, None, refl, ap, sym, ◌∙◌, subst, arith, eqb, length-set, get_or-set_same}
-use Rattle.std.proofs.lemmas.Bool.Decides.{eqb_tells}
+use Rattle.std.proofs.Common.{◌≡◌, ◌≢◌, ℕ, ◌+◌, ◌%◌, ◌^◌, ◌<◌, inl, inr, zero, suc, Bool, true, false, List, [], length, set, get_or, Option, Some, None, refl, ap, sym, ◌∙◌, subst, arith, eqb, length-set, get_or-set_same}
 use Rattle.std.proofs.lemmas.List.{get_or-set_other}
 use Rattle.std.proofs.lemmas.Option.{slice_get_within}
-use Rattle.std.specs.Prelude.{if◌then◌else◌, slice_get}
+use Rattle.std.specs.Prelude.{if◌then◌else◌}
 use mathlib.Core.Option.{none, some}
 use lib.ListN.{get_elem?}
 use prog.Atomic.{either}
@@ -16,18 +15,18 @@ use Rattle.hub_core.specs.Floors.{has_left, floors_of}
 use Rattle.hub_core.specs.Groups.{all_sizes, group_of, place_of, journal_of}
 use Rattle.hub_core.specs.Joint.{IsOver}
 use Rattle.hub_core.specs.Journal.{ChangesBuf}
-use Rattle.hub_core.specs.View.{View, Change, Taken, Taking, Session, Reading, session_at, reading_at}
+use Rattle.hub_core.specs.View.{View, Taken, Taking, Session, Reading, session_at, reading_at}
 use Rattle.hub_layout.proofs.Places.{differ, within}
-use Rattle.hub_layout.specs.Places.{Place, Card, Length, IsThere, place_at}
+use Rattle.hub_layout.specs.Places.{Card, Length}
 use Rattle.hub_shared.proofs.Cores.{HubState, lawful}
 use Rattle.hub_shared.proofs.Dealt.{each-set, total-set, dealt-same}
 use Rattle.hub_shared.proofs.Holding.{held-same, others-none}
 use Rattle.hub_shared.proofs.Parties.{of-one-same}
-use Rattle.hub_shared.proofs.Steps.{Goes, IsLength, knows-on, same-word, stays}
-use Rattle.hub_shared.specs.Cards.{ShowCards, dests_of, parties_of, place_of_word}
+use Rattle.hub_shared.proofs.Steps.{Goes, knows-on, same-word, stays}
+use Rattle.hub_shared.specs.Cards.{dests_of, parties_of, place_of_word}
 use Rattle.hub_shared.specs.Counts.{counts_one}
 use Rattle.hub_shared.specs.Plays.{SeatMe, IsEntering, entering, prepared}
-use Rattle.hub_shared.specs.Rule.{Knows, Kept, WasWord}
+use Rattle.hub_shared.specs.Rule.{Knows, Kept}
 use Rattle.hub_shared.specs.Sights.{view_of}
 use Rattle.hub_shared.specs.declared.sight.Hand.TheVariants.{Entering, Prepared}
 use Rattle.hub_shared.specs.declared.sight.Note.TheVariants.{Opens}
@@ -116,10 +115,10 @@ prepares groups slots id m o live hand holds s k long at low = (
     each = each-set (λ j u. 0 < u.parts → Knows groups k.core words u) s.views id w
         (λ some-part. record { groups_are = known.groups_are; whole = known.whole; floors = known.floors; hand = (holds, get_or-set_same s.words p o.len 0 (omega (arith, k.wide, within (length groups) (all_sizes groups) (Length o.buf) there))) })
         (λ j u other is some-part. knows-on groups k.core k.core s.words words (rise-same (floors_of groups k.core)) (λ g word so. so) u (λ o' theirs so.
-            get_or-set_other s.words p (place_of_word groups (Length o'.buf)) o.len 0
-              (length-length groups o'.buf o.buf (held-there groups s k o'.buf (record { number = o'.change; size = o'.cells }) (held-whole groups s k j u is o'.buf (record { number = o'.change; size = o'.cells }) theirs)) there
-                (λ same. absurd (let no : None ≡ Some (record { number = o'.change; size = o'.cells }) = sym (others-none _ _ s.views (k.holders o.buf) id m.0 at h holds j u other is) ∙ ap (view_of u).held (sym same) ∙ theirs in cc)))
-            ∙ so) (k.each j u is some-part));
+        get_or-set_other s.words p (place_of_word groups (Length o'.buf)) o.len 0
+        (length-length groups o'.buf o.buf (held-there groups s k o'.buf (record { number = o'.change; size = o'.cells }) (held-whole groups s k j u is o'.buf (record { number = o'.change; size = o'.cells }) theirs)) there
+        (λ same. absurd (let no : None ≡ Some (record { number = o'.change; size = o'.cells }) = sym (others-none _ _ s.views (k.holders o.buf) id m.0 at h holds j u other is) ∙ ap (view_of u).held (sym same) ∙ theirs in cc)))
+        ∙ so) (k.each j u is some-part));
     spent_is = each-set (λ j u. u.parts ≡ 0 → u.entries ≡ []) s.views id w (λ nothing. absurd (omega (arith, nothing, live))) (λ j u other is. k.spent_is j u is);
   },
   (λ o' is. let same : Entering o ≡ Entering o' = sym hand ∙ is in told o' same),

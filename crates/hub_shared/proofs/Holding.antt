@@ -1,12 +1,12 @@
 -- A buffer that one seat holds, as seats change, are divided and joined.
-use Rattle.std.proofs.Common.{◌≡◌, ◌≢◌, ℕ, ◌+◌, ◌<◌, ◌≤◌, ◌⊎◌, inl, inr, List, [], ◌∷◌, ◌++◌, set, Option, Some, None, refl, ap, sym, ◌∙◌, subst, arith}
+use Rattle.std.proofs.Common.{◌≡◌, ◌≢◌, ℕ, ◌+◌, ◌≤◌, ◌⊎◌, inl, inr, List, [], ◌∷◌, ◌++◌, set, Option, Some, None, refl, ap, sym, ◌∙◌, arith}
 use mathlib.Core.Option.{some}
 use lib.ListN.{get_elem?}
 use Rattle.atomic_table.proofs.Lists.{at_set}
 use Rattle.hub_core.specs.Parts.{first_of}
 use Rattle.hub_core.specs.View.{Taking}
-use Rattle.hub_shared.proofs.Dealt.{each-set, each-added, total-set, total-part, total-two, total-added}
-use Rattle.hub_shared.specs.Counts.{counts_some, total, IsHeldByOne}
+use Rattle.hub_shared.proofs.Dealt.{each-set, each-added, total-set, total-two, total-added}
+use Rattle.hub_shared.specs.Counts.{counts_some, IsHeldByOne}
 use Rattle.hub_shared.specs.declared.sight.Sight.{Sight}
 
 module _ (own : Sight → Option Taking) (whole : Option Taking) (views : List Sight) (so : IsHeldByOne own whole views) (id : ℕ) (v : Sight) (at : get_elem? views id ≡ some v) where
@@ -60,9 +60,9 @@ module _ (own : Sight → Option Taking) (whole : Option Taking) (views : List S
   pub held-divided : (l r : Sight) → own l ≡ own v → own r ≡ None → IsHeldByOne own whole (set views id l ++ r ∷ [])
   held-divided l r same none = record {
     one =
-      let t = total-set (λ u. counts_some (own u)) views id v l at in
-      let n = total-added (λ u. counts_some (own u)) (set views id l) r in
-      omega (arith, t, n, so.one, ap counts_some same, ap counts_some none);
+        let t = total-set (λ u. counts_some (own u)) views id v l at in
+        let n = total-added (λ u. counts_some (own u)) (set views id l) r in
+        omega (arith, t, n, so.one, ap counts_some same, ap counts_some none);
     each = each-added (λ j u. Holds whole u) (set views id l) r (λ j. inl none)
         (each-set (λ j u. Holds whole u) views id l (elim (so.each id v at) [ inl nothing ↦ inl (same ∙ nothing) | inr all ↦ inr (same ∙ all) ]) (λ j u other is. so.each j u is));
   }
@@ -71,9 +71,9 @@ module _ (own : Sight → Option Taking) (whole : Option Taking) (views : List S
   pub held-joined : (other : ℕ) (w b gone : Sight) → other ≢ id → get_elem? (set views id b) other ≡ some w → own b ≡ first_of (own w) (own v) → own gone ≡ None → IsHeldByOne own whole (set (set views id b) other gone)
   held-joined other w b gone apart found is none = record {
     one =
-      let t = total-set (λ u. counts_some (own u)) views id v b at in
-      let n = total-set (λ u. counts_some (own u)) (set views id b) other w gone found in
-      omega (arith, t, n, so.one, ap counts_some none, sum);
+        let t = total-set (λ u. counts_some (own u)) views id v b at in
+        let n = total-set (λ u. counts_some (own u)) (set views id b) other w gone found in
+        omega (arith, t, n, so.one, ap counts_some none, sum);
     each = each-set (λ j u. Holds whole u) (set views id b) other gone (inl none)
         (λ j u ne e. each-set (λ i x. Holds whole x) views id b (mine (so.each id v at) (so.each other w theirs)) (λ i x away was. so.each i x was) j u e);
   }

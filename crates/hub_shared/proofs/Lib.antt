@@ -13,5 +13,6 @@ mod Opened
 mod Parties
 mod Seats
 mod Steps
+mod Takes
 mod Weights
 mod Wholes

@@ -1,19 +1,17 @@
 -- The three steps of entering a session, named by the hub and the seat.
-use Rattle.std.proofs.Common.{◌≡◌, ℕ, ◌+◌, ◌-◌, ◌^◌, ◌<◌, ◌≤◌, true, List, length, Some, refl, ap, sym, ◌∙◌, subst, arith}
+use Rattle.std.proofs.Common.{◌≡◌, ℕ, ◌<◌, Some, sym, ◌∙◌, subst}
 use mathlib.Core.Option.{none}
 use Rattle.atomic_table.specs.Table.{step, Allows}
 use Rattle.hub_layout.specs.Places.{Card, Length, place_at}
 use Rattle.hub_shared.proofs.Entered.{CanEnter, enters}
 use Rattle.hub_shared.proofs.Enters.{prepares}
-use Rattle.hub_shared.proofs.Histories.{goes-did}
 use Rattle.hub_shared.proofs.Hubs.{of_rule, place-is}
 use Rattle.hub_shared.specs.Cards.{card_of}
-use Rattle.hub_shared.specs.History.{IsWhole, state_of}
-use Rattle.hub_shared.specs.Plays.{SeatMe, entered, entry_of, prepared, with_deed}
+use Rattle.hub_shared.specs.Plays.{SeatMe, entered, prepared}
 use Rattle.hub_shared.specs.Rule.{Kept}
 use Rattle.hub_shared.specs.Sights.{view_of}
 use Rattle.hub_shared.specs.declared.hub.SharedHub.{SharedHub}
-use Rattle.hub_shared.specs.declared.sight.Hand.TheVariants.{Entering, Prepared}
+use Rattle.hub_shared.specs.declared.sight.Hand.TheVariants.{Entering}
 use Rattle.hub_shared.specs.declared.sight.Opening.{Opening}
 
 module _ (hub : SharedHub) (slots id at : ℕ) (m : SeatMe) (o : Opening) where

@@ -33,6 +33,8 @@ card_of path seq parties = seq * 2 ^ 17 + path * 2 ^ 9 + parties
 
 -- the words show each session of which a party takes part; no party's bit is set elsewhere
 pub record ShowCards (groups : List (List ℕ)) (words : List ℕ) (v : View) : Type 0 where
-  pub cards : (path seq : ℕ) (s : Session) → session_at v path seq ≡ Some s → 0 < parties_of v path seq s → get_or words (place_of_word groups (Card s.buf)) 0 ≡ card_of path seq (parties_of v path seq s)
+  pub cards : (path seq : ℕ) (s : Session) → session_at v path seq ≡ Some s → 0 < parties_of v path seq s →
+      get_or words (place_of_word groups (Card s.buf)) 0 ≡ card_of path seq (parties_of v path seq s)
   pub lengths : (path seq : ℕ) (s : Session) → session_at v path seq ≡ Some s → 0 < parties_of v path seq s → get_or words (place_of_word groups (Length s.buf)) 0 ≡ s.len
-  pub empty : (buf : ℕ) → buf < length (all_sizes groups) → ((path seq : ℕ) (s : Session) → session_at v path seq ≡ Some s → s.buf ≡ buf → parties_of v path seq s ≡ 0) → get_or words (place_of_word groups (Card buf)) 0 % 2 ^ 9 ≡ 0
+  pub empty : (buf : ℕ) → buf < length (all_sizes groups) → ((path seq : ℕ) (s : Session) → session_at v path seq ≡ Some s → s.buf ≡ buf → parties_of v path seq s ≡ 0) →
+      get_or words (place_of_word groups (Card buf)) 0 % 2 ^ 9 ≡ 0

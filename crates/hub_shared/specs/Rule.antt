@@ -1,5 +1,5 @@
 -- The rule of the shared words: they and the histories of all seats show a state of the plain machine.
-use Rattle.std.specs.Prelude.{◌≡◌, ℕ, ◌+◌, ◌/◌, ◌%◌, ◌^◌, ◌<◌, ◌≤◌, if◌then◌else◌, Bool, List, [], ◌∷◌, length, get_or, slice_index, Option, Some}
+use Rattle.std.specs.Prelude.{◌≡◌, ℕ, ◌+◌, ◌/◌, ◌%◌, ◌^◌, ◌<◌, ◌≤◌, List, [], length, get_or, slice_index, Option, Some}
 use mathlib.Core.Option.{some}
 use lib.ListN.{get_elem?}
 use Rattle.atomic_table.specs.Table.{State}
@@ -35,7 +35,8 @@ HandKnows groups core words held Idle = Unit {0}
 HandKnows groups core words held (Looked group word) = WasWord groups group core word
 HandKnows groups core words held (Parting named) = Unit {0}
 HandKnows groups core words held (Entering opening) = Unit {0}
-HandKnows groups core words held (Prepared opening) = (held opening.buf ≡ Some (record { number = opening.change; size = opening.cells })) × (get_or words (place_of_word groups (Length opening.buf)) 0 ≡ opening.len)
+HandKnows groups core words held (Prepared opening) =
+    (held opening.buf ≡ Some (record { number = opening.change; size = opening.cells })) × (get_or words (place_of_word groups (Length opening.buf)) 0 ≡ opening.len)
 
 -- what a seat knows between its steps
 pub record Knows (groups : List (List ℕ)) (core : View) (words : List ℕ) (v : Sight) : Type 0 where

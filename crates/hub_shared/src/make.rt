@@ -43,8 +43,8 @@ fn first_words(alloc: Global, layout: &Layout, counts: &[u8]) -> Result<Vec<u64>
 
 impl SharedHub {
     /// A hub of 1 to 4 groups of 1 to 32 buffers, each buffer of 1 to 8192 cells and free, and the seat that acts for
-    /// all parties and has 8,000,000 takes. `cells` is the cells of each buffer, group after group, and `counts` how many
-    /// buffers each group has. It takes no memory later. `Memory` where a growth was refused.
+    /// all parties and has 8,000,000 takes. `cells` is the cells of each buffer, group after group, and `counts` how
+    /// many buffers each group has. It takes no memory later. `Memory` where a growth was refused.
     pub fn new(alloc: Global, cells: &[u32], counts: &[u8]) -> Result<(SharedHub, HubSeat), Memory>
         requires { IsPool cells.now counts.now }
         ensures seat { IfOk result (λ made. IsSeatOf made.0 made.1) }

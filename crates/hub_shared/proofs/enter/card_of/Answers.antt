@@ -1,7 +1,6 @@
-use Rattle.std.proofs.Common.{◌≡◌, ◌∙◌, ◌+◌, ◌-◌, ◌*◌, ◌%◌, ◌^◌, ◌≤◌, ℕ, suc, arith, ap}
+use Rattle.std.proofs.Common.{◌≡◌, ◌∙◌, ◌+◌, ◌^◌, ◌≤◌, ℕ, arith, ap}
 use Rattle.std.proofs.Math.Nat.{pow-le-pow_right}
 use Rattle.hub_shared.proofs.enter.card_of.Goals as goal
-use Rattle.hub_shared.specs.Cards.{card_of}
 use Rattle.pool_words.proofs.Bits.{power}
 
 pub returns : goal.returns

@@ -1,4 +1,4 @@
-use Rattle.std.proofs.Common.{◌≡◌, ◌∙◌, ◌+◌, ◌-◌, ◌^◌, ◌<◌, ◌≤◌, ℕ, zero, suc, ap, arith, length, refl, sym, subst}
+use Rattle.std.proofs.Common.{◌≡◌, ◌∙◌, ◌+◌, ◌-◌, ◌^◌, ℕ, zero, suc, ap, arith, length, refl, sym, subst}
 use Rattle.hub_shared.proofs.Enters.{opens-may}
 use Rattle.hub_shared.proofs.Histories.{goes-did}
 use Rattle.hub_shared.proofs.Hubs.{buffer-words, in-cells, words-there}

@@ -4,7 +4,8 @@
 # usage: bench/run.sh [PROGRAM]
 #
 # PROGRAM is the proved gateway, crates/gateway/out/gateway if none is given. The logs are made in a new folder, which is
-# removed at the end: first some 48,600 lines, and then ten times as many messages. Each time is the least of three runs.
+# removed at the end: some 48,600 lines of short messages, ten times as many messages, and some 486,000 lines of messages of up to 4,095
+# bytes, from CAN FD frames to classic ones in blocks of 8. Each time is the least of three runs.
 set -eu
 
 bench=$(CDPATH= cd -- "$(dirname -- "$0")" && pwd)
@@ -16,9 +17,12 @@ trap 'rm -rf "$folder"' EXIT
 cd "$folder"
 echo "cores $(nproc)"
 
+# Measures the program on so many messages of a kind, beside those before them.
 before=
-for units in 12000 120000; do
-    python3 "$bench/generate.py" "$seed" "$units" .
+measure() {
+    units=$1
+    shift
+    python3 "$bench/generate.py" "$seed" "$units" . "$@"
     program_took=$(python3 "$bench/measure.py" said.txt "$program" run gw.toml gw.report)
     wc_took=$(python3 "$bench/measure.py" lines.txt wc -l can0.log can1.log)
 
@@ -40,4 +44,9 @@ for units in 12000 120000; do
         }'
     fi
     before="$lines ${program_took% *}"
-done
+}
+
+measure 12000
+measure 120000
+before=
+measure 7000 blocks

@@ -1,5 +1,5 @@
 -- The faults of a line: their words, and their places.
-use Rattle.std.specs.Prelude.{ℕ, ◌-◌, List, length, codes, Result, Ok, Err}
+use Rattle.std.specs.Prelude.{◌≡◌, ℕ, ◌-◌, List, length, codes, Result, Ok, Err, MatchResult}
 use Rattle.candump_line.specs.declared.fault.LineKind.{LineKind}
 use Rattle.candump_line.specs.declared.fault.LineKind.TheVariants.{TooLong, NoStamp, BadStamp, NoIface, BadId, NoHash, BadData, BadLength}
 use Rattle.candump_line.specs.declared.fault.LineFault.{LineFault}
@@ -18,6 +18,10 @@ cause_text BadLength = codes "bad length"
 -- a fault at the place where the rest of a line of so many bytes begins
 abbrev pub fault_at : (len : ℕ) → LineKind → (rest : List ℕ) → LineFault
 fault_at len kind rest = record { kind = kind; at = len - length rest }
+
+-- an answer, as it is seen, is what is told, or its fault is
+abbrev pub Gives : {A B : Type 0} → Result A LineFault → (A → B) → Result B LineFault → Type 0
+Gives result seen told = MatchResult result (λ answer. told ≡ Ok (seen answer)) (λ fault. told ≡ Err fault)
 
 -- what is read first, and then what goes on from it; the first fault counts
 infixl 10 ◌>>=◌

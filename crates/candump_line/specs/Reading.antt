@@ -1,6 +1,6 @@
--- What a line of a log says, after candump's log format, or its first fault: its fields, from the first to the last. Each field is a
--- value and what stands after it; the fault's place is where the rest of the line can't stand.
-use Rattle.std.specs.Prelude.{◌≡◌, ℕ, ◌+◌, ◌-◌, ◌*◌, ◌/◌, ◌%◌, ◌^◌, ◌<◌, min, Bool, true, false, ◌&&◌, ◌||◌, ◌==◌, nat_le, nat_lt, if◌then◌else◌, List, [], ◌∷◌, length, take, drop, Option, None, Some, ok_or, Result, Ok, Err}
+-- What a line of a log says, after candump's log format, or its first fault: its fields, from the first to the last.
+-- Each field is a value and what stands after it; the fault's place is where the rest of the line can't stand.
+use Rattle.std.specs.Prelude.{◌≡◌, ℕ, ◌+◌, ◌-◌, ◌*◌, ◌/◌, ◌%◌, ◌^◌, ◌<◌, min, Bool, true, false, ◌&&◌, ◌||◌, ◌==◌, nat_le, nat_lt, if◌then◌else◌, List, [], ◌∷◌, length, take, drop, Option, None, Some, MatchOption, ok_or, Result, Ok, Err}
 use Rattle.std.specs.Char.{digit_value, is_digit}
 use Rattle.std.specs.List.{list_all, prefix_len}
 use Rattle.std.specs.Str.{bytes_eq}
@@ -20,6 +20,11 @@ use Rattle.candump_line.specs.declared.line.Line.TheVariants.{Frame as FrameLine
 abbrev pub begins : ℕ → List ℕ → Bool
 begins byte [] = false
 begins byte (first ∷ rest) = first == byte
+
+-- what stands after the byte, where it is the first
+abbrev pub IsAfter : {A : Type 0} → (byte : ℕ) → List ℕ → Option A → (A → List ℕ) → Type 0
+IsAfter byte rest found seen =
+    MatchOption found (begins byte rest ≡ false) (λ later. (begins byte rest ≡ true) × (seen later ≡ drop 1 rest))
 
 -- nothing is left
 abbrev pub is_over : List ℕ → Bool
@@ -63,7 +68,8 @@ micros_at len rest =
     let digits : ℕ = digits_in 10 6 rest in
     let after : List ℕ = drop digits rest in
     let more : ℕ = digits_in 10 3 after in
-    if digits == 6 && (more == 0 || more == 3) && begins 41 (drop more after) then Ok (number_in 10 digits rest, drop 1 (drop more after))
+    if digits == 6 && (more == 0 || more == 3) && begins 41 (drop more after)
+    then Ok (number_in 10 digits rest, drop 1 (drop more after))
     else Err (fault_at len BadStamp (drop more after))
 
 -- the stamp in microseconds; its seconds are below 2^32
@@ -72,7 +78,8 @@ stamp_at line =
     if begins 40 line then (do
       seconds ← seconds_at (length line) (drop 1 line)
       micros ← micros_at (length line) seconds.1
-      if nat_le seconds.0 4_294_967_295 then Ok (seconds.0 * 1_000_000 + micros.0, micros.1) else Err (record { kind = BadStamp; at = 1 }))
+      if nat_le seconds.0 4_294_967_295 then Ok (seconds.0 * 1_000_000 + micros.0, micros.1)
+          else Err (record { kind = BadStamp; at = 1 }))
     else Err (record { kind = NoStamp; at = 0 })
 
 -- ---- the interface and the identifier
@@ -83,7 +90,8 @@ interface_at len rest =
     let name : List ℕ = after_spaces rest in
     let bytes : ℕ = prefix_len is_visible name in
     if begins 32 rest then (
-    if nat_le 1 bytes && nat_le bytes 15 then Ok (take bytes name, drop bytes name) else Err (fault_at len NoIface (drop (min bytes 15) name)))
+    if nat_le 1 bytes && nat_le bytes 15 then Ok (take bytes name, drop bytes name)
+    else Err (fault_at len NoIface (drop (min bytes 15) name)))
     else Err (fault_at len NoIface rest)
 
 -- an error frame's: 8 digits, with this bit set
@@ -93,7 +101,9 @@ is_error_frame digits number = digits == 8 && number / 0x2000_0000 % 2 == 1
 -- a frame's: 3 digits in the base format, 8 digits in the extended one, in its range
 abbrev pub id_of : (digits number : ℕ) → Option CanId
 id_of digits number =
-    if digits == 3 && nat_le number 0x7FF then Some (Std number) else if digits == 8 && nat_le number 0x1FFF_FFFF then Some (Ext number) else None
+    if digits == 3 && nat_le number 0x7FF then Some (Std number)
+    else if digits == 8 && nat_le number 0x1FFF_FFFF then Some (Ext number)
+    else None
 
 -- spaces, and an identifier; None is an error frame's
 unfoldable pub id_at : (len : ℕ) → List ℕ → Result (Option CanId × List ℕ) LineFault
@@ -114,6 +124,10 @@ hex_bytes [] = []
 hex_bytes (digit ∷ []) = []
 hex_bytes (high ∷ low ∷ rest) = (digit_value high * 16 + digit_value low) ∷ hex_bytes rest
 
+-- the bytes that the hex digits at the front write
+abbrev pub front_bytes : List ℕ → List ℕ
+front_bytes rest = hex_bytes (take (prefix_len is_hex rest) rest)
+
 -- hex digits, two for each of at most 64 bytes
 unfoldable pub data_at : (len : ℕ) → List ℕ → Result (List ℕ × List ℕ) LineFault
 data_at len rest =
@@ -124,14 +138,16 @@ data_at len rest =
 
 -- a frame of these parts, where its kind may have so many bytes; its data is what begins here
 abbrev pub frame_of : (len : ℕ) → CanFrame → List ℕ → Result CanFrame LineFault
-frame_of len frame rest = if length_fits frame.fd (length frame.bytes) then Ok frame else Err (fault_at len BadLength rest)
+frame_of len frame rest =
+    if length_fits frame.fd (length frame.bytes) then Ok frame else Err (fault_at len BadLength rest)
 
 -- an FD frame: a hex digit of flags, of which the lowest bit is the switch to the higher bit rate, and the data
 unfoldable pub fd_at : (len : ℕ) → CanId → List ℕ → Result (CanFrame × List ℕ) LineFault
 fd_at len id rest =
     if digits_in 16 1 rest == 1 then (do
       read ← data_at len (drop 1 rest)
-      frame ← frame_of len (record { id = id; fd = true; brs = number_in 16 1 rest % 2 == 1; bytes = read.0 }) (drop 1 rest)
+      let switches : Bool = number_in 16 1 rest % 2 == 1
+      frame ← frame_of len (record { id = id; fd = true; brs = switches; bytes = read.0 }) (drop 1 rest)
       Ok (frame, read.1))
     else Err (fault_at len BadData rest)
 
@@ -139,7 +155,8 @@ fd_at len id rest =
 unfoldable pub length_code_at : (len bytes : ℕ) → List ℕ → Result (List ℕ) LineFault
 length_code_at len bytes rest =
     if bytes == 8 && begins 95 rest then (
-    if digits_in 16 1 (drop 1 rest) == 1 && nat_le 9 (number_in 16 1 (drop 1 rest)) then Ok (drop 2 rest) else Err (fault_at len BadData (drop 1 rest)))
+    if digits_in 16 1 (drop 1 rest) == 1 && nat_le 9 (number_in 16 1 (drop 1 rest)) then Ok (drop 2 rest)
+    else Err (fault_at len BadData (drop 1 rest)))
     else Ok rest
 
 -- a classic frame: the data
@@ -155,7 +172,8 @@ classic_at len id rest = do
 -- what stands after spaces, and after a letter for the direction that follows one space or more
 abbrev pub after_direction : List ℕ → List ℕ
 after_direction rest =
-    if begins 32 rest && (begins 82 (after_spaces rest) || begins 84 (after_spaces rest)) then after_spaces (drop 1 (after_spaces rest))
+    if begins 32 rest && (begins 82 (after_spaces rest) || begins 84 (after_spaces rest))
+    then after_spaces (drop 1 (after_spaces rest))
     else after_spaces rest
 
 -- the end, perhaps after spaces, and before it perhaps a direction
@@ -191,8 +209,8 @@ named_at len at rest = do
   id ← id_at len rest
   content_at len at id.0 id.1
 
--- a line, without its line end, in the log of this interface. Of a line of another interface, of an error frame and of a remote frame
--- nothing more is read
+-- a line, without its line end, in the log of this interface. Of a line of another interface, of an error frame and
+-- of a remote frame nothing more is read
 unfoldable pub line_of : (iface line : List ℕ) → Result Line LineFault
 line_of iface line =
     if nat_lt 512 (length line) then Err (record { kind = TooLong; at = 512 })

@@ -1,4 +1,4 @@
--- How a line that lists a frame is spelled in candump's log format: the pieces that it is made of, and what each of them says.
+-- How a line that lists a frame is spelled in candump's log format: the pieces that it is made of, and what each says.
 use Rattle.std.specs.Prelude.{◌≡◌, ◌⊎◌, ℕ, ◌+◌, ◌*◌, ◌%◌, ◌^◌, ◌<◌, ◌≤◌, Bool, true, false, ◌==◌, List, [], ◌∷◌, ◌++◌, length, codes, All}
 use Rattle.std.specs.Char.{digit_value}
 use Rattle.std.specs.Str.Parse.{AllDigits, digits_value}
@@ -19,7 +19,8 @@ AreSpaces text = All (λ b. b ≡ 32) text
 abbrev pub AreSomeSpaces : List ℕ → Type 0
 AreSomeSpaces text = (0 < length text) × AreSpaces text
 
--- the stamp: 1 to 10 digits of seconds below 2^32, a dot, six digits of microseconds, perhaps three digits more that say nothing
+-- the stamp: 1 to 10 digits of seconds below 2^32, a dot, six digits of microseconds, perhaps three digits more that
+-- say nothing
 pub record IsStamp (text : List ℕ) (at : ℕ) : Type 0 where
   pub seconds : ℕ
   pub micros : ℕ
@@ -42,10 +43,12 @@ abbrev pub IsIdText : List ℕ → CanId → Type 0
 IsIdText digits (Std number) = (length digits ≡ 3) × (number ≤ 0x7FF) × Writes 16 number digits
 IsIdText digits (Ext number) = (length digits ≡ 8) × (number ≤ 0x1FFF_FFFF) × Writes 16 number digits
 
--- what parts the identifier from the data: `#`, and for FD `##` and a hex digit of flags, whose lowest bit is the higher bit rate
+-- what parts the identifier from the data: `#`, and for FD `##` and a hex digit of flags, whose lowest bit is the
+-- higher bit rate
 abbrev pub IsKindText : List ℕ → (fd brs : Bool) → Type 0
 IsKindText text false brs = text ≡ codes "#"
-IsKindText text true brs = (flags : ℕ) × (text ≡ 35 ∷ 35 ∷ flags ∷ []) × (digit_value flags < 16) × ((digit_value flags % 2 == 1) ≡ brs)
+IsKindText text true brs = (flags : ℕ) × (text ≡ 35 ∷ 35 ∷ flags ∷ []) × (digit_value flags < 16)
+    × ((digit_value flags % 2 == 1) ≡ brs)
 
 -- two hex digits, of either case, for each of the bytes
 unfoldable pub AreDataDigits : (digits bytes : List ℕ) → Type 0
@@ -54,11 +57,13 @@ AreDataDigits [] (byte ∷ bytes) = ⊥
 AreDataDigits (high ∷ []) bytes = ⊥
 AreDataDigits (high ∷ low ∷ digits) [] = ⊥
 AreDataDigits (high ∷ low ∷ digits) (byte ∷ bytes) =
-    (digit_value high < 16) × (digit_value low < 16) × (byte ≡ digit_value high * 16 + digit_value low) × AreDataDigits digits bytes
+    (digit_value high < 16) × (digit_value low < 16) × (byte ≡ digit_value high * 16 + digit_value low)
+    × AreDataDigits digits bytes
 
 -- after eight bytes of a classic frame perhaps `_` and a hex digit from 9 on, which says nothing
 abbrev pub IsLengthCode : List ℕ → (fd : Bool) → (bytes : ℕ) → Type 0
-IsLengthCode text fd bytes = (text ≡ []) ⊎ ((digit : ℕ) × (text ≡ 95 ∷ digit ∷ []) × (fd ≡ false) × (bytes ≡ 8) × (9 ≤ digit_value digit) × (digit_value digit < 16))
+IsLengthCode text fd bytes = (text ≡ []) ⊎ ((digit : ℕ) × (text ≡ 95 ∷ digit ∷ []) × (fd ≡ false) × (bytes ≡ 8)
+    × (9 ≤ digit_value digit) × (digit_value digit < 16))
 
 -- a direction, `R` or `T`, after spaces, and spaces after it
 pub record HasDirection (text : List ℕ) : Type 0 where

@@ -1,12 +1,13 @@
 //! A frame's data in a line, and the line's end.
-ghost use Rattle.std.specs.Prelude.{◌≡◌, ◌≤◌, ◌<◌, ◌+◌, ◌*◌, ◌^◌, ◌++◌, ◌&&◌, length, drop, take, true, false, Ok, Err, MatchResult, IfOk, IfSome, MatchBool};
+ghost use Rattle.std.specs.Prelude.{◌≡◌, ◌≤◌, ◌<◌, ◌+◌, ◌*◌, ◌^◌, ◌++◌, ◌&&◌, length, drop, take, true, false, Ok, Err, IfOk, IfSome, MatchBool};
 ghost use Rattle.std.specs.Bool.{OnTrue};
 ghost use Rattle.std.specs.List.{prefix_len};
 ghost use Rattle.can_frame.specs.Frame.{IsLawful};
 ghost use Rattle.can_frame.specs.Id.{id_fits};
+ghost use Rattle.candump_line.specs.Fault.{Gives};
 ghost use Rattle.candump_line.specs.Spelling.{AreDataDigits};
 ghost use Rattle.candump_line.specs.Steps.{data_within};
-ghost use Rattle.candump_line.specs.Reading.{IsLawfulLine, after_direction, begins, classic_at, data_at, end_at, ended_at, fd_at, frame_of, hex_bytes, is_hex, length_code_at};
+ghost use Rattle.candump_line.specs.Reading.{IsLawfulLine, after_direction, begins, classic_at, data_at, end_at, ended_at, fd_at, frame_of, front_bytes, is_hex, length_code_at};
 
 use crate::digit::{HEX, count_hex, digit_value, number};
 use crate::fault::{LineFault, LineKind};
@@ -19,12 +20,13 @@ use gw_base::Micros;
 /// The least data length code that stands after `_`.
 const LEAST_LENGTH_CODE: u64 = 9;
 
-/// Takes the pairs of hex digits at the front as bytes, as far as there is room, and gives how many they are and what stands after them.
+/// Takes the pairs of hex digits at the front as bytes, as far as there is room, and gives how many they are and what
+/// stands after them.
 #[inline(always)]
 fn take_pairs<'a, const N: usize>(text: &'a [u8], bytes: &mut [u8; N]) -> (usize, &'a [u8])
     requires { N ≤ 64 }
     ensures digits { prefix_len is_hex text.now ≡ 2 * result.0 + prefix_len is_hex result.1.now }
-    ensures bytes { hex_bytes (take (prefix_len is_hex text.now) text.now) ≡ take result.0 bytes.new ++ hex_bytes (take (prefix_len is_hex result.1.now) result.1.now) }
+    ensures bytes { front_bytes text.now ≡ take result.0 bytes.new ++ front_bytes result.1.now }
     ensures rest { result.1.now ≡ drop (2 * result.0) text.now }
     ensures most { result.0 ≤ N }
     ensures size { length bytes.new ≡ N }
@@ -67,7 +69,7 @@ fn read_data<'a, const N: usize>(
 ) -> Result<(usize, &'a [u8]), LineFault>
     requires short { len ≤ MOST_LINE }
     requires room { N ≤ 64 }
-    ensures read { MatchResult result (λ read. data_within N len rest.now ≡ Ok (take read.0 bytes.new, read.1.now)) (λ fault. data_within N len rest.now ≡ Err fault) }
+    ensures read { Gives result (λ read. (take read.0 bytes.new, read.1.now)) (data_within N len rest.now) }
     ensures most { IfOk result (λ read. read.0 ≤ N) }
 {
     let (count, left) = take_pairs(rest, bytes);
@@ -130,7 +132,7 @@ pub(crate) fn read_fd(len: usize, at: Micros, id: CanId, rest: &[u8]) -> Result<
 #[inline(always)]
 fn after_length_code(len: usize, bytes: usize, rest: &[u8]) -> Result<&[u8], LineFault>
     requires { len ≤ MOST_LINE }
-    ensures { MatchResult result (λ read. length_code_at len bytes rest.now ≡ Ok read.now) (λ fault. length_code_at len bytes rest.now ≡ Err fault) }
+    ensures { Gives result (λ read. read.now) (length_code_at len bytes rest.now) }
 {
     if bytes != MAX_CLASSIC {
         return Ok(rest);

@@ -1,8 +1,8 @@
 //! The pieces that a line's fields are made of.
-ghost use Rattle.std.specs.Prelude.{◌≡◌, ◌≤◌, true, false, length, drop, MatchOption};
+ghost use Rattle.std.specs.Prelude.{◌≡◌, ◌≤◌, length, drop};
 ghost use Rattle.std.specs.List.{list_all, prefix_len};
 ghost use Rattle.candump_line.specs.Fault.{fault_at};
-ghost use Rattle.candump_line.specs.Reading.{after_spaces, begins, is_space, is_visible};
+ghost use Rattle.candump_line.specs.Reading.{IsAfter, after_spaces, is_space, is_visible};
 
 use crate::fault::{LineFault, LineKind};
 
@@ -30,7 +30,7 @@ pub(crate) fn skip(rest: &[u8], bytes: usize) -> &[u8]
 
 /// What stands after the byte, where it is the first.
 pub(crate) fn after(byte: u8, rest: &[u8]) -> Option<&[u8]>
-    ensures { MatchOption result (begins byte rest.now ≡ false) (λ later. (begins byte rest.now ≡ true) × (later.now ≡ drop 1 rest.now)) }
+    ensures { IsAfter byte rest.now result (λ later. later.now) }
 {
     let [first, later @ ..] = rest else {
         return None;

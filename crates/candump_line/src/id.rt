@@ -1,6 +1,7 @@
 //! A line's interface and identifier.
-ghost use Rattle.std.specs.Prelude.{◌≡◌, ◌≤◌, ℕ, ◌^◌, ◌<◌, true, false, length, Some, None, Ok, Err, MatchResult, MatchOption, IfOk, IfSome, option_map};
+ghost use Rattle.std.specs.Prelude.{◌≡◌, ◌≤◌, ℕ, ◌^◌, ◌<◌, true, false, length, Some, None, Ok, Err, MatchOption, IfOk, IfSome, option_map};
 ghost use Rattle.can_frame.specs.Id.{id_fits};
+ghost use Rattle.candump_line.specs.Fault.{Gives};
 ghost use Rattle.candump_line.specs.Steps.{name_at};
 ghost use Rattle.candump_line.specs.Reading.{id_at, id_of, interface_at, is_error_frame};
 
@@ -29,7 +30,7 @@ const ERROR_FRAME: u64 = 0x2000_0000;
 #[inline(never)]
 fn read_interface(len: usize, rest: &[u8]) -> Result<(&[u8], &[u8]), LineFault>
     requires { len ≤ MOST_LINE }
-    ensures { MatchResult result (λ read. interface_at len rest.now ≡ Ok (read.0.now, read.1.now)) (λ fault. interface_at len rest.now ≡ Err fault) }
+    ensures { Gives result (λ read. (read.0.now, read.1.now)) (interface_at len rest.now) }
 {
     if after(b' ', rest).is_none() {
         return Err(fault_at(len, LineKind::NoIface, rest));
@@ -74,7 +75,7 @@ pub(crate) fn read_name<'a>(
     iface: &[u8],
 ) -> Result<Option<&'a [u8]>, LineFault>
     requires { len ≤ MOST_LINE }
-    ensures { MatchResult result (λ found. name_at len iface.now rest.now ≡ Ok (option_map (λ later. later.now) found)) (λ fault. name_at len iface.now rest.now ≡ Err fault) }
+    ensures { Gives result (λ found. option_map (λ later. later.now) found) (name_at len iface.now rest.now) }
 {
     if let Some(later) = after_name(rest, iface) {
         return Ok(Some(later));
@@ -113,7 +114,7 @@ fn id_of(digits: usize, number: u64) -> Option<CanId>
 #[inline(never)]
 fn read_any_id(len: usize, rest: &[u8]) -> Result<(Option<CanId>, &[u8]), LineFault>
     requires { len ≤ MOST_LINE }
-    ensures read { MatchResult result (λ read. id_at len rest.now ≡ Ok (read.0, read.1.now)) (λ fault. id_at len rest.now ≡ Err fault) }
+    ensures read { Gives result (λ read. (read.0, read.1.now)) (id_at len rest.now) }
     ensures fits { IfOk result (λ read. IfSome read.0 (λ id. id_fits id ≡ true)) }
 {
     let name = after_spaces(rest);
@@ -147,7 +148,7 @@ fn written_id(rest: &[u8]) -> Option<(CanId, &[u8])>
 #[inline(always)]
 pub(crate) fn read_id(len: usize, rest: &[u8]) -> Result<(Option<CanId>, &[u8]), LineFault>
     requires { len ≤ MOST_LINE }
-    ensures read { MatchResult result (λ read. id_at len rest.now ≡ Ok (read.0, read.1.now)) (λ fault. id_at len rest.now ≡ Err fault) }
+    ensures read { Gives result (λ read. (read.0, read.1.now)) (id_at len rest.now) }
     ensures fits { IfOk result (λ read. IfSome read.0 (λ id. id_fits id ≡ true)) }
 {
     match written_id(rest) {

@@ -1,5 +1,6 @@
 //! A line's stamp.
-ghost use Rattle.std.specs.Prelude.{◌≡◌, ◌==◌, ◌&&◌, ◌||◌, ◌<◌, ◌≤◌, ◌^◌, ◌*◌, length, Ok, Err, MatchResult, IfOk, IfSome};
+ghost use Rattle.std.specs.Prelude.{◌≡◌, ◌==◌, ◌&&◌, ◌||◌, ◌<◌, ◌≤◌, ◌^◌, ◌*◌, length, Ok, Err, IfOk, IfSome};
+ghost use Rattle.candump_line.specs.Fault.{Gives};
 ghost use Rattle.candump_line.specs.Reading.{stamp_at};
 
 use crate::digit::{DECIMAL, all_decimal, number};
@@ -55,7 +56,7 @@ fn written_stamp(line: &[u8]) -> Option<(Micros, &[u8])>
 #[inline(never)]
 fn read_any_stamp(line: &[u8]) -> Result<(Micros, &[u8]), LineFault>
     requires { length line.now ≤ MOST_LINE }
-    ensures read { MatchResult result (λ read. stamp_at line.now ≡ Ok (read.0.0, read.1.now)) (λ fault. stamp_at line.now ≡ Err fault) }
+    ensures read { Gives result (λ read. (read.0.0, read.1.now)) (stamp_at line.now) }
     ensures dated { IfOk result (λ read. read.0.0 < 2 ^ 32 * 10 ^ 6) }
 {
     let Some(rest) = after(b'(', line) else {
@@ -95,7 +96,7 @@ fn read_any_stamp(line: &[u8]) -> Result<(Micros, &[u8]), LineFault>
 #[inline(always)]
 pub(crate) fn read_stamp(line: &[u8]) -> Result<(Micros, &[u8]), LineFault>
     requires { length line.now ≤ MOST_LINE }
-    ensures read { MatchResult result (λ read. stamp_at line.now ≡ Ok (read.0.0, read.1.now)) (λ fault. stamp_at line.now ≡ Err fault) }
+    ensures read { Gives result (λ read. (read.0.0, read.1.now)) (stamp_at line.now) }
     ensures dated { IfOk result (λ read. read.0.0 < 2 ^ 32 * 10 ^ 6) }
 {
     match written_stamp(line) {

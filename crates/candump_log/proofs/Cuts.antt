@@ -4,7 +4,7 @@ use Rattle.std.specs.List.{All}
 use Rattle.std.proofs.lemmas.Bool.{ne_eqb}
 use Rattle.std.proofs.lemmas.List.Elements.{All-tail}
 use Rattle.candump_log.specs.Source.{Source}
-use Rattle.candump_log.specs.declared.log.LineRefusal.{LineRefusal}
+use Rattle.candump_line.specs.declared.fault.LineFault.{LineFault}
 use Rattle.candump_log.specs.declared.log.Stamped.{Stamped}
 use Rattle.candump_log.specs.Line.{taken_by}
 use Rattle.candump_log.specs.Log.{AreTaken, ended, frames_of, HasNoFeed, GoesPast, IsTakenLog, IsCut, StopsAt}
@@ -65,23 +65,23 @@ cut_lines content lines is = elim is.cut [
 
 -- the lines of a log are taken
 abbrev Taken : Source → List (List ℕ) → Type 0
-Taken source lines = AreTaken source.interface source.is_unsupported lines
+Taken source lines = AreTaken source.interface source.fd lines
 
 all_taken : (source : Source) (content : List ℕ) (count : ℕ) (frames : List Stamped) → IsTakenLog source content count frames → Taken source (cut content)
 all_taken source content count frames (lines, is, long) = subst (Taken source) (sym (cut_lines content lines is.cut)) is.taken
 
 -- after lines that are taken stands one that is refused
-record IsStopped (source : Source) (all : List (List ℕ)) (number : ℕ) (refusal : LineRefusal) : Type 0 where
+record IsStopped (source : Source) (all : List (List ℕ)) (number : ℕ) (fault : LineFault) : Type 0 where
   lines : List (List ℕ)
   line : List ℕ
   more : List (List ℕ)
   whole : all ≡ lines ++ line ∷ more
   taken : Taken source lines
-  refused : taken_by source line ≡ Err refusal
+  refused : taken_by source line ≡ Err fault
   count : number ≡ length lines + 1
 
-stopped : (source : Source) (most : ℕ) (content : List ℕ) (number : ℕ) (refusal : LineRefusal) → StopsAt source most content number refusal → IsStopped source (cut content) number refusal
-stopped source most content number refusal stops =
+stopped : (source : Source) (most : ℕ) (content : List ℕ) (number : ℕ) (fault : LineFault) → StopsAt source most content number fault → IsStopped source (cut content) number fault
+stopped source most content number fault stops =
     let front : cut content ≡ stops.lines ++ cut (stops.line ++ stops.tail) = ap cut (stops.bytes ∙ append_assoc (ended stops.lines) stops.line stops.tail) ∙ cut-ended stops.lines (stops.line ++ stops.tail) stops.no_feed in
     let ends : (more : List (List ℕ)) × (cut (stops.line ++ stops.tail) ≡ stops.line ∷ more) = elim stops.ends [
       | inl none ↦ ([], let same : stops.line ++ stops.tail ≡ stops.line = rw none.0 (append-nil stops.line) in ap cut same ∙ cut-last stops.line stops.is_line none.1)
@@ -98,19 +98,19 @@ stopped source most content number refusal stops =
     }
 
 -- a line that is refused isn't taken
-not_both : (r : Result (Option Stamped) LineRefusal) (refusal : LineRefusal) → r ≡ Err refusal → is_ok r ≡ true → ⊥
-not_both r refusal refused taken = let clash : false ≡ true = rw refused at taken in cc
+not_both : (r : Result (Option Stamped) LineFault) (fault : LineFault) → r ≡ Err fault → is_ok r ≡ true → ⊥
+not_both r fault refused taken = let clash : false ≡ true = rw refused at taken in cc
 
 -- a line that is refused stands after all that are taken
-no_more_taken : (source : Source) (lines lines' : List (List ℕ)) (line : List ℕ) (more rest : List (List ℕ)) (refusal : LineRefusal) →
-    lines ++ line ∷ more ≡ lines' ++ rest → Taken source lines' → taken_by source line ≡ Err refusal → length lines' ≤ length lines
-no_more_taken source lines [] line more rest refusal same taken refused = omega arith
-no_more_taken source [] (l ∷ lines') line more rest refusal same taken refused =
+no_more_taken : (source : Source) (lines lines' : List (List ℕ)) (line : List ℕ) (more rest : List (List ℕ)) (fault : LineFault) →
+    lines ++ line ∷ more ≡ lines' ++ rest → Taken source lines' → taken_by source line ≡ Err fault → length lines' ≤ length lines
+no_more_taken source lines [] line more rest fault same taken refused = omega arith
+no_more_taken source [] (l ∷ lines') line more rest fault same taken refused =
     let first : line ≡ l = cc in
-    absurd (not_both (taken_by source l) refusal (ap (taken_by source) (sym first) ∙ refused) (taken 0 [] (omega arith)))
-no_more_taken source (x ∷ lines) (l ∷ lines') line more rest refusal same taken refused =
+    absurd (not_both (taken_by source l) fault (ap (taken_by source) (sym first) ∙ refused) (taken 0 [] (omega arith)))
+no_more_taken source (x ∷ lines) (l ∷ lines') line more rest fault same taken refused =
     let later : lines ++ line ∷ more ≡ lines' ++ rest = cc in
-    let fewer = no_more_taken source lines lines' line more rest refusal later (All-tail (λ t. is_ok (taken_by source t) ≡ true) l lines' taken) refused in omega (arith, fewer)
+    let fewer = no_more_taken source lines lines' line more rest fault later (All-tail (λ t. is_ok (taken_by source t) ≡ true) l lines' taken) refused in omega (arith, fewer)
 
 -- after as many lines stands the same line
 same_line : (lines lines' : List (List ℕ)) (line line' : List ℕ) (more more' : List (List ℕ)) → lines ++ line ∷ more ≡ lines' ++ line' ∷ more' → length lines ≡ length lines' → line ≡ line'
@@ -127,10 +127,10 @@ pub taken-once : (source : Source) (content : List ℕ) (m n : ℕ) (frames fram
 taken-once source content m n frames frames' (lines, one, long) (lines', other, long') =
     let same : lines ≡ lines' = sym (cut_lines content lines one.cut) ∙ cut_lines content lines' other.cut in (
       long ∙ ap length same ∙ sym long',
-      one.frames_are ∙ ap (frames_of source.interface source.is_unsupported) same ∙ sym other.frames_are,
+      one.frames_are ∙ ap (frames_of source.interface source.fd) same ∙ sym other.frames_are,
     )
 
-pub stops-once : (source : Source) (most : ℕ) (content : List ℕ) (m n : ℕ) (r s : LineRefusal) → StopsAt source most content m r → StopsAt source most content n s → (m ≡ n) × (r ≡ s)
+pub stops-once : (source : Source) (most : ℕ) (content : List ℕ) (m n : ℕ) (r s : LineFault) → StopsAt source most content m r → StopsAt source most content n s → (m ≡ n) × (r ≡ s)
 stops-once source most content m n r s one other =
     let a = stopped source most content m r one in
     let b = stopped source most content n s other in
@@ -138,21 +138,21 @@ stops-once source most content m n r s one other =
     let fewer = no_more_taken source a.lines b.lines a.line a.more (b.line ∷ b.more) r all b.taken a.refused in
     let more = no_more_taken source b.lines a.lines b.line b.more (a.line ∷ a.more) s (sym all) a.taken b.refused in
     let line : a.line ≡ b.line = same_line a.lines b.lines a.line b.line a.more b.more all (omega (arith, fewer, more)) in
-    let refusals : ◌≡◌ {A = Result (Option Stamped) LineRefusal} (Err r) (Err s) = sym a.refused ∙ ap (taken_by source) line ∙ b.refused in
+    let faults : ◌≡◌ {A = Result (Option Stamped) LineFault} (Err r) (Err s) = sym a.refused ∙ ap (taken_by source) line ∙ b.refused in
     (omega (arith, fewer, more, a.count, b.count), cc)
 
-pub stops-or_taken : (source : Source) (most : ℕ) (content : List ℕ) (number : ℕ) (refusal : LineRefusal) (count : ℕ) (frames : List Stamped) → StopsAt source most content number refusal → ¬ IsTakenLog source content count frames
-stops-or_taken source most content number refusal count frames stops built =
-    let a = stopped source most content number refusal stops in
-    let fewer = no_more_taken source a.lines (cut content) a.line a.more [] refusal (sym a.whole ∙ sym (append-nil (cut content))) (all_taken source content count frames built) a.refused in
+pub stops-or_taken : (source : Source) (most : ℕ) (content : List ℕ) (number : ℕ) (fault : LineFault) (count : ℕ) (frames : List Stamped) → StopsAt source most content number fault → ¬ IsTakenLog source content count frames
+stops-or_taken source most content number fault count frames stops built =
+    let a = stopped source most content number fault stops in
+    let fewer = no_more_taken source a.lines (cut content) a.line a.more [] fault (sym a.whole ∙ sym (append-nil (cut content))) (all_taken source content count frames built) a.refused in
     let long : length (cut content) ≡ length a.lines + length (a.line ∷ a.more) = ap length a.whole ∙ length-append a.lines (a.line ∷ a.more) in
     omega (arith, fewer, long)
 
-pub stops-or_passes : (source : Source) (most : ℕ) (content : List ℕ) (number : ℕ) (refusal : LineRefusal) → StopsAt source most content number refusal → ¬ GoesPast source content most
-stops-or_passes source most content number refusal stops past =
-    let a = stopped source most content number refusal stops in
+pub stops-or_passes : (source : Source) (most : ℕ) (content : List ℕ) (number : ℕ) (fault : LineFault) → StopsAt source most content number fault → ¬ GoesPast source content most
+stops-or_passes source most content number fault stops past =
+    let a = stopped source most content number fault stops in
     let whole : cut content ≡ past.lines ++ cut past.rest = ap cut past.bytes ∙ cut-ended past.lines past.rest past.no_feed in
-    let fewer = no_more_taken source a.lines past.lines a.line a.more (cut past.rest) refusal (sym a.whole ∙ whole) past.taken a.refused in
+    let fewer = no_more_taken source a.lines past.lines a.line a.more (cut past.rest) fault (sym a.whole ∙ whole) past.taken a.refused in
     omega (arith, fewer, a.count, stops.within, past.count)
 
 pub passes-or_taken : (source : Source) (most : ℕ) (content : List ℕ) (count : ℕ) (frames : List Stamped) → count ≤ most → GoesPast source content most → ¬ IsTakenLog source content count frames

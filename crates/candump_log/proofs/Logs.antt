@@ -8,8 +8,8 @@ use Rattle.std.proofs.lemmas.List.Elements.{All-append, All-cons, All-nil, All-p
 use Rattle.gw_depot.specs.Files.{Files, ReadsFile}
 use Rattle.candump_log.specs.Source.{Source}
 use Rattle.candump_log.specs.declared.log.Stamped.{Stamped}
-use Rattle.candump_log.specs.Dated.{AreDated}
-use Rattle.candump_log.specs.Line.{IsSupported, IsTakenStamped, taken_by}
+use Rattle.candump_log.specs.Dated.{AreDated, IsDated}
+use Rattle.candump_log.specs.Line.{taken_by}
 use Rattle.candump_log.specs.Log.{AddsLine, AreTaken, HasNoFeed, IsTakenLog, IsFeedAt, ReadSoFar, ReadsLog, ended, frames_of, given}
 use Rattle.candump_log.proofs.LineFeeds.{feed_taken}
 use Rattle.gw_depot.proofs.ReadLemmas.{take-whole, read_within}
@@ -18,26 +18,26 @@ pub ended-push : (lines : List (List ℕ)) (line : List ℕ) → ended (lines ++
 ended-push lines line = flat_map-append (λ l. l ++ 10 ∷ []) lines (line ∷ []) ∙ ap (λ t. ended lines ++ t) (append-nil (line ++ 10 ∷ []))
 
 taken-push : (source : Source) (lines : List (List ℕ)) (line : List ℕ) (frame : Option Stamped) →
-    AreTaken source.interface source.is_unsupported lines → taken_by source line ≡ Ok frame → AreTaken source.interface source.is_unsupported (lines ++ line ∷ [])
+    AreTaken source.interface source.fd lines → taken_by source line ≡ Ok frame → AreTaken source.interface source.fd (lines ++ line ∷ [])
 taken-push source lines line frame taken is = All-push (λ l. IsOk (taken_by source l)) lines line taken (ap is_ok is)
 
 frames-push : (source : Source) (lines : List (List ℕ)) (line : List ℕ) (frame : Option Stamped) → taken_by source line ≡ Ok frame →
-    frames_of source.interface source.is_unsupported (lines ++ line ∷ []) ≡ frames_of source.interface source.is_unsupported lines ++ option_to_list frame
+    frames_of source.interface source.fd (lines ++ line ∷ []) ≡ frames_of source.interface source.fd lines ++ option_to_list frame
 frames-push source lines line frame is =
     flat_map-append (λ l. given (taken_by source l)) lines (line ∷ [])
-    ∙ ap (λ t. frames_of source.interface source.is_unsupported lines ++ t) (append-nil (given (taken_by source line)) ∙ ap given is)
+    ∙ ap (λ t. frames_of source.interface source.fd lines ++ t) (append-nil (given (taken_by source line)) ∙ ap given is)
 
 count-push : (lines : List (List ℕ)) (line : List ℕ) (count : ℕ) → count ≡ length lines → count + 1 ≡ length (lines ++ line ∷ [])
 count-push lines line count is = rw length-append (omega (arith, is))
 
-supported-option : (source : Source) (frame : Option Stamped) → IfSome frame (IsTakenStamped source) → All (IsTakenStamped source) (option_to_list frame)
-supported-option source None supported = All-nil (IsTakenStamped source)
-supported-option source (Some s) supported = All-cons (IsTakenStamped source) s [] supported (All-nil (IsTakenStamped source))
+dated-option : (frame : Option Stamped) → IfSome frame IsDated → AreDated (option_to_list frame)
+dated-option None dated = All-nil IsDated
+dated-option (Some s) dated = All-cons IsDated s [] dated (All-nil IsDated)
 
--- the frames stay supported
-pub supported-push : (source : Source) (line : List ℕ) (old new : List Stamped) → All (IsTakenStamped source) old → AddsLine source line old new → All (IsTakenStamped source) new
-supported-push source line old new supported adds =
-    subst (All (IsTakenStamped source)) (sym adds.added) (All-append (IsTakenStamped source) old (option_to_list adds.frame) supported (supported-option source adds.frame adds.supported))
+-- the stamps stay below 2^32 seconds
+pub dated-push : (source : Source) (line : List ℕ) (old new : List Stamped) → AreDated old → AddsLine source line old new → AreDated new
+dated-push source line old new dated adds =
+    subst (All IsDated) (sym adds.added) (All-append IsDated old (option_to_list adds.frame) dated (dated-option adds.frame adds.dated))
 
 -- bytes of a line are kept
 pub part_kept : (source : Source) (content piece part : List ℕ) (count : ℕ) (frames : List Stamped) →
@@ -50,7 +50,7 @@ part_kept source content piece part count frames so_far none = record {
   taken = so_far.taken;
   frames_are = so_far.frames_are;
   count_is = so_far.count_is;
-  supported = so_far.supported;
+  dated = so_far.dated;
 }
 
 -- as far as the first line feed: a part of the line, and its end
@@ -78,7 +78,7 @@ line_ended source content line count old new so_far adds = record {
   taken = taken-push source so_far.lines line adds.frame so_far.taken adds.taken;
   frames_are = adds.added ∙ ap (λ t. t ++ option_to_list adds.frame) so_far.frames_are ∙ sym (frames-push source so_far.lines line adds.frame adds.taken);
   count_is = count-push so_far.lines line count so_far.count_is;
-  supported = supported-push source line old new so_far.supported adds;
+  dated = dated-push source line old new so_far.dated adds;
 }
 
 -- a line of which nothing was read yet is read whole, without its line feed
@@ -165,13 +165,3 @@ read_more told files source taken taken' came got piece piece' count count' fram
       rw sum (rw take-add (rw (← whole.0, ← next.0) refl), next.1);
   so_far = goes_on from.front from.so_far;
 }
-
--- ---- what holds of the frames that were read
-
--- a log's stamps are below 2^32 seconds
-pub log-dated : (source : Source) (frames : List Stamped) → All (IsTakenStamped source) frames → AreDated frames
-log-dated source frames supported i d inside = (supported i d inside).0
-
--- a log's frames are supported
-pub log-supported : (source : Source) (frames : List Stamped) → All (IsTakenStamped source) frames → All (λ s. IsSupported source s.frame) frames
-log-supported source frames supported i d inside = (supported i d inside).1

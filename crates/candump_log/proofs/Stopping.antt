@@ -9,7 +9,6 @@ use Rattle.candump_line.proofs.ReadLemmas.{line-too_long}
 use Rattle.candump_line.specs.declared.fault.LineKind.TheVariants.{TooLong}
 use Rattle.gw_depot.specs.Files.{Files, ReadsFile}
 use Rattle.candump_log.specs.Source.{Source}
-use Rattle.candump_log.specs.declared.log.LineRefusal.TheVariants.{Bad}
 use Rattle.candump_log.specs.declared.log.LineStop.{LineStop}
 use Rattle.candump_log.specs.declared.log.LineStop.TheVariants.{Memory, Refused, Limit}
 use Rattle.candump_log.specs.declared.log.LogStop.TheVariants.{Line}
@@ -48,16 +47,16 @@ without_return-long line =
     ]
 
 -- a line of more than 512 bytes is too long
-too_long : (source : Source) (line : List ℕ) → 514 ≤ length line → taken_by source line ≡ Err (Bad (record { kind = TooLong; at = 512 }))
+too_long : (source : Source) (line : List ℕ) → 514 ≤ length line → taken_by source line ≡ Err (record { kind = TooLong; at = 512 })
 too_long source line long =
     let much : 513 ≤ length (without_return line) = omega (arith, long, without_return-long line) in
-    ap (λ r. taken_of source.is_unsupported r) (line-too_long source.interface (without_return line) much)
+    ap (λ r. taken_of source.fd r) (line-too_long source.interface (without_return line) much)
 
 -- the line that ends here is refused
 pub stops_here : (source : Source) (most : ℕ) (content line tail : List ℕ) (count : ℕ) (frames : List Stamped) (stop : LineStop) →
     ReadSoFar source content line count frames → EndsLine line tail → count < most → Refuses source line count stop → Stops source most (content ++ tail) stop
 stops_here source most content line tail count frames Memory so_far ends few refused = tt
-stops_here source most content line tail count frames (Refused number refusal) so_far ends few refused = record {
+stops_here source most content line tail count frames (Refused number fault) so_far ends few refused = record {
   lines = so_far.lines;
   line = line;
   tail = tail;
@@ -75,7 +74,7 @@ stops_here source most content line tail count frames Limit so_far ends few refu
 -- the line is too long, wherever it ends
 pub stops_within : (source : Source) (most : ℕ) (content piece part later : List ℕ) (count : ℕ) (frames : List Stamped) (number : ℕ) →
     ReadSoFar source content piece count frames → 514 ≤ length piece + length part → HasNoFeed part → number ≡ count + 1 → count < most →
-    StopsAt source most (content ++ part ++ later) number (Bad (record { kind = TooLong; at = 512 }))
+    StopsAt source most (content ++ part ++ later) number (record { kind = TooLong; at = 512 })
 stops_within source most content piece part later count frames number so_far long none is few =
     let front : FrontLine later = front_line later in
     let line : List ℕ = (piece ++ part) ++ front.line in

@@ -2,6 +2,10 @@
 use Rattle.std.specs.Prelude.{◌*◌, ◌^◌, ◌<◌, List, All}
 use Rattle.candump_log.specs.declared.log.Stamped.{Stamped}
 
--- each frame's stamp is below 2^32 seconds
+-- the frame's stamp is below 2^32 seconds
+abbrev pub IsDated : Stamped → Type 0
+IsDated s = s.at.0 < 2 ^ 32 * 10 ^ 6
+
+-- each frame's stamp is
 abbrev pub AreDated : List Stamped → Type 0
-AreDated frames = All (λ s. s.at.0 < 2 ^ 32 * 10 ^ 6) frames
+AreDated frames = All IsDated frames

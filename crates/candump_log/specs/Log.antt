@@ -1,15 +1,15 @@
 -- A log: bytes that are cut at each line feed, and the frames that the lines give (this project's own, after candump's log format).
 use Rattle.std.specs.Prelude.{◌≡◌, ◌≢◌, ◌⊎◌, ℕ, ◌+◌, ◌<◌, ◌≤◌, Bool, true, Option, Some, IfSome, option_to_list, Result, Ok, Err, IsOk, List, [], ◌∷◌, ◌++◌, All, flat_map, length, take, drop}
-use Rattle.can_frame.specs.Frame.{CanFrame}
+use Rattle.candump_line.specs.declared.fault.LineFault.{LineFault}
 use Rattle.candump_log.specs.Source.{Source}
-use Rattle.candump_log.specs.declared.log.LineRefusal.{LineRefusal}
 use Rattle.candump_log.specs.declared.log.Stamped.{Stamped}
 use Rattle.candump_log.specs.declared.log.LineStop.{LineStop}
 use Rattle.candump_log.specs.declared.log.LineStop.TheVariants.{Memory, Refused, Limit}
 use Rattle.candump_log.specs.declared.log.LogStop.{LogStop}
 use Rattle.candump_log.specs.declared.log.LogStop.TheVariants.{Fault, Line}
 use Rattle.gw_depot.specs.Files.{Files}
-use Rattle.candump_log.specs.Line.{IsTakenStamped, line_taken, taken_by}
+use Rattle.candump_log.specs.Dated.{AreDated, IsDated}
+use Rattle.candump_log.specs.Line.{line_taken, taken_by}
 
 -- no line feed is among the bytes
 abbrev pub HasNoFeed : List ℕ → Type 0
@@ -43,27 +43,27 @@ pub record IsCut (content : List ℕ) (lines : List (List ℕ)) : Type 0 where
   pub no_feed : All HasNoFeed lines
 
 -- the frame that a line gives, where it is taken
-abbrev pub given : Result (Option Stamped) LineRefusal → List Stamped
+abbrev pub given : Result (Option Stamped) LineFault → List Stamped
 given (Ok frame) = option_to_list frame
-given (Err refusal) = []
+given (Err fault) = []
 
 -- each line is taken
-abbrev pub AreTaken : (interface : List ℕ) → (is_unsupported : CanFrame → Bool) → List (List ℕ) → Type 0
-AreTaken interface is_unsupported lines = All (λ line. IsOk (line_taken interface is_unsupported line)) lines
+abbrev pub AreTaken : (interface : List ℕ) → (fd : Bool) → List (List ℕ) → Type 0
+AreTaken interface fd lines = All (λ line. IsOk (line_taken interface fd line)) lines
 
 -- the frames that lines give, in their order
-abbrev pub frames_of : (interface : List ℕ) → (is_unsupported : CanFrame → Bool) → List (List ℕ) → List Stamped
-frames_of interface is_unsupported lines = flat_map (λ line. given (line_taken interface is_unsupported line)) lines
+abbrev pub frames_of : (interface : List ℕ) → (fd : Bool) → List (List ℕ) → List Stamped
+frames_of interface fd lines = flat_map (λ line. given (line_taken interface fd line)) lines
 
 -- the content is a log of these frames: cut at each line feed it is lines that are taken, and they give the frames
-pub record IsLog (interface : List ℕ) (is_unsupported : CanFrame → Bool) (content : List ℕ) (lines : List (List ℕ)) (frames : List Stamped) : Type 0 where
+pub record IsLog (interface : List ℕ) (fd : Bool) (content : List ℕ) (lines : List (List ℕ)) (frames : List Stamped) : Type 0 where
   pub cut : IsCut content lines
-  pub taken : AreTaken interface is_unsupported lines
-  pub frames_are : frames ≡ frames_of interface is_unsupported lines
+  pub taken : AreTaken interface fd lines
+  pub frames_are : frames ≡ frames_of interface fd lines
 
 -- the content is a log of so many lines, all of them taken, with these frames
 abbrev pub IsTakenLog : Source → (content : List ℕ) → (count : ℕ) → List Stamped → Type 0
-IsTakenLog source content count frames = (lines : List (List ℕ)) × IsLog source.interface source.is_unsupported content lines frames × (count ≡ length lines)
+IsTakenLog source content count frames = (lines : List (List ℕ)) × IsLog source.interface source.fd content lines frames × (count ≡ length lines)
 
 -- what was read so far is so many lines, with these frames, and a piece of the next line
 pub record ReadSoFar (source : Source) (content piece : List ℕ) (count : ℕ) (frames : List Stamped) : Type 0 where
@@ -71,10 +71,10 @@ pub record ReadSoFar (source : Source) (content piece : List ℕ) (count : ℕ) 
   pub bytes : content ≡ ended lines ++ piece
   pub no_feed : All HasNoFeed lines
   pub unfinished : HasNoFeed piece
-  pub taken : AreTaken source.interface source.is_unsupported lines
-  pub frames_are : frames ≡ frames_of source.interface source.is_unsupported lines
+  pub taken : AreTaken source.interface source.fd lines
+  pub frames_are : frames ≡ frames_of source.interface source.fd lines
   pub count_is : count ≡ length lines
-  pub supported : All (IsTakenStamped source) frames
+  pub dated : AreDated frames
 
 -- the frames are those of the log, which has so many lines, where the depot tells its contents, and of some log else
 pub record ReadsLog (told : Bool) (files : Files) (source : Source) (count : ℕ) (frames : List Stamped) : Type 0 where
@@ -83,16 +83,16 @@ pub record ReadsLog (told : Bool) (files : Files) (source : Source) (count : ℕ
   pub is_log : IsTakenLog source content count frames
 
 -- after lines that are taken stands one that is refused, among so many; it is the line with this number, counted from 1
-pub record StopsAt (source : Source) (most : ℕ) (content : List ℕ) (number : ℕ) (refusal : LineRefusal) : Type 0 where
+pub record StopsAt (source : Source) (most : ℕ) (content : List ℕ) (number : ℕ) (fault : LineFault) : Type 0 where
   pub lines : List (List ℕ)
   pub line : List ℕ
   pub tail : List ℕ
   pub bytes : content ≡ ended lines ++ line ++ tail
   pub no_feed : All HasNoFeed lines
-  pub taken : AreTaken source.interface source.is_unsupported lines
+  pub taken : AreTaken source.interface source.fd lines
   pub is_line : HasNoFeed line
   pub ends : EndsLine line tail
-  pub refused : taken_by source line ≡ Err refusal
+  pub refused : taken_by source line ≡ Err fault
   pub count : number ≡ length lines + 1
   pub within : number ≤ most
 
@@ -102,20 +102,20 @@ pub record GoesPast (source : Source) (content : List ℕ) (most : ℕ) : Type 0
   pub rest : List ℕ
   pub bytes : content ≡ ended lines ++ rest
   pub no_feed : All HasNoFeed lines
-  pub taken : AreTaken source.interface source.is_unsupported lines
+  pub taken : AreTaken source.interface source.fd lines
   pub count : length lines ≡ most
   pub further : rest ≢ []
 
 -- why the content isn't read to its end; want of memory has no cause in it
 abbrev pub Stops : Source → (most : ℕ) → (content : List ℕ) → LineStop → Type 0
 Stops source most content Memory = Unit {0}
-Stops source most content (Refused number refusal) = StopsAt source most content number refusal
+Stops source most content (Refused number fault) = StopsAt source most content number fault
 Stops source most content Limit = GoesPast source content most
 
 -- why the line added nothing after so many lines
 abbrev pub Refuses : Source → (line : List ℕ) → (before : ℕ) → LineStop → Type 0
 Refuses source line before Memory = Unit {0}
-Refuses source line before (Refused number refusal) = (number ≡ before + 1) × (taken_by source line ≡ Err refusal)
+Refuses source line before (Refused number fault) = (number ≡ before + 1) × (taken_by source line ≡ Err fault)
 Refuses source line before Limit = ⊥
 
 -- the log is there, and isn't read to its end
@@ -134,4 +134,4 @@ pub record AddsLine (source : Source) (line : List ℕ) (old new : List Stamped)
   pub frame : Option Stamped
   pub taken : taken_by source line ≡ Ok frame
   pub added : new ≡ old ++ option_to_list frame
-  pub supported : IfSome frame (IsTakenStamped source)
+  pub dated : IfSome frame IsDated

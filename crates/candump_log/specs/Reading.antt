@@ -3,7 +3,7 @@ use Rattle.std.specs.Prelude.{◌≡◌, ℕ, Bool, Some, Result, Err, List, [],
 use Rattle.gw_depot.specs.Fault.{Blame, Rose}
 use Rattle.gw_depot.specs.Files.{Files}
 use Rattle.gw_depot.specs.declared.outside.CallKind.TheVariants.{Read}
-use Rattle.candump_log.specs.Line.{IsTakenStamped}
+use Rattle.candump_log.specs.Dated.{AreDated}
 use Rattle.candump_log.specs.Log.{IsTakenLog, ReadSoFar, ReadsLog, Stops}
 use Rattle.candump_log.specs.Source.{Source}
 use Rattle.candump_log.specs.declared.log.LineStop.{LineStop}
@@ -45,9 +45,9 @@ StopsAtEnd source most old stop = (content : List ℕ) → IsRead source content
 abbrev pub EndsAs : Source → LogSoFar → (count : ℕ) → List Stamped → Type 0
 EndsAs source old count frames = (content : List ℕ) → IsRead source content old → IsTakenLog source content count frames
 
--- and each of its frames is supported
-abbrev pub KeepsSupported : Source → LogSoFar → List Stamped → Type 0
-KeepsSupported source old frames = (content : List ℕ) → IsRead source content old → All (IsTakenStamped source) frames
+-- and each of its frames has such a stamp
+abbrev pub KeepsDated : Source → LogSoFar → List Stamped → Type 0
+KeepsDated source old frames = (content : List ℕ) → IsRead source content old → AreDated frames
 
 -- the lines and the frames are those of the log, where the depot tells its contents, and of some log else
 abbrev pub IsLogIn : (told : Bool) → Files → Source → Log → Type 0

@@ -1,9 +1,8 @@
--- Where a log is read from, and which frames its reader takes.
+-- Where a log is read from, and which frames its bus has.
 use Rattle.std.specs.Prelude.{ℕ, List, Bool}
-use Rattle.can_frame.specs.Frame.{CanFrame}
 
--- the interface whose frames the log lists, the file that holds it, and the frames whose lines stop the reading
+-- the interface whose frames the log lists, the file that holds it, and whether its bus has CAN FD
 pub record Source : Type 0 where
   pub interface : List ℕ
   pub file : List ℕ
-  pub is_unsupported : CanFrame → Bool
+  pub fd : Bool

@@ -8,6 +8,6 @@ mod reading;
 mod so_far;
 mod source;
 
-pub use log::{LineRefusal, LineStop, Log, LogStop, Stamped};
+pub use log::{LineStop, Log, LogStop, Stamped};
 pub use reading::read_log;
 pub use source::LogSource;

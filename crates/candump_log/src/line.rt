@@ -1,11 +1,13 @@
 //! What one line gives: the frame that it lists, or why it isn't taken.
-ghost use Rattle.std.specs.Prelude.{◌≡◌, ◌<◌, ◌≤◌, ◌+◌, ◌-◌, ◌*◌, ◌^◌, length, IfErr, IfOk, IfSome, OnErr, OnOk};
+ghost use Rattle.std.specs.Prelude.{◌≡◌, ◌&&◌, not, ◌<◌, ◌≤◌, ◌+◌, ◌-◌, ◌*◌, ◌^◌, length, IfErr, IfOk, IfSome, OnErr, OnOk};
 ghost use Rattle.candump_line.specs.Reading.{IsLawfulLine};
-ghost use Rattle.candump_log.specs.Line.{IsTakenStamped, listed, taken_by, without_return};
+ghost use Rattle.candump_log.specs.Dated.{IsDated};
+ghost use Rattle.candump_log.specs.Line.{listed, taken_by, without_return};
 ghost use Rattle.candump_log.specs.Log.{AddsLine, Refuses};
 
-use crate::log::{LineRefusal, LineStop, Stamped};
+use crate::log::{LineStop, Stamped};
 use crate::source::LogSource;
+use can_frame::Frame;
 use candump_line::{Line, read_line};
 use gw_base::ListOf;
 
@@ -19,7 +21,14 @@ fn without_return(piece: &[u8]) -> &[u8]
     }
 }
 
-/// Reads one more line, without its line feed, after so many. A classic bus passes over FD frames.
+/// Whether the bus passes over the frame: an FD frame, where it has no CAN FD.
+fn is_passed<S: LogSource>(source: &S, frame: &Frame) -> bool
+    ensures { result ≡ (frame.now.fd && not (S.source source.now).fd) }
+{
+    frame.fd() && !source.is_fd()
+}
+
+/// Reads one more line, without its line feed, after so many. A bus without CAN FD passes over FD frames.
 pub(crate) fn push_line<S: LogSource>(
     source: &S,
     piece: &[u8],
@@ -36,17 +45,10 @@ pub(crate) fn push_line<S: LogSource>(
     let (at, frame) = match read_line(without_return(piece), source.interface()) {
         Ok(Line::Frame { at, frame }) => (at, frame),
         Ok(Line::Passed | Line::Empty) => return Ok(()),
-        Err(fault) => {
-            let refusal = LineRefusal::Bad(fault);
-            return Err(LineStop::Refused { line, refusal });
-        }
+        Err(fault) => return Err(LineStop::Refused { line, fault }),
     };
-    if frame.fd() {
+    if is_passed(source, &frame) {
         return Ok(());
-    }
-    if source.is_unsupported(&frame) {
-        let refusal = LineRefusal::Unsupported;
-        return Err(LineStop::Refused { line, refusal });
     }
     Ok(frames.push(Stamped { at, frame })?)
 }

@@ -12,26 +12,17 @@ pub struct Stamped {
     pub frame: Frame,
 }
 
-/// Why a line of a log isn't taken.
-#[derive(Clone, Copy, Debug, PartialEq, Eq)]
-pub enum LineRefusal {
-    /// Its frame isn't one that is supported.
-    Unsupported,
-    /// It has a fault.
-    Bad(LineFault),
-}
-
 /// Why a log's lines weren't read to the end.
 #[derive(Clone, Copy, Debug, PartialEq, Eq)]
 pub enum LineStop {
     /// Memory was refused.
     Memory,
-    /// A line isn't taken.
+    /// A line has a fault.
     Refused {
         /// The line, counted from 1.
         line: u32,
-        /// Why it isn't taken.
-        refusal: LineRefusal,
+        /// Its first fault.
+        fault: LineFault,
     },
     /// A line begins after as many as the log may have.
     Limit,

@@ -2,12 +2,11 @@
 ghost use Rattle.std.specs.Prelude.{◌≡◌, ◌<◌, ◌≤◌, ◌+◌, ◌-◌, ◌*◌, ◌^◌, [], ◌∷◌, length, take, All, IfErr, IfOk, MatchOption, OnOk};
 ghost use Rattle.std.specs.Bool.{OnFalse, OnTrue};
 ghost use Rattle.candump_log.specs.Dated.{AreDated};
-ghost use Rattle.candump_log.specs.Line.{IsSupported};
 ghost use Rattle.candump_log.specs.Log.{HasNoFeed, IsFeedAt, LogStops};
 ghost use Rattle.candump_log.specs.Reading.{FaultsReading, IsLogIn};
 
 use crate::line::push_line;
-use crate::log::{LineRefusal, LineStop, Log, LogStop};
+use crate::log::{LineStop, Log, LogStop};
 use crate::so_far::{LogSoFar, MOST_KEPT};
 use crate::source::LogSource;
 use arrayvec::ArrayVec;
@@ -34,7 +33,7 @@ fn feed_place(bytes: &[u8]) -> Option<usize>
 }
 
 impl LogSoFar {
-    ghost use Rattle.candump_log.specs.Reading.{EndsAs, KeepsSupported, ReadsLine, ReadsOn, StopsAtEnd, StopsAtFeed, StopsAtLine, StopsIn};
+    ghost use Rattle.candump_log.specs.Reading.{EndsAs, KeepsDated, ReadsLine, ReadsOn, StopsAtEnd, StopsAtFeed, StopsAtLine, StopsIn};
 
     /// Whether no further line may begin.
     fn is_past_limit(&self) -> bool
@@ -56,11 +55,11 @@ impl LogSoFar {
     {
         let Ok(()) = self.piece.try_extend_from_slice(part) else {
             let line = self.lines + 1;
-            let refusal = LineRefusal::Bad(LineFault {
+            let fault = LineFault {
                 kind: LineKind::TooLong,
                 at: MOST_LINE,
-            });
-            return Err(LineStop::Refused { line, refusal });
+            };
+            return Err(LineStop::Refused { line, fault });
         };
         self.taken += part.len() as u64;
         Ok(())
@@ -143,7 +142,7 @@ impl LogSoFar {
         ensures read { IfOk result (λ log. EndsAs (S.source source.now) self log.lines log.frames) }
         ensures few { IfOk result (λ log. log.lines ≤ self.most) }
         ensures given { IfOk result (λ log. length log.frames ≤ log.lines) }
-        ensures supported { IfOk result (λ log. KeepsSupported (S.source source.now) self log.frames) }
+        ensures dated { IfOk result (λ log. KeepsDated (S.source source.now) self log.frames) }
         ensures stops { IfErr result (StopsAtEnd (S.source source.now) self.most self) }
     {
         let LogSoFar {
@@ -169,8 +168,7 @@ impl LogSoFar {
 ///
 /// A line ends at its line feed, and a last one may lack it; one carriage return before it is dropped. Else the log
 /// stops at `Fault` where a read failed, and at the first line that isn't taken: `Refused` with its number where it has
-/// a fault or a frame that isn't supported, `Limit` where it is one line too many. After `Memory` nothing is known of
-/// the log.
+/// a fault, `Limit` where it is one line too many. After `Memory` nothing is known of the log.
 pub fn read_log<D: Depot, S: LogSource>(
     alloc: Global,
     depot: &mut D,
@@ -184,7 +182,6 @@ pub fn read_log<D: Depot, S: LogSource>(
     ensures few { IfOk result (λ log. log.lines ≤ most) }
     ensures given { IfOk result (λ log. length log.frames ≤ log.lines) }
     ensures dated { IfOk result (λ log. AreDated log.frames) }
-    ensures supported { IfOk result (λ log. All (λ s. IsSupported (S.source source.now) s.frame) log.frames) }
     ensures stops { IfErr result (LogStops (D.state depot.old).told (D.state depot.old).files (S.source source.now) most) }
     ensures later { (D.state depot.old).faults ≤ (D.state depot.new).faults }
     ensures fault { FaultsReading (S.source source.now) (D.state depot.old).faults (D.state depot.new).faults (D.state depot.new).blame result }

@@ -1,6 +1,4 @@
-//! Where a log is read from, and which frames its reader takes.
-use can_frame::Frame;
-
+//! Where a log is read from, and which frames its bus has.
 /// A log of one interface, as it is to be read.
 pub trait LogSource {
     ghost use Rattle.std.specs.Prelude.{◌≡◌};
@@ -20,7 +18,7 @@ pub trait LogSource {
         ensures interface { result.now ≡ (source self.now).interface }
         ensures name { IsInterface result.now };
 
-    /// Whether the frame isn't supported; the reading stops at its line.
-    fn is_unsupported(&self, frame: &Frame) -> bool
-        ensures { result ≡ (source self.now).is_unsupported frame.now };
+    /// Whether the bus has CAN FD; without it FD frames are passed over.
+    fn is_fd(&self) -> bool
+        ensures { result ≡ (source self.now).fd };
 }

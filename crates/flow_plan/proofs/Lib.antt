@@ -1,4 +1,4 @@
 mod Examples
 mod Granted
 pub mod Paces
-mod Payloads
+pub mod Payloads

@@ -7,11 +7,11 @@ use Rattle.std.proofs.lemmas.List.Sums.{sum_by-cons}
 use Rattle.flow_plan.specs.Cells.{ArePayloads, cells_for, cells_in, cells_left}
 
 -- bytes of less than a full frame are the rest alone
-left-short : (cf left : ℕ) → left < cf → cells_left cf left ≡ cells_for left
+pub left-short : (cf left : ℕ) → left < cf → cells_left cf left ≡ cells_for left
 left-short cf left less = rw (div-eq_of_lt less, mod-eq_of_lt less) (omega arith)
 
 -- and more are a full frame and what remains
-left-full : (cf left : ℕ) → 0 < cf → cf ≤ left → cells_left cf left ≡ cells_for cf + cells_left cf (left - cf)
+pub left-full : (cf left : ℕ) → 0 < cf → cf ≤ left → cells_left cf left ≡ cells_for cf + cells_left cf (left - cf)
 left-full cf left some le = rw (div-eq-sub-div some le, mod-eq-sub-mod le) (omega arith)
 
 pub payloads_cells : (cf left : ℕ) (payloads : List ℕ) → 0 < cf → ArePayloads cf left payloads → cells_in payloads ≡ cells_left cf left

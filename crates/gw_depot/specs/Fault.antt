@@ -1,5 +1,5 @@
 -- How the outside fails: a count of faults, and the last failed call.
-use Rattle.std.specs.Prelude.{◌≡◌, ℕ, ◌+◌, ◌-◌, ◌^◌, ◌≤◌, List, min, Option, None, Some, Result, OnOk, OnErr}
+use Rattle.std.specs.Prelude.{ℕ, ◌+◌, ◌-◌, ◌^◌, ◌≤◌, List, min, Option, None, Some, Result, OnErr}
 use Rattle.gw_depot.specs.declared.outside.CallKind.{CallKind}
 
 -- the kind and the name of the last failed call, none at first

@@ -1,5 +1,5 @@
 -- Files by name, and what a call does to them.
-use Rattle.std.specs.Prelude.{◌≡◌, ◌≢◌, ◌⊎◌, ℕ, ◌<◌, ◌≤◌, ◌↔◌, List, [], ◌++◌, length, take, drop, Option, Some, Result, IfOk, OnOk, OnErr}
+use Rattle.std.specs.Prelude.{◌≡◌, ◌≢◌, ◌⊎◌, ℕ, ◌-◌, ◌<◌, ◌≤◌, ◌↔◌, min, List, [], ◌++◌, length, take, drop, Option, Some, Result, IfOk, OnOk, OnErr}
 
 -- what each name holds: nothing where the file isn't there
 abbrev pub Files : Type 0
@@ -20,6 +20,11 @@ pub record ReadsFile (files : Files) (name : List ℕ) (at count : ℕ) (got : L
   pub bytes : got ≡ take count (drop at content)
   pub end : (count ≡ 0) ↔ (length content ≤ at)
 
+-- a read counts all the bytes of the file from a place on that there is room for
+abbrev pub ReadsAll : Files → (name : List ℕ) → (at room count : ℕ) → Type 0
+ReadsAll files name at room count =
+    (content : List ℕ) → files name ≡ Some content → count ≡ min room (length content - at)
+
 -- the file is there and empty; where the call failed it may also be as before
 pub record CreatesFile {T E : Type 0} (old new : Files) (name : List ℕ) (result : Result T E) : Type 0 where
   pub made : OnOk result (new name ≡ Some [])
@@ -28,7 +33,8 @@ pub record CreatesFile {T E : Type 0} (old new : Files) (name : List ℕ) (resul
 
 -- the file has as many bytes of the piece more as were counted, none where the call failed
 pub record AppendsFile {E : Type 0} (old new : Files) (name piece : List ℕ) (result : Result ℕ E) : Type 0 where
-  pub added : IfOk result (λ count. (content : List ℕ) → old name ≡ Some content → new name ≡ Some (content ++ take count piece))
+  pub added : IfOk result (λ count.
+      (content : List ℕ) → old name ≡ Some content → new name ≡ Some (content ++ take count piece))
   pub kept : OnErr result (new name ≡ old name)
   pub others : OthersStay old new name
 

@@ -4,8 +4,8 @@ use Rattle.gw_depot.specs.declared.outside.CallKind.{CallKind}
 use Rattle.gw_depot.specs.Fault.{Blame, Rose}
 use Rattle.gw_depot.specs.Files.{Files, ReadsFile, CreatesFile, AppendsFile, SaysPiece}
 
--- what a depot is at: whether its contents are told, what each name holds where they are, how often a call has failed, and
--- the last failed call, none at first
+-- what a depot is at: whether its contents are told, what each name holds where they are, how often a call has
+-- failed, and the last failed call, none at first
 pub record DepotState : Type 0 where
   pub told : Bool
   pub files : Files
@@ -20,14 +20,16 @@ pub record SinkState : Type 0 where
 
 -- a call fails only where the count of faults rises in it, and the blame is then this call's; a call that
 -- doesn't fail leaves the blame
-pub record HasCause {T E : Type 0} (kind : CallKind) (name : List ℕ) (old new : DepotState) (result : Result T E) : Type 0 where
+pub record HasCause {T E : Type 0} (kind : CallKind) (name : List ℕ) (old new : DepotState) (result : Result T E)
+    : Type 0 where
   pub later : old.faults ≤ new.faults
   pub failed : OnErr result (Rose old.faults new.faults × (new.blame ≡ Some (kind, name)))
   pub left : OnOk result (new.blame ≡ old.blame)
 
 -- where contents are told, a prefix of `into` is the bytes of the file from a place on
 abbrev pub Reads : {E : Type 0} → DepotState → (name : List ℕ) → (at : ℕ) → (into : List ℕ) → Result ℕ E → Type 0
-Reads depot name at into result = depot.told ≡ true → IfOk result (λ count. ReadsFile depot.files name at count (take count into))
+Reads depot name at into result =
+    depot.told ≡ true → IfOk result (λ count. ReadsFile depot.files name at count (take count into))
 
 -- where contents are told, the file is made empty
 abbrev pub Creates : {T E : Type 0} → (old new : DepotState) → (name : List ℕ) → Result T E → Type 0

@@ -1,5 +1,5 @@
 -- What a test sets a double in memory to do, and what a sink in memory is.
-use Rattle.std.specs.Prelude.{ℕ, ◌-◌, ◌^◌, List, []}
+use Rattle.std.specs.Prelude.{◌≡◌, ℕ, ◌+◌, ◌-◌, ◌^◌, min, List, [], ◌++◌}
 use Rattle.gw_depot.specs.declared.outside.CallKind.{CallKind}
 use Rattle.gw_depot.specs.declared.outside.CallKind.TheVariants.{Read, Create, Append}
 
@@ -21,6 +21,10 @@ calls_left plan Read = plan.reads
 calls_left plan Create = plan.creates
 calls_left plan Append = plan.appends
 
+-- the next call of a kind was set to fail
+abbrev pub FailsNext : Plan → CallKind → Type 0
+FailsNext plan kind = calls_left plan kind ≡ 1
+
 -- the nth later call of a kind fails, and no other of that kind
 abbrev pub with_failure : Plan → CallKind → ℕ → Plan
 with_failure plan Read nth = record plan { reads = nth }
@@ -41,6 +45,13 @@ pub record MemSinkState : Type 0 where
   pub said : List ℕ
   pub faults : ℕ
   pub puts_left : ℕ
+
+-- one put was made: the piece is said, or the fault is counted; at its last value the count stays
+abbrev pub after_said : MemSinkState → List ℕ → MemSinkState
+after_said sink piece = record sink { said = sink.said ++ piece; puts_left = sink.puts_left - 1 }
+
+abbrev pub after_fault : MemSinkState → MemSinkState
+after_fault sink = record sink { faults = min (sink.faults + 1) (2 ^ 64 - 1); puts_left = sink.puts_left - 1 }
 
 -- nothing was said, and no put fails
 abbrev pub nothing_said : MemSinkState

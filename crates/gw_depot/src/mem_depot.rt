@@ -3,7 +3,7 @@ ghost use Rattle.gw_depot.specs.declared.outside.CallKind.TheVariants.{Read, Cre
 ghost use Rattle.gw_depot.specs.Fault.{no_faults, with_fault};
 ghost use Rattle.gw_depot.specs.Files.{IsName, ReadsFile, CreatesFile, AppendsFile, SetsFile, SameFiles};
 ghost use Rattle.gw_depot.specs.Outside.{HasCause};
-ghost use Rattle.gw_depot.specs.Plan.{no_plan, calls_left, after_call, with_failure, with_most};
+ghost use Rattle.gw_depot.specs.Plan.{no_plan, FailsNext, after_call, with_failure, with_most};
 
 use crate::faults::Faults;
 use crate::mem_files::MemFiles;
@@ -75,7 +75,7 @@ impl MemDepot {
 }
 
 impl Depot for MemDepot {
-    ghost use Rattle.gw_depot.specs.MemDepot.{files_of, faults_of, plan_of, state_of};
+    ghost use Rattle.gw_depot.specs.MemDepot.{ReadsAsPlanned, files_of, faults_of, plan_of, state_of};
 
     ghost state = { λ depot. state_of depot };
 
@@ -85,10 +85,10 @@ impl Depot for MemDepot {
         ensures files { files_of self.new ≡ files_of self.old }
         ensures bound { IfOk result (λ count. count ≤ length into.old) }
         ensures read { IfOk result (λ count. ReadsFile (files_of self.old) name.now at count (take count into.new)) }
-        ensures count { IfOk result (λ count. (content : List ℕ) → files_of self.old name.now ≡ Some content → count ≡ min (plan_of self.old).most (min (length into.old) (length content - at))) }
+        ensures count { IfOk result (ReadsAsPlanned self.old name.now at (length into.old)) }
 
         // A call fails where it was set to, or where the file isn't there.
-        ensures fails { IsErr result ↔ ((calls_left (plan_of self.old) Read ≡ 1) ⊎ (files_of self.old name.now ≡ None)) }
+        ensures fails { IsErr result ↔ (FailsNext (plan_of self.old) Read ⊎ (files_of self.old name.now ≡ None)) }
         ensures ok { OnOk result (faults_of self.new ≡ faults_of self.old) }
         ensures err { OnErr result (faults_of self.new ≡ with_fault (faults_of self.old) Read name.now) }
         ensures cause { HasCause Read name.now (state_of self.old) (state_of self.new) result }
@@ -109,7 +109,7 @@ impl Depot for MemDepot {
         ensures created { CreatesFile (files_of self.old) (files_of self.new) name.now result }
 
         // A call fails where it was set to, or where memory is wanting; then every file is as before.
-        ensures fails { calls_left (plan_of self.old) Create ≡ 1 → IsErr result }
+        ensures fails { FailsNext (plan_of self.old) Create → IsErr result }
         ensures ok { OnOk result (faults_of self.new ≡ faults_of self.old) }
         ensures err { OnErr result (faults_of self.new ≡ with_fault (faults_of self.old) Create name.now) }
         ensures cause { HasCause Create name.now (state_of self.old) (state_of self.new) result }
@@ -132,7 +132,7 @@ impl Depot for MemDepot {
         ensures count { IfOk result (λ count. count ≡ min (plan_of self.old).most (length piece.now)) }
 
         // A call fails where it was set to, or where memory is wanting.
-        ensures fails { calls_left (plan_of self.old) Append ≡ 1 → IsErr result }
+        ensures fails { FailsNext (plan_of self.old) Append → IsErr result }
         ensures ok { OnOk result (faults_of self.new ≡ faults_of self.old) }
         ensures err { OnErr result (faults_of self.new ≡ with_fault (faults_of self.old) Append name.now) }
         ensures cause { HasCause Append name.now (state_of self.old) (state_of self.new) result }

@@ -1,7 +1,7 @@
-ghost use Rattle.std.specs.Prelude.{◌≡◌, ◌+◌, ◌-◌, ◌^◌, ◌<◌, ◌≤◌, ◌↔◌, ◌++◌, length, min, true, Result, IfOk, OnOk, OnErr, IsErr};
+ghost use Rattle.std.specs.Prelude.{◌≡◌, ◌-◌, ◌<◌, ◌≤◌, ◌↔◌, length, true, Result, IfOk, OnOk, OnErr, IsErr};
 ghost use Rattle.gw_depot.specs.Fault.{HasCount};
 ghost use Rattle.gw_depot.specs.Files.{SaysPiece};
-ghost use Rattle.gw_depot.specs.Plan.{nothing_said};
+ghost use Rattle.gw_depot.specs.Plan.{after_fault, after_said, nothing_said};
 
 use crate::outside::{Failed, Sink};
 use crate::plan::count_down;
@@ -65,8 +65,8 @@ impl Sink for MemSink {
         ensures cause { HasCount self.old.faults self.new.faults result }
         ensures whole { IfOk result (λ count. count ≡ length piece.now) }
         ensures fails { self.old.puts_left ≡ 1 → IsErr result }
-        ensures ok { OnOk result (self.new ≡ record self.old { said = self.old.said ++ piece.now; puts_left = self.old.puts_left - 1 }) }
-        ensures err { OnErr result (self.new ≡ record self.old { faults = min (self.old.faults + 1) (2 ^ 64 - 1); puts_left = self.old.puts_left - 1 }) }
+        ensures ok { OnOk result (self.new ≡ after_said self.old piece.now) }
+        ensures err { OnErr result (self.new ≡ after_fault self.old) }
     {
         let fails = count_down(&mut self.puts_left);
         if fails || self.said.extend_from_slice(piece).is_err() {

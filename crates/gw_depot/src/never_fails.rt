@@ -1,5 +1,5 @@
-ghost use Rattle.std.specs.Prelude.{◌≡◌, ◌-◌, ◌<◌, ◌≤◌, ℕ, List, [], None, Some, length, take, min, false, IfOk, OnOk, OnErr, IsOk};
-ghost use Rattle.gw_depot.specs.Files.{IsName, ReadsFile, SetsFile, SameFiles};
+ghost use Rattle.std.specs.Prelude.{◌≡◌, ◌-◌, ◌<◌, ◌≤◌, ℕ, List, [], None, Some, length, take, false, IfOk, OnOk, OnErr, IsOk};
+ghost use Rattle.gw_depot.specs.Files.{IsName, ReadsFile, ReadsAll, SetsFile, SameFiles};
 
 use crate::mem_files::MemFiles;
 use crate::outside::{Depot, Failed};
@@ -47,7 +47,7 @@ impl Depot for NeverFails {
         ensures bound { IfOk result (λ count. count ≤ length into.old) }
         ensures done { IsOk result }
         ensures read { IfOk result (λ count. ReadsFile (reads_as self.old) name.now at count (take count into.new)) }
-        ensures count { IfOk result (λ count. (content : List ℕ) → reads_as self.old name.now ≡ Some content → count ≡ min (length into.old) (length content - at)) }
+        ensures count { IfOk result (ReadsAll (reads_as self.old) name.now at (length into.old)) }
     {
         let bytes = self.files.get(name).unwrap_or(&[]);
         let most = into.len();

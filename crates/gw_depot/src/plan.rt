@@ -23,7 +23,7 @@ impl Model for Plan {
 
     ghost invariant = { λ a. 0 < a.most };
 
-    ghost inverse = { λ plan. record { reads = plan.reads; creates = plan.creates; appends = plan.appends; most = plan.most } };
+    ghost inverse = { λ a. record { reads = a.reads; creates = a.creates; appends = a.appends; most = a.most } };
 }
 
 impl Plan {

@@ -1,5 +1,5 @@
 -- A frame that a channel writes is one of its own: it has the channel's identifier and address byte, and is read as what it was written of.
-use Rattle.std.proofs.Common.{◌≡◌, ◌⊎◌, inl, inr, ℕ, Bool, true, false, ◌&&◌, cond, Option, None, Some, List, [], ◌∷◌, ◌++◌, refl, ap, sym, ◌∙◌, subst, eq-eqb}
+use Rattle.std.proofs.Common.{◌≡◌, ℕ, Bool, true, false, ◌&&◌, cond, Option, None, Some, List, [], ◌∷◌, ◌++◌, refl, ap, sym, ◌∙◌, subst, eq-eqb}
 use Rattle.std.specs.Prelude.{filter, option_to_list}
 use Rattle.std.specs.List.{AllByRecursion}
 use Rattle.can_frame.specs.Frame.{CanFrame}
@@ -8,6 +8,7 @@ use Rattle.can_frame.specs.declared.id.CanId.TheVariants.{Std, Ext}
 use Rattle.receiver_law.specs.Channel.{WritesControl}
 use Rattle.sender_law.specs.Channel.{WritesData}
 use Rattle.tp_attempts.specs.Seen.{is_data}
+use Rattle.tp_receiver.specs.Own.{AsksToWait, Continues, IsControl, TellsOverflow}
 use Rattle.tp_receiver.specs.declared.set.RxSet.{RxSet}
 use Rattle.tp_unit.proofs.RoundTrip.{reads_back}
 use Rattle.tp_unit.specs.Box.{IsNoData, Written}
@@ -38,9 +39,10 @@ kept : {A : Type 0} (keeps : A → Bool) (xs : List A) → AllByRecursion (λ x.
 kept keeps [] all = refl
 kept keeps (x ∷ xs) all = ap (λ b. cond b (x ∷ filter keeps xs) (filter keeps xs)) all.0 ∙ ap (λ l. x ∷ l) (kept keeps xs all.1)
 
-control-by : (shape : Shape) (st : ℕ) (meaning : Meaning) → (meaning ≡ FlowControl 0 0 st) ⊎ (meaning ≡ FlowControl 2 0 0) → is_control (read_back shape meaning) ≡ true
-control-by shape st meaning (inl is) = ap (λ m. is_control (read_back shape m)) is
-control-by shape st meaning (inr is) = ap (λ m. is_control (read_back shape m)) is
+control-by : (set : RxSet) (shape : Shape) (meaning : Meaning) → IsControl set meaning → is_control (read_back shape meaning) ≡ true
+control-by set shape meaning (Continues frames block is) = ap (λ m. is_control (read_back shape m)) is
+control-by set shape meaning (AsksToWait is) = ap (λ m. is_control (read_back shape m)) is
+control-by set shape meaning (TellsOverflow is) = ap (λ m. is_control (read_back shape m)) is
 
 -- a flow control of a channel, and a data frame of one
 abbrev pub IsControlOf : Shape → Written → Type 0
@@ -54,7 +56,7 @@ control-is set shape w sound is =
     let C : CanFrame → Type 0 = λ f. (is_addressed (address_in shape) f && is_control (unit_of (address_size shape) f)) ≡ true in
     subst C (sym is.frame)
     (both (is_addressed (address_in shape) (frame_of shape is.meaning)) (is_control (unit_of (address_size shape) (frame_of shape is.meaning))) (addressed shape is.meaning)
-    (ap is_control (reads_back shape is.meaning sound is.fits) ∙ control-by shape set.st is.meaning is.either))
+    (ap is_control (reads_back shape is.meaning sound is.fits) ∙ control-by set shape is.meaning is.control))
 
 data-by : (shape : Shape) (meaning : Meaning) → (IsNoData meaning → ⊥) → is_data (read_back shape meaning) ≡ true
 data-by shape (SingleFrame bytes) carries = refl

@@ -5,6 +5,8 @@ pub mod literals
 mod Dests
 pub mod Laws
 pub mod pools
+pub mod Readers
+pub mod Rooms
 mod Routes
 pub mod runs
 pub mod Sources

@@ -1,5 +1,5 @@
 -- The laws of each path's source channel and one of its destinations, by both machines' runs.
-use Rattle.std.proofs.Common.{Bool, ◌≡◌, ℕ, ◌≤◌, false, Some, List, [], ◌∷◌, length, refl, ap, sym, ◌∙◌, subst, arith}
+use Rattle.std.proofs.Common.{◌≡◌, ℕ, ◌≤◌, false, Some, List, length, refl, ap, sym, ◌∙◌, subst, arith}
 use Rattle.std.specs.Prelude.{slice_get}
 use Rattle.gw_base.proofs.Lists.{all-at, zip-at}
 use Rattle.hub_core.specs.Turns.{state_after}
@@ -8,11 +8,8 @@ use Rattle.receiver_law.proofs.runs.RxLaws.{ends-idle, source_law_of_run}
 use Rattle.receiver_law.specs.Channel.{SourceChannel}
 use Rattle.receiver_law.specs.RxRun.{RxRun, source_of, turns_in as received_in}
 use Rattle.receiver_law.specs.Source.{SourceLaw}
-use Rattle.sender_law.proofs.causes.TransmissionCauses.{causes}
 use Rattle.sender_law.proofs.transfers.TxWritten.{ticks-counted}
 use Rattle.sender_law.specs.Channel.{DestChannel}
-use Rattle.sender_law.specs.TransmissionCauses.{TransmissionCauses}
-use Rattle.std.proofs.Math.Path.{fun_ext}
 use Rattle.sender_law.specs.Runs.{HasLimits, TxRun, leg_of, turns_in as sent_in}
 use Rattle.sender_law.specs.Transfer.{has_sent, transfer_of}
 use Rattle.std.specs.Prelude.{filter}
@@ -21,34 +18,32 @@ use Rattle.tp_receiver.specs.declared.set.RxSet.{RxSet}
 use Rattle.tp_sender.specs.State.{tx_new}
 use Rattle.tp_sender.specs.declared.set.TxSet.{TxSet}
 use Rattle.gw_base.specs.declared.numbers.PathNo.{PathNo}
-use Rattle.tp_unit.specs.Box.{IsNeverFull}
 use Rattle.gw_law.specs.Account.{Account, Route, route_in}
 use Rattle.gw_law.specs.Deeds.{Deeds, IsReadBy, IsWrittenBy, LiesWithin, Window}
 use Rattle.gw_law.specs.Delivery.{AreWholeRuns, DeliveryLaw}
 use Rattle.gw_law.specs.Lawful.{IsLawfulRoute}
 use Rattle.gw_law.specs.Plan.{IsLawfulSending, Receiving, Sending}
-use Rattle.gw_law.specs.Run.{HasJoinedAll, IsNeverBusy, IsReceiverRun, IsRun, IsSenderRun}
+use Rattle.gw_law.specs.Run.{HasJoinedAll, IsReceiverRun, IsRun, IsSenderRun}
 use Rattle.gw_law.specs.Timely.{TimelyLaw, delivery_of_route}
+use Rattle.gw_law.proofs.causes.FirstFrames.{all-start}
+use Rattle.gw_law.proofs.causes.Held.{causes-held, held_at}
+use Rattle.gw_law.proofs.causes.HeldBytes.{holds-all}
 use Rattle.gw_law.proofs.causes.JointCauses.{Known, all-short, all-unread}
 use Rattle.gw_law.proofs.causes.JointWaits.{none-waits}
+use Rattle.gw_law.proofs.causes.SoonOver.{all-soon}
 use Rattle.gw_law.proofs.deliveries.Deliveries.{delivery_law_of}
 use Rattle.gw_law.proofs.deliveries.EachSession.{each_session_of}
 use Rattle.gw_law.proofs.runs.Barriers.{Pair}
 use Rattle.gw_law.proofs.runs.Meetings.{met}
 use Rattle.gw_law.proofs.runs.Moments.{Whole, received, sent}
-use Rattle.gw_law.proofs.times.Timely.{AreIdle, begins-all, frames-of, sends-all, timely-all}
+use Rattle.gw_law.proofs.times.Timely.{AreIdle, begins-all, frames-of, route_told, sends-all, timely-all}
 
 -- a whole run of both, whose view is joint and was joined whole by the destination
 pub record Crossing : Type 0 where
   pub whole : Whole
   pub idle : AreIdle whole
   pub served : length (whole.view.sessions whole.pair.rx.set.path.0) ≤ (state_after tx_new (sent whole)).next
-  pub never : IsNeverFull whole.pair.tx.full
   pub limits : HasLimits whole.pair.tx.set
-
--- what both tell
-abbrev pub route_told : (source_budget budget : ℕ) → Whole → Route
-route_told source_budget budget o = record { source = source_of source_budget o.pair.rx; leg = leg_of budget o.pair.tx; window = o.pair.most }
 
 whole-runs : (c : Crossing) → AreWholeRuns c.whole.pair.rx.set (received c.whole) c.whole.pair.tx.set (sent c.whole) c.whole.view
 whole-runs c = record {
@@ -63,13 +58,14 @@ whole-runs c = record {
   readings = c.whole.far.readings;
 }
 
-timely-law : (c : Crossing) (b e : ℕ) → TimelyLaw (route_told b e c.whole)
-timely-law c b e =
+timely-law : (c : Crossing) (b e : ℕ) → SourceLaw c.whole.pair.rx.set.chan.0 c.whole.pair.rx.set.a c.whole.pair.rx.set.functional (route_told b e c.whole).source.seen (route_told b e c.whole).source.sessions → DeliveryLaw (delivery_of_route (route_told b e c.whole)) → TimelyLaw (route_told b e c.whole)
+timely-law c b e source delivers =
     let o : Whole = c.whole in
     let frames = frames-of o in
     let t = transfer_of o.pair.tx.set (sent o) in
     record {
       begins = begins-all o c.idle;
+      starts = all-start o b e c.idle source delivers;
       timely = timely-all o c.idle;
       own = frames.own;
       counted = frames.counted ∙ ticks-counted t (attempts_in false t.frames) (filter has_sent t.records) (sends-all o c.idle);
@@ -82,7 +78,7 @@ route-law c b e =
     let delivers : DeliveryLaw (delivery_of_route r) = delivery_law_of o.pair.rx.set (received o) o.pair.tx.set (sent o) o.view (whole-runs c) in
     let source : SourceLaw r.source.rx.chan.0 r.source.rx.a r.source.rx.functional r.source.seen r.source.sessions = source_law_of_run o.pair.rx b o.pair.rx_run in
     let known : Known o r = record { rx = refl; tx = refl; window = refl; sessions = refl; dests = refl; source = source; delivers = delivers; served = c.served } in
-    let timely : TimelyLaw r = timely-law c b e in
+    let timely : TimelyLaw r = timely-law c b e source delivers in
     record {
       delivery = delivers;
       each = each_session_of o.pair.rx.set (received o) o.pair.tx.set (sent o) o.view (whole-runs c) c.served;
@@ -90,17 +86,18 @@ route-law c b e =
       joint = record {
         unread = all-unread o r known;
         short = all-short o r known;
-        in_time = none-waits r o.far.shape source (subst (λ (full : ℕ → Bool). TransmissionCauses full r.leg) (fun_ext c.never) (causes o.pair.tx e o.pair.tx_run c.limits)) timely delivers;
+        soon = all-soon o b e c.limits;
+        in_time = none-waits r (held_at o.pair.tx.parts) o.far.shape source (causes-held o.pair.tx e o.pair.tx_run c.limits) (holds-all o b e c.idle) timely delivers;
       };
     }
 
-same-path : (one other : PathNo) → one.0 ≡ other.0 → one ≡ other
+pub same-path : (one other : PathNo) → one.0 ≡ other.0 → one ≡ other
 same-path one other is = ap (λ (n : ℕ). record { 0 = n }) is
 
 -- a receiver and a sender of its path in a run
-crossing : (a : Account) (d : Deeds) (windows : List Window) (v : View) (place other : ℕ) (r : Receiving) (s : Sending) (rx : RxRun) (tx : TxRun) → IsRun a d windows v → IsNeverBusy d → slice_get d.receivers place ≡ Some rx → slice_get d.senders other ≡ Some tx →
+unfoldable pub crossing : (a : Account) (d : Deeds) (windows : List Window) (v : View) (place other : ℕ) (r : Receiving) (s : Sending) (rx : RxRun) (tx : TxRun) → IsRun a d windows v → slice_get d.receivers place ≡ Some rx → slice_get d.senders other ≡ Some tx →
     IsReceiverRun a r rx → IsSenderRun a s tx → slice_get a.plan.senders other ≡ Some s → s.set.path.0 ≡ r.set.path.0 → Crossing
-crossing a d windows v place other r s rx tx is never rx_there tx_there rx_is tx_is s_there path =
+crossing a d windows v place other r s rx tx is rx_there tx_there rx_is tx_is s_there path =
     let rx_set : rx.set ≡ r.set = ap (λ (c : SourceChannel). c.rx) rx_is.tells in
     let tx_set : tx.set ≡ s.set = ap (λ (c : DestChannel). c.tx) tx_is.tells in
     let paths : tx.set.path ≡ rx.set.path = same-path tx.set.path rx.set.path (ap (λ (x : TxSet). x.path.0) tx_set ∙ path ∙ ap (λ (x : RxSet). x.path.0) (sym rx_set)) in
@@ -145,17 +142,16 @@ crossing a d windows v place other r s rx tx is never rx_there tx_there rx_is tx
       };
       idle = record { rx = ends-idle rx rx_is.run_is; tx = tx_is.run_is.idle };
       served = omega (arith, served, ap length same);
-      never = all-at (λ (run : TxRun). IsNeverFull run.full) d.senders other tx never.senders tx_there;
       limits = record { n_as = omega (arith, plan.n_as, ap (λ (x : TxSet). x.n_as) tx_set); n_bs = omega (arith, plan.n_bs, ap (λ (x : TxSet). x.n_bs) tx_set) };
     }
 
-pub all-routes : (a : Account) (d : Deeds) (windows : List Window) (v : View) (place other : ℕ) (r : Receiving) (s : Sending) → IsRun a d windows v → IsNeverBusy d → slice_get a.plan.receivers place ≡ Some r → slice_get a.plan.senders other ≡ Some s → s.set.path.0 ≡ r.set.path.0 →
+pub all-routes : (a : Account) (d : Deeds) (windows : List Window) (v : View) (place other : ℕ) (r : Receiving) (s : Sending) → IsRun a d windows v → slice_get a.plan.receivers place ≡ Some r → slice_get a.plan.senders other ≡ Some s → s.set.path.0 ≡ r.set.path.0 →
     IsLawfulRoute (route_in a r s)
 unfolding crossing
-all-routes a d windows v place other r s is never r_there s_there path =
+all-routes a d windows v place other r s is r_there s_there path =
     let rx = zip-at (IsReceiverRun a) a.plan.receivers d.receivers place r is.receivers r_there in
     let tx = zip-at (IsSenderRun a) a.plan.senders d.senders other s is.senders s_there in
-    let c : Crossing = crossing a d windows v place other r s rx.0 tx.0 is never rx.1 tx.1 rx.2 tx.2 s_there path in
+    let c : Crossing = crossing a d windows v place other r s rx.0 tx.0 is rx.1 tx.1 rx.2 tx.2 s_there path in
     let law : IsLawfulRoute (record { source = source_of (a.plan.budget r.bus) rx.0; leg = leg_of (a.plan.budget s.bus) tx.0; window = a.plan.window }) = route-law c (a.plan.budget r.bus) (a.plan.budget s.bus) in
     let P : SourceChannel → Type 0 = λ x. IsLawfulRoute (record { source = x; leg = leg_of (a.plan.budget s.bus) tx.0; window = a.plan.window }) in
     let Q : DestChannel → Type 0 = λ y. IsLawfulRoute (record { source = source_of (a.plan.budget r.bus) rx.0; leg = y; window = a.plan.window }) in

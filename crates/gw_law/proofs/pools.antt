@@ -1,6 +1,6 @@
 -- The moves of the pool, and what the records of source channels say of them.
 pub mod Changes
-mod Entries
+pub mod Entries
 mod FreeSets
 mod Needs
 mod Overs

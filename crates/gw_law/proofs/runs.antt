@@ -1,7 +1,13 @@
 pub mod Barriers
 pub mod Before
 pub mod Fronts
+pub mod Looks
 pub mod Meetings
 pub mod Moments
+pub mod Openings
 pub mod OwnCalls
+pub mod PartCalls
 pub mod Parts
+pub mod LooksSeen
+pub mod RoomKept
+pub mod Roomy

@@ -1,4 +1,9 @@
+mod OnePiece
 pub mod Pieces
-mod RxUpTo
+pub mod RxCame
+mod RxCells
+mod RxPlaces
+pub mod RxUpTo
 pub mod Timely
-mod TxUpTo
+pub mod TxHeld
+pub mod TxUpTo

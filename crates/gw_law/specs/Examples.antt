@@ -4,12 +4,12 @@ use Rattle.std.specs.Prelude.{ℕ, zero, suc, true, false, Some, None, List, [],
 use Rattle.can_frame.specs.Frame.{CanFrame}
 use Rattle.can_frame.specs.declared.id.CanId.TheVariants.{Std}
 use Rattle.hub_core.specs.declared.record.DestRecord.{DestRecord}
-use Rattle.hub_core.specs.declared.record.DestResult.TheVariants.{Sent, RunEnd as DestRunEnd}
+use Rattle.hub_core.specs.declared.record.DestResult.TheVariants.{FcOverflow, Sent, SourceEnded, RunEnd as DestRunEnd}
 use Rattle.hub_core.specs.declared.record.Move.{Move}
 use Rattle.hub_core.specs.declared.record.RxWait.TheVariants.{Cf}
 use Rattle.hub_core.specs.declared.record.SessionRecord.{SessionRecord}
-use Rattle.hub_core.specs.declared.record.SessionResult.TheVariants.{Whole, NoReaders, RunEnd}
-use Rattle.hub_core.specs.declared.record.TxWait.TheVariants.{Start}
+use Rattle.hub_core.specs.declared.record.SessionResult.TheVariants.{Whole, WrongSn, NoReaders, NoRoom, RunEnd}
+use Rattle.hub_core.specs.declared.record.TxWait.TheVariants.{Bus, Fc, Start}
 use Rattle.tp_unit.specs.Box.{Written}
 use Rattle.tp_unit.specs.declared.shape.Shape.{Shape}
 use Rattle.gw_law.specs.Account.{Account}
@@ -177,6 +177,15 @@ no_such_destination = record lawful_run { dests = unsent ∷ sent_on 1 ∷ sent_
 abbrev pub sent_before_it_came : Account
 sent_before_it_came = record lawful_run { came = came_on 3; sessions = long_session ∷ short_session 3 ∷ [] }
 
+-- the long message's first frame leaves on bus 1 in tick 1, though its six bytes fill one cell of two
+abbrev pub left_early : ℕ → List Written
+left_early zero = single_then_control 0x600 single_frame
+left_early (suc zero) = leaves 1 0x710 first_frame ∷ []
+left_early (suc (suc bus)) = []
+
+abbrev pub sent_below_the_threshold : Account
+sent_below_the_threshold = record lawful_run { left = left_early; dests = record unsent { sent = 6; result = DestRunEnd Fc (record { 0 = 1 }) } ∷ sent_on 1 ∷ [] }
+
 -- the flow control waits in tick 0 though the frame that leaves has a lower priority
 abbrev pub lower_priority_first : Account
 lower_priority_first = record lawful_run { plan = two_paths 0x720; left = left_on (single_then_control 0x720 single_frame) }
@@ -221,6 +230,63 @@ destination_after_the_end = record lawful_run { dests = unsent ∷ record (sent_
 abbrev pub sent_too_late : Account
 sent_too_late = record lawful_run { dests = unsent ∷ record (sent_on 1) { end = record { 0 = 1 } } ∷ [] }
 
+-- a destination is told to wait for its bus, which sends nothing
+abbrev pub waits_for_an_idle_bus : Account
+waits_for_an_idle_bus = record lawful_run { dests = record unsent { result = DestRunEnd Bus (record { 0 = 0 }) } ∷ sent_on 1 ∷ [] }
+
+-- the long message's consecutive frame comes in tick 0 too, with the number 2 in place of 1, so that its session ends there
+abbrev pub came_wrong : ℕ → List InTick
+came_wrong zero = comes 0 0x700 first_frame ∷ comes 0 0x700 (0x22 ∷ 7 ∷ 8 ∷ 9 ∷ 10 ∷ []) ∷ []
+came_wrong (suc zero) = comes 2 0x500 single_frame ∷ []
+came_wrong (suc (suc bus)) = []
+
+-- and its destination goes on to wait for it in tick 3, when another window has begun
+abbrev pub source_ended_late : Account
+source_ended_late = record lawful_run {
+  came = came_wrong;
+  left = left_on (leaves 0 0x600 single_frame ∷ []);
+  sessions = record long_session { end = record { 0 = 0 }; result = WrongSn 1 2 } ∷ short_session 2 ∷ [];
+  dests = record unsent { result = SourceEnded } ∷ sent_on 1 ∷ [];
+}
+
+-- its consecutive frame comes in tick 0 too, and finds its session's buffer of two cells full, where one cell was put
+abbrev pub came_early : ℕ → List InTick
+came_early zero = comes 0 0x700 first_frame ∷ comes 0 0x700 (0x21 ∷ 7 ∷ 8 ∷ 9 ∷ 10 ∷ []) ∷ []
+came_early (suc zero) = comes 2 0x500 single_frame ∷ []
+came_early (suc (suc bus)) = []
+
+abbrev pub full_after_one_cell : Account
+full_after_one_cell = record lawful_run {
+  came = came_early;
+  left = left_on (leaves 0 0x600 single_frame ∷ []);
+  sessions = record long_session { end = record { 0 = 0 }; result = NoRoom 0 1 } ∷ short_session 2 ∷ [];
+  dests = record unsent { end = record { 0 = 0 }; result = SourceEnded } ∷ sent_on 1 ∷ [];
+}
+
+-- the destination of the long message, which sends from one cell on, ends in tick 1 by a flow control that refuses it
+abbrev pub refused_at_once : DestRecord
+refused_at_once = record unsent { sent = 6; end = record { 0 = 1 }; result = FcOverflow }
+
+abbrev pub came_late : ℕ → List InTick
+came_late zero = comes 0 0x700 first_frame ∷ comes 4 0x700 (0x21 ∷ 7 ∷ 8 ∷ 9 ∷ 10 ∷ []) ∷ []
+came_late (suc zero) = comes 1 0x718 (0x32 ∷ 0 ∷ 0 ∷ []) ∷ comes 2 0x500 single_frame ∷ []
+came_late (suc (suc bus)) = []
+
+abbrev pub left_both : ℕ → List Written
+left_both zero = single_then_control 0x600 single_frame
+left_both (suc zero) = leaves 0 0x710 first_frame ∷ []
+left_both (suc (suc bus)) = []
+
+-- and its consecutive frame is put in tick 4, when another window has begun
+abbrev pub put_for_none : Account
+put_for_none = record lawful_run {
+  plan = record (two_paths 0x600) { senders = sending 0 0x710 0x718 1 1 ∷ sending 1 0x600 0x608 1 0 ∷ [] };
+  came = came_late;
+  left = left_both;
+  sessions = record long_session { bytes = 10; result = Whole } ∷ short_session 2 ∷ [];
+  dests = refused_at_once ∷ sent_on 1 ∷ [];
+}
+
 -- both sessions take one buffer
 abbrev pub two_takes_of_one_buffer : Account
 two_takes_of_one_buffer = record lawful_run { moves = takes 1 0 ∷ takes 2 0 ∷ frees 3 0 ∷ frees 4 0 ∷ [] }
@@ -256,7 +322,8 @@ pub record NeighboursAreUnlawful : Type 0 where
   pub no_such_destination : Lawful no_such_destination → ⊥
   -- (TimelyLaw)
   pub sent_before_it_came : Lawful sent_before_it_came → ⊥
-  -- (FlowControlLaw)
+  pub sent_below_the_threshold : Lawful sent_below_the_threshold → ⊥
+  -- (AreAnswers)
   pub lower_priority_first : Lawful lower_priority_first → ⊥
   -- (BusLaw)
   pub two_in_a_tick : Lawful two_in_a_tick → ⊥
@@ -267,16 +334,22 @@ pub record NeighboursAreUnlawful : Type 0 where
   pub frame_after_the_end : Lawful frame_after_the_end → ⊥
   -- (SourceLaw)
   pub wrong_length : Lawful wrong_length → ⊥
-  -- (AreCaused)
+  -- (HasCause)
   pub awaited_too_early : Lawful awaited_too_early → ⊥
+  -- (RoomLaw)
+  pub full_after_one_cell : Lawful full_after_one_cell → ⊥
+  -- (ReaderLaw)
+  pub put_for_none : Lawful put_for_none → ⊥
   -- (SessionRecords)
   pub session_after_the_end : Lawful session_after_the_end → ⊥
   -- (JointCauses)
   pub read_to_the_end : Lawful read_to_the_end → ⊥
+  pub source_ended_late : Lawful source_ended_late → ⊥
   -- (DestRecords)
   pub destination_after_the_end : Lawful destination_after_the_end → ⊥
   -- (TransmissionCauses)
   pub sent_too_late : Lawful sent_too_late → ⊥
+  pub waits_for_an_idle_bus : Lawful waits_for_an_idle_bus → ⊥
   -- (PoolLaw)
   pub two_takes_of_one_buffer : Lawful two_takes_of_one_buffer → ⊥
   pub numbered_from_two : Lawful numbered_from_two → ⊥

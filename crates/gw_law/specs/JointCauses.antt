@@ -1,6 +1,6 @@
 -- Why records of a source and of a destination end, where the other one's part decides it (ISO 15765-2, timers; the causes are this project's own).
-use Rattle.std.specs.Prelude.{◌≡◌, ◌≢◌, ℕ, ◌+◌, ◌<◌, ◌≤◌, min, nat_lt, false, Some, List, filter, length, map, slice_get}
-use Rattle.tp_receiver.specs.Table.{cells_of}
+use Rattle.std.specs.Prelude.{◌≡◌, ◌≢◌, ℕ, ◌+◌, ◌<◌, ◌≤◌, max, min, nat_lt, false, Some, List, [], filter, length, map, slice_get}
+use Rattle.flow_plan.specs.Cells.{cells_for}
 use Rattle.std.specs.List.{AllByRecursion, AllZip}
 use Rattle.hub_core.specs.declared.record.DestRecord.{DestRecord}
 use Rattle.hub_core.specs.declared.record.DestResult.{DestResult}
@@ -16,10 +16,10 @@ use Rattle.tp_sender.specs.Frame.{part_after}
 use Rattle.tp_unit.specs.Shape.{address_size}
 use Rattle.gw_law.specs.Delivery.{IsNamed}
 use Rattle.gw_law.specs.Account.{Route}
-use Rattle.gw_law.specs.Timely.{bytes_below, delivery_of_route}
+use Rattle.gw_law.specs.Timely.{came_by, delivery_of_route}
 use Rattle.sender_law.specs.Pacing.{controls_of}
 use Rattle.sender_law.specs.Transfer.{has_sent}
-use Rattle.sender_law.specs.TransmissionCauses.{IsLate}
+use Rattle.sender_law.specs.TransmissionCauses.{AllowedFrom, IsLate, left_in}
 
 -- a destination ended neither whole, nor with its source, nor with the run
 abbrev pub IsOwnEnd : DestResult → Type 0
@@ -51,7 +51,7 @@ AreUnread r = AllByRecursion (λ (session : SessionRecord). session.result ≡ N
 -- are the fewest that hold its bytes, which says all where the threshold is one cell
 pub data Lacks (r : Route) (session : SessionRecord) (sent : ℕ) : Type 0 where
   LacksNext : session.bytes < sent + part_after r.leg.tx.shape session.len sent → Lacks r session sent
-  LacksStart : sent ≡ 0 → session.bytes ≢ session.len → (r.leg.tx.store ≡ false → cells_of session.bytes < r.leg.tx.threshold) → Lacks r session sent
+  LacksStart : sent ≡ 0 → session.bytes ≢ session.len → (r.leg.tx.store ≡ false → cells_for session.bytes < r.leg.tx.threshold) → Lacks r session sent
 
 -- the source ended below a window from then on, before its unit was whole, and without what comes next
 pub record HasLostSource (r : Route) (told : DestRecord) : Type 0 where
@@ -87,13 +87,20 @@ IsShortBy r told (RunEnd wait since) = Unit {0}
 abbrev pub AreShort : Route → Type 0
 AreShort r = AllByRecursion (λ (told : DestRecord). IsShortBy r told told.result) r.leg.dests
 
+-- a destination that ended with its source, and whose frames left in these ticks, did so at most in the greatest of its record's
+-- begin, the tick from which its next frame was allowed, and the tick a window after the session's end
+abbrev pub IsSoonOver : Route → List ℕ → DestRecord → Type 0
+IsSoonOver r ticks told = (unit : Cut Seen) (session : SessionRecord) → IsNamed (delivery_of_route r) told.seq unit session → told.result ≡ SourceEnded →
+    (from : ℕ) → AllowedFrom (controls_of r.leg.tx.period r.leg.answers) told.begin.0 ticks told.end.0 from → told.end.0 ≤ max (max told.begin.0 from) (session.end.0 + r.window)
+
+-- each record of the destination: those with sent bytes by their transmissions, and the others by no frames
+pub record AreSoonOver (r : Route) : Type 0 where
+  pub sent : AllZip (λ cut told. IsSoonOver r (left_in (address_size r.leg.tx.shape) cut) told) (attempts_in false (delivery_of_route r).frames) (filter has_sent r.leg.dests)
+  pub unsent : AllByRecursion (λ (told : DestRecord). told.sent ≡ 0 → IsSoonOver r [] told) r.leg.dests
+
 -- the frames of a transmission that left before a tick
 abbrev pub left_before : ℕ → List Piece → List Piece
 left_before tick pieces = filter (λ (piece : Piece). nat_lt piece.at tick) pieces
-
--- the bytes of a session that came in ticks below a window from a tick on, at most those that were put
-abbrev pub came_by : Route → Cut Seen → SessionRecord → ℕ → ℕ
-came_by r unit session tick = min (bytes_below (tick + r.window) (walk_of r.source.rx.a unit).pieces) session.bytes
 
 -- by a tick a destination waits too long for bytes: its start left before, the next frame was allowed at least as many ticks ago as the limit,
 -- and fewer bytes of the session came in ticks below a window from it on than were sent and the next frame carries
@@ -115,4 +122,5 @@ NoneWaitsTooLong r = AllZip (EndsInTime r) (attempts_in false (delivery_of_route
 pub record JointCauses (r : Route) : Type 0 where
   pub unread : AreUnread r
   pub short : AreShort r
+  pub soon : AreSoonOver r
   pub in_time : NoneWaitsTooLong r

@@ -1,10 +1,8 @@
 -- The laws of a run: what its configuration, its logs, its outputs and its report say together.
 use Rattle.std.specs.Prelude.{◌≡◌, ℕ, Bool, Some, slice_get}
 use Rattle.std.specs.List.{AllByRecursion}
-use Rattle.receiver_law.specs.FlowControls.{FlowControlLaw}
-use Rattle.receiver_law.specs.ReceptionCauses.{AreCaused, AreNeverBoxed}
+use Rattle.receiver_law.specs.ReceptionCauses.{ReceptionLaw}
 use Rattle.receiver_law.specs.Source.{SourceLaw}
-use Rattle.sender_law.specs.Channel.{never_full}
 use Rattle.sender_law.specs.Emission.{DataEmission, DestRecords}
 use Rattle.sender_law.specs.TransmissionCauses.{TransmissionCauses}
 use Rattle.gw_law.specs.Account.{Account, Route, dest_in, is_full_for, route_in, source_in}
@@ -13,12 +11,18 @@ use Rattle.gw_law.specs.Emission.{BusLaw, ControlEmission, NoOthers, WrittenLaw}
 use Rattle.gw_law.specs.JointCauses.{JointCauses}
 use Rattle.gw_law.specs.Plan.{Receiving, Sending}
 use Rattle.gw_law.specs.PoolOfAccount.{PoolOf}
+use Rattle.gw_law.specs.Readers.{ReaderLaw}
 use Rattle.gw_law.specs.Records.{SessionRecords}
+use Rattle.gw_law.specs.Rooms.{RoomLaw}
 use Rattle.gw_law.specs.Timely.{TimelyLaw, delivery_of_route}
 
 -- the bus of a source channel has no place for its flow control in a tick
 abbrev pub is_full_at : Account → Receiving → ℕ → Bool
 is_full_at a r tick = is_full_for (a.plan.budget r.bus) (a.left r.bus) r.shape.id tick
+
+-- the bus of a destination has no place for its data frame in a tick
+abbrev pub is_full_of : Account → Sending → ℕ → Bool
+is_full_of a s tick = is_full_for (a.plan.budget s.bus) (a.left s.bus) s.set.shape.id tick
 
 -- a source channel, over the frames that came to it, its flow controls that left, and its records
 pub record IsLawfulSource (a : Account) (r : Receiving) : Type 0 where
@@ -26,19 +30,22 @@ pub record IsLawfulSource (a : Account) (r : Receiving) : Type 0 where
   pub source : SourceLaw r.set.chan.0 r.set.a r.set.functional (source_in a r).seen (source_in a r).sessions
   -- whose they are, that they lie within the run, and that one follows another
   pub records : SessionRecords (source_in a r)
-  -- at most one flow control leaves in a tick; which ones leave, and where one that is owed doesn't, its bus was full
+  -- at most one flow control leaves in a tick
   pub emission : ControlEmission (source_in a r)
-  pub controls : FlowControlLaw (is_full_at a r) (source_in a r)
-  -- each record comes of its cause, and no earlier one is passed over
-  pub receptions : AreCaused (is_full_at a r) (source_in a r)
-  pub never_boxed : AreNeverBoxed (source_in a r)
+  -- the flow controls are those of its receptions: which ones leave, and where one that is owed doesn't, its bus was full; each record
+  -- comes of its cause, and no earlier one is passed over
+  pub receptions : ReceptionLaw (is_full_at a r) (source_in a r)
+  -- a record that tells of too little room tells what room its buffer had, by what was put there
+  pub rooms : RoomLaw a.plan.groups (source_in a r)
+  -- its consecutive frames are put while a destination of the path reads
+  pub readers : ReaderLaw a (source_in a r)
 
 -- a destination of a path, over the flow controls that came to its channel, the data frames that left, and its records
 pub record IsLawfulDest (a : Account) (s : Sending) : Type 0 where
   pub records : DestRecords (dest_in a s)
   pub emission : DataEmission (dest_in a s)
-  -- each record comes of its cause, and no earlier one is passed over; no data frame waits for its bus
-  pub transmissions : TransmissionCauses never_full (dest_in a s)
+  -- each record comes of its cause, and no earlier one is passed over; a data frame waits for its bus only while that has no place for it
+  pub transmissions : TransmissionCauses (is_full_of a s) (dest_in a s)
 
 -- a path from its source channel to one of its destinations
 pub record IsLawfulRoute (r : Route) : Type 0 where

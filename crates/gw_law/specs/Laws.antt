@@ -13,7 +13,7 @@ use Rattle.gw_law.specs.Deeds.{Deeds, Window}
 use Rattle.gw_law.specs.Delivery.{AreOfEach, AreWholeRuns, DeliveryLaw, delivery_of}
 use Rattle.gw_law.specs.Lawful.{Lawful}
 use Rattle.gw_law.specs.Pool.{AreAllOver, AreAllUsed, AreNamed, IsPoolRun, PoolEnds, PoolLaw, Source, channel_of}
-use Rattle.gw_law.specs.Run.{AreAllShort, IsNeverBusy, IsRun}
+use Rattle.gw_law.specs.Run.{IsRun}
 
 -- the frames that a sender wrote deliver what the receiver of its path got
 abbrev pub RunsDeliver : Type 0
@@ -41,6 +41,6 @@ TakesAreNamed = (sources : List Source) (groups : List (List ℕ)) (group count 
 abbrev pub PoolsEnd : Type 0
 PoolsEnd = (sources : List Source) (groups : List (List ℕ)) (group count free : ℕ) (v : View) (moves : List Move) → IsPoolRun sources groups group count free v moves → AreAllOver v → PoolEnds groups group free (map channel_of sources) moves
 
--- what every run tells whose buses are never full and whose messages are short keeps all laws
+-- what every run tells keeps all laws
 abbrev pub RunsAreLawful : Type 0
-RunsAreLawful = (a : Account) (d : Deeds) (windows : List Window) (v : View) → IsRun a d windows v → IsNeverBusy d → AreAllShort d → Lawful a
+RunsAreLawful = (a : Account) (d : Deeds) (windows : List Window) (v : View) → IsRun a d windows v → Lawful a

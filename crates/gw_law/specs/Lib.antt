@@ -10,6 +10,8 @@ pub mod Laws
 pub mod Plan
 pub mod Pool
 pub mod PoolOfAccount
+pub mod Readers
 pub mod Records
+pub mod Rooms
 pub mod Run
 pub mod Timely

@@ -41,6 +41,7 @@ pub record IsLawfulReceiving (p : Plan) (r : Receiving) : Type 0 where
   pub shape : IsShape r.shape
   pub group : r.set.group.0 < length p.groups
   pub n_ar : 1 ≤ r.set.n_ar
+  pub n_br : 1 ≤ r.set.n_br
   pub n_cr : 1 ≤ r.set.n_cr
   pub budget : 1 ≤ p.budget r.bus
 

@@ -1,7 +1,7 @@
 -- What the moves of the pool of buffers are, and what the records of the source channels say of them (this project's own).
 use Rattle.std.specs.Prelude.{◌≡◌, ℕ, ◌+◌, ◌-◌, ◌^◌, ◌<◌, ◌≤◌, ◌==◌, ◌↔◌, if◌then◌else◌, zero, suc, true, false, Option, Some, None, List, length, map, find, slice_get, IsBitSet, [], ◌∷◌}
 use Rattle.hub_core.specs.Moves.{move_of}
-use Rattle.tp_receiver.specs.Table.{cells_of}
+use Rattle.tp_receiver.specs.Grant.{need_of}
 use Rattle.tp_receiver.specs.State.{RxTurn, rx_new}
 use Rattle.tp_receiver.specs.Runs.{HasReceived, frames_in}
 use Rattle.hub_core.specs.Turns.{calls_by, came_by, state_after, records_by}
@@ -19,7 +19,7 @@ use Rattle.hub_core.specs.declared.record.SessionRecord.{SessionRecord}
 use Rattle.hub_core.specs.declared.record.SessionResult.TheVariants.{Overflow}
 use Rattle.tp_attempts.specs.Attempts.{attempts_in}
 use Rattle.tp_attempts.specs.Cuts.{Cut}
-use Rattle.tp_attempts.specs.Seen.{Seen, bytes_of}
+use Rattle.tp_attempts.specs.Seen.{Seen, bytes_of, len_of}
 use Rattle.tp_receiver.specs.declared.set.RxSet.{RxSet}
 use Rattle.receiver_law.specs.Source.{CountsFrom}
 
@@ -58,9 +58,9 @@ pub record IsReplayed (sizes : List ℕ) (count free : ℕ) (moves : List Move) 
   pub each : (number : ℕ) → number < count → (move : Move) × (move_numbered moves (number + 1) ≡ Some move) × IsLawfulMove sizes (free_at sizes moves number) move
   pub free_is : free ≡ free_at sizes moves count
 
--- the need, in cells, of an attempt's first bytes
-abbrev pub need_of : Cut Seen → ℕ
-need_of attempt = cells_of (length (bytes_of attempt.start.meaning))
+-- the cells that an attempt's start asks for
+abbrev pub start_need : RxSet → Cut Seen → ℕ
+start_need set attempt = need_of set attempt.start.size (len_of attempt.start.meaning) (length (bytes_of attempt.start.meaning))
 
 -- the move of a number takes, or frees, a buffer
 abbrev pub taking : ℕ → BufNo → Move
@@ -86,9 +86,9 @@ pub record IsRefused (sizes : List ℕ) (moves : List Move) (need change free as
   pub none_fits : NoneFits sizes free need
 
 -- what the record of an attempt says of its path's group of buffers
-pub record Asks (groups : List (List ℕ)) (group : ℕ) (moves : List Move) (attempt : Cut Seen) (told : SessionRecord) : Type 0 where
-  pub served : (opened : OpenedAt) → told.opened ≡ Some opened → IsServed groups group moves (need_of attempt) opened
-  pub refused : (change free need : ℕ) → told.result ≡ Overflow change free need → IsRefused (sizes_of groups group) moves (need_of attempt) change free need
+pub record Asks (groups : List (List ℕ)) (group : ℕ) (moves : List Move) (set : RxSet) (attempt : Cut Seen) (told : SessionRecord) : Type 0 where
+  pub served : (opened : OpenedAt) → told.opened ≡ Some opened → IsServed groups group moves (start_need set attempt) opened
+  pub refused : (change free need : ℕ) → told.result ≡ Overflow change free need → IsRefused (sizes_of groups group) moves (start_need set attempt) change free need
 
 -- the move of a number is of the buffer
 abbrev pub MovesBuf : List Move → (buf number : ℕ) → Type 0
@@ -100,8 +100,9 @@ pub record IsNextMove (moves : List Move) (buf number next : ℕ) : Type 0 where
   pub after : number < next
   pub first : (other : ℕ) → MovesBuf moves buf other → number < other → next ≤ other
 
--- a source channel: its attempts, and the records of its units
+-- a source channel: how it is configured, its attempts, and the records of its units
 pub record Channel : Type 0 where
+  pub set : RxSet
   pub attempts : List (Cut Seen)
   pub records : List SessionRecord
 
@@ -121,7 +122,7 @@ IsUnnamed channels number = (chan place : ℕ) (opened : OpenedAt) → IsOpened 
 -- session is the last move of its buffer, and the next move of a taken buffer, where there is one, is its free
 pub record PoolLaw (groups : List (List ℕ)) (group count free : ℕ) (channels : List Channel) (moves : List Move) : Type 0 where
   pub replayed : IsReplayed (sizes_of groups group) count free moves
-  pub asks : AllByRecursion (λ (channel : Channel). AllZip (Asks groups group moves) channel.attempts channel.records) channels
+  pub asks : AllByRecursion (λ (channel : Channel). AllZip (Asks groups group moves channel.set) channel.attempts channel.records) channels
   pub own : (chan other_chan place other : ℕ) (opened reopened : OpenedAt) → IsOpened channels chan place opened → IsOpened channels other_chan other reopened → opened.change ≡ reopened.change → (chan ≡ other_chan) × (place ≡ other)
   pub unused : (number later : ℕ) (buf : BufNo) → move_numbered moves number ≡ Some (taking number buf) → IsUnnamed channels number → MovesBuf moves buf.0 later → later ≤ number
   pub next : (number later : ℕ) (buf : BufNo) → move_numbered moves number ≡ Some (taking number buf) → IsNextMove moves buf.0 number later → move_numbered moves later ≡ Some (freeing later buf)
@@ -172,7 +173,7 @@ pub record Source : Type 0 where
 
 -- what is told of its channel
 abbrev pub channel_of : Source → Channel
-channel_of source = record { attempts = attempts_in source.set.functional (came_by frames_in source.turns); records = records_by source.turns }
+channel_of source = record { set = source.set; attempts = attempts_in source.set.functional (came_by frames_in source.turns); records = records_by source.turns }
 
 -- a whole run of a receiver of a path of the group, and the joined view of its hub: the path's sessions are what the receiver's calls
 -- made, and lie in the group; its takes and overflows are in the view

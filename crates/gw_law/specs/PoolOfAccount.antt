@@ -8,9 +8,9 @@ use Rattle.gw_law.specs.Account.{Account, source_in}
 use Rattle.gw_law.specs.Plan.{Receiving}
 use Rattle.gw_law.specs.Pool.{AreNamed, Channel, PoolEnds, PoolLaw, moves_of}
 
--- a source channel: its attempts, and the records of its units
+-- a source channel: how it is configured, its attempts, and the records of its units
 abbrev pub channel_in : Account → Receiving → Channel
-channel_in a r = record { attempts = attempts_in r.set.functional (source_in a r).seen; records = (source_in a r).sessions }
+channel_in a r = record { set = r.set; attempts = attempts_in r.set.functional (source_in a r).seen; records = (source_in a r).sessions }
 
 -- the source channels whose path has the group's buffers
 abbrev pub channels_of : Account → (group : ℕ) → List Channel

@@ -5,13 +5,11 @@ use Rattle.hub_core.specs.Groups.{IsWordOf, changes_in, group_of}
 use Rattle.hub_core.specs.Joint.{Joint}
 use Rattle.hub_core.specs.Journal.{AreInOrder}
 use Rattle.hub_core.specs.Moves.{move_of}
-use Rattle.hub_core.specs.Turns.{state_after, turns_of}
+use Rattle.hub_core.specs.Turns.{state_after}
 use Rattle.hub_core.specs.View.{Session, View, session_at}
-use Rattle.receiver_law.specs.Looks.{AreShort}
 use Rattle.receiver_law.specs.RxRun.{IsRxRun, RxRun, source_of, turns_in as received_in}
 use Rattle.sender_law.specs.Runs.{IsTxRun, TxRun, leg_of, turns_in as sent_in}
 use Rattle.tp_sender.specs.State.{tx_new}
-use Rattle.tp_unit.specs.Box.{IsNeverFull}
 use Rattle.gw_law.specs.Account.{Account, dest_in, is_full_for, source_in}
 use Rattle.gw_law.specs.Deeds.{AreWindows, Deeds, IsJoined, LiesWithin, Window}
 use Rattle.gw_law.specs.Emission.{BusLaw, NoOthers}
@@ -64,12 +62,3 @@ pub record IsRun (a : Account) (d : Deeds) (windows : List Window) (v : View) : 
   pub pools : (group : ℕ) → group < length a.plan.groups → TellsPool a v group
   pub joined : IsJoined d received_in sent_in v
   pub served : AllByRecursion (HasJoinedAll v) d.senders
-
--- no bus is ever full for a machine's frame
-pub record IsNeverBusy (d : Deeds) : Type 0 where
-  pub receivers : AllByRecursion (λ (run : RxRun). IsNeverFull run.full) d.receivers
-  pub senders : AllByRecursion (λ (run : TxRun). IsNeverFull run.full) d.senders
-
--- each message that comes fits a buffer of four cells, as each look at the room shows
-abbrev pub AreAllShort : Deeds → Type 0
-AreAllShort d = AllByRecursion (λ (run : RxRun). AreShort run.set (turns_of run.parts)) d.receivers

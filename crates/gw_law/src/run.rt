@@ -2,8 +2,7 @@ ghost use Rattle.gw_law.specs.Laws.{RunsAreLawful};
 
 /// The laws of a run, whatever its buses, channels, paths, destinations and windows; the function does nothing.
 ///
-/// What is told of every run whose buses always have a place, and whose messages each fit a buffer of four cells, keeps all
-/// the laws: the configuration, the logs that came and left, and the report.
+/// What is told of every run keeps all the laws: the configuration, the logs that came and left, and the report.
 pub fn run_law()
     ensures { RunsAreLawful }
 {}

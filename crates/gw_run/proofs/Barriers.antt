@@ -16,7 +16,7 @@ use Rattle.sender_law.specs.Parts.{AnswersIn}
 use Rattle.gw_run.specs.Standing.{AtBarrier, InDestination, Stands, lying}
 use Rattle.gw_run.specs.Telling.{LeavesFrame, TellsSender}
 use Rattle.gw_run.specs.declared.gateway.Gateway.{Gateway}
-use Rattle.gw_run.proofs.Ticks.{fresh-at, fresh-join, groups, stands-joint}
+use Rattle.gw_run.proofs.Ticks.{fresh-at, fresh-join, stands-joint}
 use Rattle.gw_run.proofs.TxMoments.{moment-stands}
 use Rattle.hub_core.proofs.Growing.{grows-append}
 use Rattle.hub_core.proofs.Turns.{calls-append}
@@ -36,15 +36,15 @@ abbrev pub view_at : (earlier : List Work) → (turns : List RxTurn) → (moment
 view_at earlier turns moments = grows (calls_by moments) (grows (calls_by turns) (view_of earlier))
 
 -- a flow control came
-pub answered : (g h : Gateway) (seen : List Seen) (answers : List Answer) (tick fs bs st : ℕ) → InDestination g seen answers tick → TellsSender g h (Fc fs bs st) tick (lying g.frame) g.frames →
-    InDestination h seen (answers ++ record { tick = tick; status = fs; block_size = bs; separation = st } ∷ []) tick
-answered g h seen answers tick fs bs st at told =
+pub answered : (sizes : List ℕ) (g h : Gateway) (seen : List Seen) (answers : List Answer) (tick fs bs st : ℕ) → InDestination sizes g seen answers tick → TellsSender g h (Fc fs bs st) tick (lying g.frame) g.frames →
+    InDestination sizes h seen (answers ++ record { tick = tick; status = fs; block_size = bs; separation = st } ∷ []) tick
+answered sizes g h seen answers tick fs bs st at told =
     let turn = told.turn in
     let step = told.stepped in
     let moments = at.moments ++ moments_of at.earlier in
     let view = view_at at.earlier at.turns at.moments in
-    let stands = moment-stands g h tick tick (at.turns ++ turns_of at.earlier) moments view (Fc fs bs st) at.stands (omega arith) at.clear (frames-same g h (Fc fs bs st) tick (lying g.frame) told) in
-    let V : View → Type 0 = λ v. Stands h tick (at.turns ++ turns_of at.earlier) (turn ∷ moments) v in
+    let stands = moment-stands sizes g h tick tick (at.turns ++ turns_of at.earlier) moments view (Fc fs bs st) at.stands (omega arith) at.clear (frames-same g h (Fc fs bs st) tick (lying g.frame) told) in
+    let V : View → Type 0 = λ v. Stands sizes h tick (at.turns ++ turns_of at.earlier) (turn ∷ moments) v in
     let A : TxEvent → Type 0 = λ e. AnswersIn tick e turn.did.tick in
     let C : TxEvent → Type 0 = λ e. after_left e turn.did.tick (clear_from moments) ≤ tick in
     record {
@@ -58,7 +58,7 @@ answered g h seen answers tick fs bs st at told =
       looks = at.looks;
       between = at.between;
       only = (subst A (sym step.event_is) step.tick_is, at.only);
-      sees = (fresh-at g tick (at.turns ++ turns_of at.earlier) moments view turn.did.calls at.stands step.fresh, at.sees);
+      sees = (fresh-at sizes g tick (at.turns ++ turns_of at.earlier) moments view turn.did.calls at.stands step.fresh, at.sees);
       stands = subst V (sym (grows-append (calls_by at.moments) turn.did.calls (grows (calls_by at.turns) (view_of at.earlier)))) stands;
       clear = subst C (sym step.event_is) at.clear;
       seen_is = at.seen_is;
@@ -68,20 +68,20 @@ answered g h seen answers tick fs bs st at told =
     }
 
 -- what lay in the sender's box left
-record FrameLeft (h : Gateway) (tick : ℕ) (turns : List RxTurn) (moments : List TxTurn) (view : View) : Type 0 where
+record FrameLeft (sizes : List ℕ) (h : Gateway) (tick : ℕ) (turns : List RxTurn) (moments : List TxTurn) (view : View) : Type 0 where
   left : List TxTurn
   left_is : FrameLeaves tick (box_after moments) left
   answers : came_by controls_in (left ++ moments) ≡ came_by controls_in moments
   clear : clear_from moments ≤ tick + 1 → clear_from (left ++ moments) ≤ tick + 1
-  sees : AreFreshTurns groups view left
-  stands : Stands h tick turns (left ++ moments) (grows (calls_by left) view)
+  sees : AreFreshTurns (sizes ∷ []) view left
+  stands : Stands sizes h tick turns (left ++ moments) (grows (calls_by left) view)
 
-frame-left : (g h : Gateway) (tick : ℕ) (turns : List RxTurn) (moments : List TxTurn) (view : View) (lies : Option Meaning) → lying g.frame ≡ lies → Stands g tick turns moments view → LeavesFrame lies g h tick → FrameLeft h tick turns moments view
-frame-left g h tick turns moments view None is s same =
+frame-left : (sizes : List ℕ) (g h : Gateway) (tick : ℕ) (turns : List RxTurn) (moments : List TxTurn) (view : View) (lies : Option Meaning) → lying g.frame ≡ lies → Stands sizes g tick turns moments view → LeavesFrame lies g h tick → FrameLeft sizes h tick turns moments view
+frame-left sizes g h tick turns moments view None is s same =
     let P : Option Meaning → Type 0 = λ l. FrameLeaves tick l [] in
-    let H : Gateway → Type 0 = λ x. Stands x tick turns moments view in
+    let H : Gateway → Type 0 = λ x. Stands sizes x tick turns moments view in
     record { left = []; left_is = subst P (sym is ∙ s.sends.lies_is) refl; answers = refl; clear = λ clear. clear; sees = tt; stands = subst H (sym same) s }
-frame-left g h tick turns moments view (Some meaning) is s told =
+frame-left sizes g h tick turns moments view (Some meaning) is s told =
     let turn = told.turn in
     let step = told.stepped in
     let P : Option Meaning → Type 0 = λ l. FrameLeaves tick l (turn ∷ []) in
@@ -92,38 +92,38 @@ frame-left g h tick turns moments view (Some meaning) is s told =
       left_is = subst P (sym is ∙ s.sends.lies_is) ((step.event_is, step.tick_is), refl);
       answers = ap (λ (e : TxEvent). came_by controls_in moments ++ controls_in turn.did.tick e) step.event_is ∙ append-nil (came_by controls_in moments);
       clear = λ clear. subst C (sym step.event_is) (omega (arith, step.tick_is));
-      sees = (fresh-at g tick turns moments view turn.did.calls s step.fresh, tt);
-      stands = moment-stands g h tick tick turns moments view Left s (omega arith) tt (frames-with g h Left tick None _ _ same told);
+      sees = (fresh-at sizes g tick turns moments view turn.did.calls s step.fresh, tt);
+      stands = moment-stands sizes g h tick tick turns moments view Left s (omega arith) tt (frames-with g h Left tick None _ _ same told);
     }
 
 -- the sender's turn
-pub turn-stands : (g k : Gateway) (seen : List Seen) (answers : List Answer) (tick : ℕ) → (at : InDestination g seen answers tick) → (told : TellsSender g k Turn tick (lying g.frame) g.frames) →
-    Stands k tick (at.turns ++ turns_of at.earlier) (told.turn ∷ (at.moments ++ moments_of at.earlier)) (grows told.turn.did.calls (view_at at.earlier at.turns at.moments))
-turn-stands g k seen answers tick at told =
-    moment-stands g k tick tick (at.turns ++ turns_of at.earlier) (at.moments ++ moments_of at.earlier) (view_at at.earlier at.turns at.moments) Turn at.stands (omega arith) tt (frames-same g k Turn tick (lying g.frame) told)
+pub turn-stands : (sizes : List ℕ) (g k : Gateway) (seen : List Seen) (answers : List Answer) (tick : ℕ) → (at : InDestination sizes g seen answers tick) → (told : TellsSender g k Turn tick (lying g.frame) g.frames) →
+    Stands sizes k tick (at.turns ++ turns_of at.earlier) (told.turn ∷ (at.moments ++ moments_of at.earlier)) (grows told.turn.did.calls (view_at at.earlier at.turns at.moments))
+turn-stands sizes g k seen answers tick at told =
+    moment-stands sizes g k tick tick (at.turns ++ turns_of at.earlier) (at.moments ++ moments_of at.earlier) (view_at at.earlier at.turns at.moments) Turn at.stands (omega arith) tt (frames-same g k Turn tick (lying g.frame) told)
 
 -- the destination's part of a tick ends
-pub destination-ends : (g k h : Gateway) (seen : List Seen) (answers : List Answer) (tick : ℕ) → InDestination g seen answers tick → TellsSender g k Turn tick (lying g.frame) g.frames →
-    LeavesFrame (lying k.frame) k h tick → AtBarrier h seen answers (tick + 1)
-destination-ends g k h seen answers tick at told leaves =
+pub destination-ends : (sizes : List ℕ) (g k h : Gateway) (seen : List Seen) (answers : List Answer) (tick : ℕ) → InDestination sizes g seen answers tick → TellsSender g k Turn tick (lying g.frame) g.frames →
+    LeavesFrame (lying k.frame) k h tick → AtBarrier sizes h seen answers (tick + 1)
+destination-ends sizes g k h seen answers tick at told leaves =
     let turn = told.turn in
     let step = told.stepped in
     let start = grows (calls_by at.turns) (view_of at.earlier) in
     let all = at.turns ++ turns_of at.earlier in
     let old = at.moments ++ moments_of at.earlier in
-    let stands = turn-stands g k seen answers tick at told in
-    let out = frame-left k h tick all (turn ∷ old) (grows turn.did.calls (view_at at.earlier at.turns at.moments)) (lying k.frame) refl stands leaves in
+    let stands = turn-stands sizes g k seen answers tick at told in
+    let out = frame-left sizes k h tick all (turn ∷ old) (grows turn.did.calls (view_at at.earlier at.turns at.moments)) (lying k.frame) refl stands leaves in
     let done = out.left ++ turn ∷ at.moments in
     let done_are : done ++ moments_of at.earlier ≡ out.left ++ turn ∷ old = append_assoc out.left (turn ∷ at.moments) (moments_of at.earlier) in
     let view_is : grows (calls_by done) start ≡ grows (calls_by out.left) (grows turn.did.calls (view_at at.earlier at.turns at.moments)) =
     calls-join out.left (turn ∷ at.moments) start ∙ ap (λ v. grows (calls_by out.left) v) (grows-append (calls_by at.moments) turn.did.calls start) in
-    let L : List TxTurn → Type 0 = λ l. Stands h tick all l (grows (calls_by out.left) (grows turn.did.calls (view_at at.earlier at.turns at.moments))) in
-    let V : View → Type 0 = λ v. Stands h tick all (done ++ moments_of at.earlier) v in
-    let now : Stands h tick all (done ++ moments_of at.earlier) (grows (calls_by done) start) = subst V (sym view_is) (subst L (sym done_are) out.stands) in
+    let L : List TxTurn → Type 0 = λ l. Stands sizes h tick all l (grows (calls_by out.left) (grows turn.did.calls (view_at at.earlier at.turns at.moments))) in
+    let V : View → Type 0 = λ v. Stands sizes h tick all (done ++ moments_of at.earlier) v in
+    let now : Stands sizes h tick all (done ++ moments_of at.earlier) (grows (calls_by done) start) = subst V (sym view_is) (subst L (sym done_are) out.stands) in
     let mid : grows (calls_by (turn ∷ at.moments)) start ≡ grows turn.did.calls (view_at at.earlier at.turns at.moments) = grows-append (calls_by at.moments) turn.did.calls start in
-    let sees_left : AreFreshTurns groups (grows (calls_by (turn ∷ at.moments)) start) out.left = (let P : View → Type 0 = λ v. AreFreshTurns groups v out.left in subst P (sym mid) out.sees) in
+    let sees_left : AreFreshTurns (sizes ∷ []) (grows (calls_by (turn ∷ at.moments)) start) out.left = (let P : View → Type 0 = λ v. AreFreshTurns (sizes ∷ []) v out.left in subst P (sym mid) out.sees) in
     let work : Work = record { tick = tick; turns = at.turns; moments = done } in
-    let K : ℕ → Type 0 = λ k. Stands h k all (done ++ moments_of at.earlier) (grows (calls_by done) start) in
+    let K : ℕ → Type 0 = λ k. Stands sizes h k all (done ++ moments_of at.earlier) (grows (calls_by done) start) in
     let M : List TxTurn → Type 0 = λ l. clear_from l ≤ tick + 1 in
     let C : TxEvent → Type 0 = λ e. after_left e turn.did.tick (clear_from old) ≤ tick + 1 in
     let one : tick ≡ tick + 1 - 1 = omega arith in
@@ -137,8 +137,8 @@ destination-ends g k h seen answers tick at told leaves =
           looks = at.looks;
           between = at.between;
           sends = record { answers = at.moments; turn = turn; left = out.left; moments_are = refl; answers_only = at.only; turn_is = step.event_is; turn_tick = step.tick_is; left_is = out.left_is };
-          sees = fresh-join out.left (turn ∷ at.moments) start sees_left (fresh-at g tick all old (view_at at.earlier at.turns at.moments) turn.did.calls at.stands step.fresh, at.sees);
-          after = stands-joint h tick _ _ _ now;
+          sees = fresh-join sizes out.left (turn ∷ at.moments) start sees_left (fresh-at sizes g tick all old (view_at at.earlier at.turns at.moments) turn.did.calls at.stands step.fresh, at.sees);
+          after = stands-joint sizes h tick _ _ _ now;
         },
         at.ticks,
       );

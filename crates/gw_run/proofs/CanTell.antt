@@ -22,9 +22,9 @@ use Rattle.gw_run.specs.Telling.{CanTell, CanTellSender, means_in}
 use Rattle.gw_run.specs.declared.gateway.Gateway.{Gateway}
 use Rattle.gw_run.proofs.Same.{waits-later}
 
-pub can-tell : (g : Gateway) (t tick : ℕ) (turns : List RxTurn) (moments : List TxTurn) (view : View) (event : RxEvent) → Stands g t turns moments view → t ≤ tick →
+pub can-tell : (sizes : List ℕ) (g : Gateway) (t tick : ℕ) (turns : List RxTurn) (moments : List TxTurn) (view : View) (event : RxEvent) → Stands sizes g t turns moments view → t ≤ tick →
     CanTake g.receiver.set (means_in g.hub) g.receiver.next_n event → CanTell g.receiver g.hub event tick
-can-tell g t tick turns moments view event s by can =
+can-tell sizes g t tick turns moments view event s by can =
     let set = s.receives.set in
     let path : g.receiver.set.path.0 ≡ 0 = ap (λ (r : RxSet). r.path.0) set ∙ g.machines.are.path in
     let group : g.receiver.set.group.0 ≡ 0 = ap (λ (r : RxSet). r.group.0) set ∙ g.machines.are.group in
@@ -34,7 +34,7 @@ can-tell g t tick turns moments view event s by can =
     record {
       acts = record { writes = ap (λ n. nat_lt n 64) path; most = omega (arith, readers); group = omega (arith, group, one) };
       knows = subst P (sym s.pool.view_is) s.receives.knows;
-      waits = waits-later g.receiver.state t tick by s.receives.waits;
+      waits = waits-later g.receiver t tick by s.receives.waits;
       can = can;
     }
 
@@ -43,20 +43,20 @@ lawful-most false len fits = grind (arith, nat_tests)
 lawful-most true len fits = grind (arith, nat_tests)
 
 -- a frame of the source channel
-pub can-receive : (g : Gateway) (seen : List Seen) (answers : List Answer) (a tick : ℕ) (frame : CanFrame) → IsLawful frame → length seen < 1000000 → g.machines.rx.a ≡ a → InSource g seen answers tick →
+pub can-receive : (sizes : List ℕ) (g : Gateway) (seen : List Seen) (answers : List Answer) (a tick : ℕ) (frame : CanFrame) → IsLawful frame → length seen < 1000000 → g.machines.rx.a ≡ a → InSource sizes g seen answers tick →
     CanTell g.receiver g.hub (Came (length frame.bytes) (unit_of a frame)) tick
-can-receive g seen answers a tick frame lawful few same at =
+can-receive sizes g seen answers a tick frame lawful few same at =
     let s = at.stands in
     let count = ap length at.seen_is in
     let address : g.receiver.set.a ≡ a = ap (λ (r : RxSet). r.a) s.receives.set ∙ same in
-    can-tell g tick tick _ _ _ (Came (length frame.bytes) (unit_of a frame)) s (omega arith) (
+    can-tell sizes g tick tick _ _ _ (Came (length frame.bytes) (unit_of a frame)) s (omega arith) (
       record { takes = omega (arith, count, s.pool.takes); spare = omega arith; number = omega (arith, count, s.receives.number) },
       record { frame = frame; size_is = refl; most = lawful-most frame.fd (length frame.bytes) lawful.len; reads = ap (λ n. unit_of n frame) address },
     )
 
-pub can-tell-sender : (g : Gateway) (t tick : ℕ) (turns : List RxTurn) (moments : List TxTurn) (view : View) (event : TxEvent) → Stands g t turns moments view → t ≤ tick → tick ≤ 10000000 →
+pub can-tell-sender : (sizes : List ℕ) (g : Gateway) (t tick : ℕ) (turns : List RxTurn) (moments : List TxTurn) (view : View) (event : TxEvent) → Stands sizes g t turns moments view → t ≤ tick → tick ≤ 10000000 →
     (event ≡ Left → HasFrame (state_of g.sender).live) → CanTellSender g.sender g.hub event tick
-can-tell-sender g t tick turns moments view event s by low left =
+can-tell-sender sizes g t tick turns moments view event s by low left =
     let set = s.sends.set in
     let path : g.sender.set.path.0 ≡ 0 = ap (λ (r : TxSet). r.path.0) set ∙ ap (λ (p : PathNo). p.0) g.machines.are.same_path ∙ g.machines.are.path in
     let group : g.sender.set.group.0 ≡ 0 = ap (λ (r : TxSet). r.group.0) set ∙ ap (λ (k : GroupNo). k.0) g.machines.are.same_group ∙ g.machines.are.group in

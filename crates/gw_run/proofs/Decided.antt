@@ -6,22 +6,20 @@ use Rattle.gw_depot.specs.Files.{Files}
 use Rattle.gw_depot.specs.Outside.{DepotState}
 use Rattle.gw_run.specs.declared.config.ConfigStop.{ConfigStop}
 use Rattle.gw_run.specs.declared.config.ConfigStop.TheVariants.{Fault as ReadFails, Memory as NoMemory, TooLong, Refused}
-use Rattle.candump_log.specs.declared.log.LineRefusal.{LineRefusal}
-use Rattle.candump_log.specs.declared.log.LineRefusal.TheVariants.{Unsupported as LineNotBuilt, Bad}
 use Rattle.candump_log.specs.declared.log.LineStop.TheVariants.{Refused as RefusedLine, Limit as LineLimit, Memory as LineMemory}
 use Rattle.candump_log.specs.declared.log.LogStop.{LogStop}
 use Rattle.candump_log.specs.declared.log.LogStop.TheVariants.{Fault, Line as AtLine}
 use Rattle.candump_log.specs.declared.log.Stamped.{Stamped}
 use Rattle.gw_run.specs.declared.status.FileRole.{FileRole}
 use Rattle.gw_run.specs.declared.status.FileRole.TheVariants.{Config, Log, Out, Report, Say}
-use Rattle.gw_run.specs.declared.status.Form.TheVariants.{Configuration as WholeConfiguration, Line}
+use Rattle.gw_run.specs.declared.status.Form.TheVariants.{Configuration as WholeConfiguration}
 use Rattle.gw_run.specs.declared.status.Status.{Status}
 use Rattle.gw_run.specs.declared.status.Status.TheVariants.{Ok, Accepted, Usage, ConfigRefused, LogRefused, Unbuilt, ReadFault, WriteFault, Memory, Limit}
 use Rattle.gw_run.specs.declared.setup.TheConstants.{DESTINATION}
-use Rattle.gw_run.specs.Causes.{IsCause, IsFault, IsNamed, IsSetup, LeavesFiles, StopsLog, line_status, log_status}
+use Rattle.gw_run.specs.Causes.{IsCause, IsFault, IsNamed, IsSetup, LeavesFiles, log_status}
 use Rattle.gw_run.specs.Config.{FaultsOnConfig, ReadsConfig, StopsConfig, stop_status}
 use Rattle.gw_run.specs.Decided.{IsDecided, IsNameIn}
-use Rattle.gw_run.specs.Forwarded.{Forwards, HoldsLog, IfDone, IsConfigured}
+use Rattle.gw_run.specs.Forwarded.{Forwards, IfDone, IsConfigured}
 use Rattle.candump_log.specs.Log.{LogStops, ReadsLog}
 use Rattle.gw_run.specs.Log.{source_of}
 use Rattle.gw_run.specs.Results.{ReadFailed, WriteFailed}
@@ -29,22 +27,22 @@ use Rattle.gw_run.specs.Setup.{IsBuiltConfig, Setup}
 
 -- ---- the destination's log
 
-line-cause : (before : Files) (config report : List ℕ) (setup : Setup) (lines : ℕ) (source : List Stamped) (number : ℕ) (refusal : LineRefusal) → IsConfigured before config report setup →
-    HoldsLog before setup.source 1_000_000 lines source → StopsLog before setup.destination (1_000_000 - lines) number refusal → IsCause before config report (line_status DESTINATION number refusal)
-line-cause before config report setup lines source number LineNotBuilt configured holds stops = (setup, configured, record { lines = lines; source = source; source_log = holds; stops = stops })
-line-cause before config report setup lines source number (Bad fault) configured holds stops = (setup, configured, record { lines = lines; source = source; source_log = holds; stops = stops })
-
 pub second-cause : (told : Bool) (before : Files) (config report : List ℕ) (setup : Setup) (lines : ℕ) (source : List Stamped) (stop : LogStop) (result : Status) → result ≡ log_status DESTINATION stop →
     told ≡ true → IsConfigured before config report setup → ReadsLog told before (source_of setup.source) lines source → lines ≤ 1_000_000 → LogStops told before (source_of setup.destination) (1_000_000 - lines) stop →
     IsCause before config report result
 second-cause told before config report setup lines source Fault result same is configured reads few stops = subst (λ r. IsCause before config report r) (sym same) tt
 second-cause told before config report setup lines source (AtLine LineMemory) result same is configured reads few stops = subst (λ r. IsCause before config report r) (sym same) tt
-second-cause told before config report setup lines source (AtLine (RefusedLine number refusal)) result same is configured reads few stops =
+second-cause told before config report setup lines source (AtLine (RefusedLine number fault)) result same is configured reads few stops =
     let stopped = stops is in
     subst (λ r. IsCause before config report r) (sym same) (
-    line-cause before config report setup lines source number refusal configured
-    (record { content = reads.content; there = reads.there is; built = reads.is_log; few = few })
-    (record { content = stopped.content; there = stopped.there; stops = stopped.stops })
+      setup,
+      configured,
+      record {
+        lines = lines;
+        source = source;
+        source_log = record { content = reads.content; there = reads.there is; is_log = reads.is_log; few = few };
+        stops = record { content = stopped.content; there = stopped.there; stops = stopped.stops };
+      },
     )
 second-cause told before config report setup lines source (AtLine LineLimit) result same is configured reads few stops =
     let stopped = stops is in
@@ -56,7 +54,7 @@ second-cause told before config report setup lines source (AtLine LineLimit) res
         inr (record {
           lines = lines;
           source = source;
-          source_log = record { content = reads.content; there = reads.there is; built = reads.is_log; few = few };
+          source_log = record { content = reads.content; there = reads.there is; is_log = reads.is_log; few = few };
           passes = record { content = stopped.content; there = stopped.there; goes_past = stopped.stops };
         }),
       ),
@@ -129,8 +127,7 @@ named-in told before config report setup Accepted name is named = tt
 named-in told before config report setup Usage name is named = tt
 named-in told before config report setup (ConfigRefused cause) name is named = tt
 named-in told before config report setup (LogRefused bus line fault) name is named = (setup, is, named)
-named-in told before config report setup (Unbuilt WholeConfiguration) name is named = tt
-named-in told before config report setup (Unbuilt (Line bus number)) name is named = (setup, is, named)
+named-in told before config report setup (Unbuilt form) name is named = tt
 named-in told before config report setup (ReadFault role) name is named = tt
 named-in told before config report setup (WriteFault role) name is named = tt
 named-in told before config report setup Memory name is named = tt

@@ -30,7 +30,6 @@ use Rattle.gw_run.specs.Standing.{groups_in, AtBarrier, Finishes, IsQuiet, RxSta
 use Rattle.gw_run.specs.Telling.{EndsTelling, IsOver, Tells, TellsReceiver, TellsSender}
 use Rattle.gw_run.specs.declared.gateway.Gateway.{Gateway}
 use Rattle.gw_run.specs.declared.machines.Machines.{Machines}
-use Rattle.gw_run.specs.declared.machines.TheConstants.{BUFFER_CELLS}
 use Rattle.gw_run.proofs.Barriers.{frames-same}
 use Rattle.gw_run.proofs.Beginning.{idle-or, stands-later}
 use Rattle.gw_run.proofs.RxTurns.{turn-stands}
@@ -46,11 +45,11 @@ abbrev pub remaining : Gateway → ℕ
 remaining g = 2 * (length ((view_in g.hub).sessions g.sender.set.path.0) - g.sender.next) + sent_now (state_of g.sender).live
 
 -- the sender is told once more
-pub ends-more : (g h : Gateway) (last : ℕ) (turns : List RxTurn) (moments : List TxTurn) (view : View) → EndsTelling g last turns moments view → TellsSender g h RunEnd last (lying g.frame) g.frames → EndsTelling h last turns moments view
-ends-more g h last turns moments view ends told =
+pub ends-more : (sizes : List ℕ) (g h : Gateway) (last : ℕ) (turns : List RxTurn) (moments : List TxTurn) (view : View) → EndsTelling sizes g last turns moments view → TellsSender g h RunEnd last (lying g.frame) g.frames → EndsTelling sizes h last turns moments view
+ends-more sizes g h last turns moments view ends told =
     let turn = told.turn in
-    let stands = moment-stands g h last last turns (ends.more ++ moments) (grows (calls_by ends.more) view) RunEnd ends.stands (omega arith) tt (frames-same g h RunEnd last (lying g.frame) told) in
-    let V : View → Type 0 = λ v. Stands h last turns (turn ∷ (ends.more ++ moments)) v in
+    let stands = moment-stands sizes g h last last turns (ends.more ++ moments) (grows (calls_by ends.more) view) RunEnd ends.stands (omega arith) tt (frames-same g h RunEnd last (lying g.frame) told) in
+    let V : View → Type 0 = λ v. Stands sizes h last turns (turn ∷ (ends.more ++ moments)) v in
     record {
       more = turn ∷ ends.more;
       only = ((told.stepped.event_is, told.stepped.tick_is), ends.only);
@@ -116,18 +115,18 @@ same-told : (count free : ℕ) (seen : List Seen) (answers : List Answer) (contr
 same-told count free seen answers controls frames sessions dests moves told seen_told answers_told a b c d e f g h i = rw (a, b, ← c, ← d, ← e, ← f, ← g, ← h, ← i) refl
 
 -- the receiver was told of the run's end
-pub end-stands : (g k : Gateway) (last : ℕ) (seen : List Seen) (answers : List Answer) (next : ℕ) → next ≤ last + 1 → (at : AtBarrier g seen answers next) → (first : TellsReceiver g k RunEnd last (lying g.control) g.controls) →
-    Stands k last (record { event = RunEnd; did = first.did } ∷ turns_of at.works) (moments_of at.works) (grows first.did.calls (view_of at.works))
-end-stands g k last seen answers next in_time at first =
-    turn-stands g k last last (turns_of at.works) (moments_of at.works) (view_of at.works) RunEnd (stands-later g (next - 1) last (turns_of at.works) (moments_of at.works) (view_of at.works) (omega arith) at.stands) (omega arith) (told-same g k RunEnd last (lying g.control) first)
+pub end-stands : (sizes : List ℕ) (g k : Gateway) (last : ℕ) (seen : List Seen) (answers : List Answer) (next : ℕ) → next ≤ last + 1 → (at : AtBarrier sizes g seen answers next) → (first : TellsReceiver g k RunEnd last (lying g.control) g.controls) →
+    Stands sizes k last (record { event = RunEnd; did = first.did } ∷ turns_of at.works) (moments_of at.works) (grows first.did.calls (view_of at.works))
+end-stands sizes g k last seen answers next in_time at first =
+    turn-stands sizes g k last last (turns_of at.works) (moments_of at.works) (view_of at.works) RunEnd (stands-later sizes g (next - 1) last (turns_of at.works) (moments_of at.works) (view_of at.works) (omega arith) at.stands) (omega arith) (told-same g k RunEnd last (lying g.control) first)
 
-pub finishes : (g k h : Gateway) (clock : Clock) (last : ℕ) (seen : List Seen) (answers : List Answer) (next : ℕ) (told : Told) → next ≤ last + 1 → IsQuiet g ⊎ (next ≡ last + 1) → AtBarrier g seen answers next →
-    TellsReceiver g k RunEnd last (lying g.control) g.controls → ((turns : List RxTurn) (moments : List TxTurn) (view : View) → Stands k last turns moments view → EndsTelling h last turns moments view) → IsOver h → h.machines ≡ k.machines → Tells h clock told →
-    Finishes g.machines clock last seen answers told
-finishes g k h clock last seen answers next told in_time quiet at first ends over machines tells =
+pub finishes : (sizes : List ℕ) (g k h : Gateway) (clock : Clock) (last : ℕ) (seen : List Seen) (answers : List Answer) (next : ℕ) (told : Told) → next ≤ last + 1 → IsQuiet g ⊎ (next ≡ last + 1) → AtBarrier sizes g seen answers next →
+    TellsReceiver g k RunEnd last (lying g.control) g.controls → ((turns : List RxTurn) (moments : List TxTurn) (view : View) → Stands sizes k last turns moments view → EndsTelling sizes h last turns moments view) → IsOver h → h.machines ≡ k.machines → Tells h clock told →
+    Finishes sizes g.machines clock last seen answers told
+finishes sizes g k h clock last seen answers next told in_time quiet at first ends over machines tells =
     let works = at.works in
     let turn : RxTurn = record { event = RunEnd; did = first.did } in
-    let stands = end-stands g k last seen answers next in_time at first in
+    let stands = end-stands sizes g k last seen answers next in_time at first in
     let out = ends (turn ∷ turns_of works) (moments_of works) (grows first.did.calls (view_of works)) stands in
     let all = out.stands in
     let end : Work = record { tick = last; turns = turn ∷ []; moments = out.more } in
@@ -136,23 +135,23 @@ finishes g k h clock last seen answers next told in_time quiet at first ends ove
     let T : Machines → Type 0 = λ m. TxStands m.tx last (moments_of (end ∷ works)) (view_of (end ∷ works)) h.sender (lying h.frame) h.frames h.dests in
     let rx : R g.machines = subst R m_is all.receives in
     let tx : T g.machines = subst T m_is all.sends in
-    let J : View → Type 0 = λ v. Joint ((BUFFER_CELLS ∷ []) ∷ []) v × IsWordOf ((BUFFER_CELLS ∷ []) ∷ []) 0 v told.report.pool.changes told.report.pool.free in
+    let J : View → Type 0 = λ v. Joint (sizes ∷ []) v × IsWordOf (sizes ∷ []) 0 v told.report.pool.changes told.report.pool.free in
     let S : List (List ℕ) → Type 0 = λ groups. Joint groups (view_in h.hub) × IsWordOf groups 0 (view_in h.hub) told.report.pool.changes told.report.pool.free in
     let pool : J (view_of (end ∷ works)) = subst J all.pool.view_is (subst S all.pool.groups (tells.joint, tells.word)) in
     let O : View → Type 0 = λ v. AreInOrder v.changes in
     let I : List (List ℕ) → Type 0 = λ groups. Joint groups (view_in h.hub) × AreInOrder (changes_in groups 0 (view_in h.hub)) in
-    let sorted : I ((BUFFER_CELLS ∷ []) ∷ []) = subst I all.pool.groups (tells.joint, tells.in_order) in
+    let sorted : I (sizes ∷ []) = subst I all.pool.groups (tells.joint, tells.in_order) in
     let path : h.sender.set.path.0 ≡ g.machines.rx.path.0 = ap (λ (x : TxSet). x.path.0) tx.set ∙ ap (λ (p : PathNo). p.0) g.machines.are.same_path in
     let count : length ((view_in h.hub).sessions h.sender.set.path.0) ≡ length ((view_of (end ∷ works)).sessions g.machines.rx.path.0) =
     ap (λ (p : ℕ). length ((view_in h.hub).sessions p)) path ∙ ap (λ (v : View). length (v.sessions g.machines.rx.path.0)) all.pool.view_is in
     let number = ap (λ (s : TxState). s.next) tx.state in
-    let reached : IsQuiet g ⊎ (next ≡ last + 1) → IsIdle works ⊎ (next ≡ last + 1) = λ q. idle-or g (next - 1) works next (last + 1) at.stands q in
+    let reached : IsQuiet g ⊎ (next ≡ last + 1) → IsIdle works ⊎ (next ≡ last + 1) = λ q. idle-or sizes g (next - 1) works next (last + 1) at.stands q in
     let N : ℕ → Type 0 = λ n. IsIdle works ⊎ (n ≡ last + 1) in
     record {
       ticks = works;
       end = end;
       run = record {
-        shape = g.machines.are.frames.shape_is;
+        shape = g.machines.are.frames;
         path = g.machines.are.same_path;
         readers = g.machines.are.readers;
         ticks_are = at.ticks;
@@ -161,7 +160,7 @@ finishes g k h clock last seen answers next told in_time quiet at first ends ove
           in_time = omega (arith, at.next_is, in_time);
           reached = subst N (sym at.next_is) (reached quiet);
           receives = (refl, first.stepped.tick_is, refl);
-          between = stands-joint k last _ _ _ stands;
+          between = stands-joint sizes k last _ _ _ stands;
           sends = out.only;
           idle = record { receiver = idle-ended _ _ first.did first.stepped.row; sender = sym (ap (λ (s : TxState). s.live) tx.state) ∙ over.live };
           joined = omega (arith, over.joined, count, number);
@@ -170,7 +169,7 @@ finishes g k h clock last seen answers next told in_time quiet at first ends ove
         sent = tx.happened;
         joint = pool.0;
         word = pool.1;
-        in_order = subst O all.pool.view_is (subst AreInOrder (same (BUFFER_CELLS ∷ []) (view_in h.hub) sorted.0) sorted.1);
+        in_order = subst O all.pool.view_is (subst AreInOrder (same sizes (view_in h.hub) sorted.0) sorted.1);
       };
       tells = same-told _ _ _ _ _ _ _ _ _ told seen answers (append-nil (came_by frames_in (turns_of works)) ∙ at.seen_is) (end-answers last out.more (moments_of works) out.only ∙ at.answers_is)
           (tells.controls ∙ rx.controls_are) (tells.frames ∙ tx.frames_are) (tells.sessions ∙ rx.sessions_are) (tells.dests ∙ tx.dests_are) (tells.moves ∙ all.pool.moves_are) refl refl;

@@ -5,27 +5,26 @@ use Rattle.gw_base.specs.declared.numbers.BusNo.{BusNo}
 use Rattle.gw_depot.specs.Fault.{Blame, Rose}
 use Rattle.gw_depot.specs.Files.{Files}
 use Rattle.gw_depot.specs.Outside.{DepotState, SinkState}
-use Rattle.candump_log.specs.declared.log.LineRefusal.{LineRefusal}
-use Rattle.candump_log.specs.declared.log.LineRefusal.TheVariants.{Unsupported as LineNotBuilt, Bad as BadLine}
+use Rattle.candump_line.specs.declared.fault.LineFault.{LineFault}
 use Rattle.candump_log.specs.declared.log.Stamped.{Stamped}
 use Rattle.gw_run.specs.declared.status.FileRole.{FileRole}
 use Rattle.gw_run.specs.declared.status.FileRole.TheVariants.{Config, Log, Out, Report, Say}
 use Rattle.gw_run.specs.declared.status.Form.{Form}
-use Rattle.gw_run.specs.declared.status.Form.TheVariants.{Configuration as WholeConfiguration, Line}
+use Rattle.gw_run.specs.declared.status.Form.TheVariants.{Configuration as WholeConfiguration}
 use Rattle.gw_config.specs.Config.{Configuration}
 use Rattle.gw_run.specs.declared.status.Status.{Status}
 use Rattle.gw_run.specs.declared.status.Status.TheVariants.{Ok, Accepted, Usage, ConfigRefused, LogRefused, Unbuilt, ReadFault, WriteFault, Memory, Limit}
 use Rattle.gw_run.specs.declared.status.Which.{Which}
 use Rattle.gw_run.specs.declared.status.Which.TheVariants.{ConfigBytes, Lines, Ticks}
 use Rattle.gw_run.specs.Answered.{IsCutShort, IsExact, IsComplete, IsFaultOf}
-use Rattle.gw_run.specs.Causes.{IsCause, IsRefusedLine, LeavesFiles, PassesLog, StopsLog, TooManyTicks, line_status}
+use Rattle.gw_run.specs.Causes.{IsCause, IsRefusedLine, LeavesFiles, PassesLog, StopsLog, TooManyTicks}
 use Rattle.gw_run.specs.Results.{ReadFailed, WriteFailed}
 use Rattle.gw_run.specs.Setup.{Bus, IsBuiltConfig, Setup}
 use Rattle.gw_run.specs.Start.{stamps_of}
 use Rattle.gw_run.specs.Forwarded.{Forwards, HoldsLog, IfDone, IsBuilt, IsConfigured, HasLawfulTicks, last_of}
 use Rattle.candump_log.specs.Log.{GoesPast, StopsAt}
 use Rattle.candump_log.proofs.Cuts.{taken-once, stops-once, stops-or_taken, stops-or_passes, passes-or_taken}
-use Rattle.gw_run.specs.Log.{IsBuiltLog, source_of}
+use Rattle.gw_run.specs.Log.{IsLogOfBus, source_of}
 use Rattle.gw_run.proofs.Refused.{Bad, ConfigEnd, ConfigIs, Good, Long, config-once}
 use Rattle.gw_run.proofs.Setups.{setup-once}
 use Rattle.gw_run.proofs.Starts.{start-once}
@@ -34,31 +33,31 @@ use Rattle.gw_base.proofs.Lists.{same-some}
 -- ---- how a log ends
 
 pub data LogEnd : Type 0 where
-  AtLine : ℕ → LineRefusal → LogEnd
+  AtLine : ℕ → LineFault → LogEnd
   Past : LogEnd
   Whole : ℕ → List Stamped → LogEnd
 
 abbrev Ends : Files → Bus → (most : ℕ) → LogEnd → Type 0
-Ends before bus most (AtLine number refusal) = StopsLog before bus most number refusal
+Ends before bus most (AtLine number fault) = StopsLog before bus most number fault
 Ends before bus most Past = PassesLog before bus most
 Ends before bus most (Whole count frames) = HoldsLog before bus most count frames
 
-stops-holds : (before : Files) (bus : Bus) (most number : ℕ) (refusal : LineRefusal) (count : ℕ) (frames : List Stamped) → StopsLog before bus most number refusal → ¬ HoldsLog before bus most count frames
-stops-holds before bus most number refusal count frames stops holds =
+stops-holds : (before : Files) (bus : Bus) (most number : ℕ) (fault : LineFault) (count : ℕ) (frames : List Stamped) → StopsLog before bus most number fault → ¬ HoldsLog before bus most count frames
+stops-holds before bus most number fault count frames stops holds =
     let same = same-some holds.there stops.there in
-    stops-or_taken (source_of bus) most stops.content number refusal count frames stops.stops (subst (λ c. IsBuiltLog bus c count frames) same holds.built)
+    stops-or_taken (source_of bus) most stops.content number fault count frames stops.stops (subst (λ c. IsLogOfBus bus c count frames) same holds.is_log)
 
-stops-passes : (before : Files) (bus : Bus) (most number : ℕ) (refusal : LineRefusal) → StopsLog before bus most number refusal → ¬ PassesLog before bus most
-stops-passes before bus most number refusal stops past =
+stops-passes : (before : Files) (bus : Bus) (most number : ℕ) (fault : LineFault) → StopsLog before bus most number fault → ¬ PassesLog before bus most
+stops-passes before bus most number fault stops past =
     let same = same-some past.there stops.there in
-    stops-or_passes (source_of bus) most stops.content number refusal stops.stops (subst (λ c. GoesPast (source_of bus) c most) same past.goes_past)
+    stops-or_passes (source_of bus) most stops.content number fault stops.stops (subst (λ c. GoesPast (source_of bus) c most) same past.goes_past)
 
 passes-holds : (before : Files) (bus : Bus) (most count : ℕ) (frames : List Stamped) → PassesLog before bus most → ¬ HoldsLog before bus most count frames
 passes-holds before bus most count frames past holds =
     let same = same-some holds.there past.there in
-    passes-or_taken (source_of bus) most past.content count frames holds.few past.goes_past (subst (λ c. IsBuiltLog bus c count frames) same holds.built)
+    passes-or_taken (source_of bus) most past.content count frames holds.few past.goes_past (subst (λ c. IsLogOfBus bus c count frames) same holds.is_log)
 
-same_stop : (m n : ℕ) (r s : LineRefusal) → (m ≡ n) × (r ≡ s) → AtLine m r ≡ AtLine n s
+same_stop : (m n : ℕ) (r s : LineFault) → (m ≡ n) × (r ≡ s) → AtLine m r ≡ AtLine n s
 same_stop m n r s same = ap (λ k. AtLine k r) same.0 ∙ ap (AtLine n) same.1
 
 same_whole : (m n : ℕ) (frames frames' : List Stamped) → (m ≡ n) × (frames ≡ frames') → Whole m frames ≡ Whole n frames'
@@ -77,7 +76,7 @@ end-once before bus most (Whole count frames) (AtLine n s) one other = absurd (s
 end-once before bus most (Whole count frames) Past one other = absurd (passes-holds before bus most count frames other one)
 end-once before bus most (Whole m frames) (Whole n frames') one other =
     let same = same-some one.there other.there in
-    same_whole m n frames frames' (taken-once (source_of bus) other.content m n frames frames' (subst (λ c. IsBuiltLog bus c m frames) same one.built) other.built)
+    same_whole m n frames frames' (taken-once (source_of bus) other.content m n frames frames' (subst (λ c. IsLogOfBus bus c m frames) same one.is_log) other.is_log)
 
 -- ---- how the ticks end
 
@@ -119,11 +118,11 @@ IsLate Memory = ⊥
 IsLate (Limit which value) = ⊥
 
 -- the line of the bus is refused
-abbrev SaysLine : (bus number : ℕ) → LineRefusal → Status → Type 0
-SaysLine bus number refusal status = (place : BusNo) × (place.0 ≡ bus) × (status ≡ line_status place number refusal)
+abbrev SaysLine : (bus number : ℕ) → LineFault → Status → Type 0
+SaysLine bus number fault status = (place : BusNo) × (place.0 ≡ bus) × (status ≡ LogRefused place number fault)
 
 abbrev LogSays : ℕ → (ℕ → List Stamped → Status → Type 0) → LogEnd → Status → Type 0
-LogSays bus next (AtLine number refusal) status = SaysLine bus number refusal status
+LogSays bus next (AtLine number fault) status = SaysLine bus number fault status
 LogSays bus next Past status = status ≡ Limit Lines 1_000_001
 LogSays bus next (Whole count frames) status = next count frames status
 
@@ -153,15 +152,15 @@ Decides before config report status = (e : ConfigEnd) × ConfigIs before config 
 abbrev IsSame : Status → Status → Type 0
 IsSame s t = (s ≡ t) ⊎ (IsLate s × IsLate t)
 
-line-once : (bus number : ℕ) (refusal : LineRefusal) (s t : Status) → SaysLine bus number refusal s → SaysLine bus number refusal t → IsSame s t
-line-once bus number refusal s t (a, at, one) (b, bt, other) =
+line-once : (bus number : ℕ) (fault : LineFault) (s t : Status) → SaysLine bus number fault s → SaysLine bus number fault t → IsSame s t
+line-once bus number fault s t (a, at, one) (b, bt, other) =
     let place : ℕ → BusNo = λ n. record { 0 = n } in
     let same : a ≡ b = ap place (at ∙ sym bt) in
-    inl (one ∙ ap (λ bus. line_status bus number refusal) same ∙ sym other)
+    inl (one ∙ ap (λ bus. LogRefused bus number fault) same ∙ sym other)
 
 log_says-once : (bus : ℕ) (next : ℕ → List Stamped → Status → Type 0) (e : LogEnd) (s t : Status) →
     ((count : ℕ) (frames : List Stamped) → next count frames s → next count frames t → IsSame s t) → LogSays bus next e s → LogSays bus next e t → IsSame s t
-log_says-once bus next (AtLine number refusal) s t later one other = line-once bus number refusal s t one other
+log_says-once bus next (AtLine number fault) s t later one other = line-once bus number fault s t one other
 log_says-once bus next Past s t later one other = inl (one ∙ sym other)
 log_says-once bus next (Whole count frames) s t later one other = later count frames one other
 
@@ -214,20 +213,19 @@ built-decides : (before : Files) (config report : List ℕ) (setup : Setup) (sou
 built-decides before config report setup source destination start status built late =
     configured-decides before config report setup (Whole built.logs.source_lines source) status built.configured built.logs.source_log (Whole built.logs.destination_lines destination, built.logs.destination_log, (Fits, (start, built.ticks), late))
 
-line-decides : (before : Files) (config report : List ℕ) (setup : Setup) (place : BusNo) (bus number : ℕ) (refusal : LineRefusal) → place.0 ≡ bus → IsConfigured before config report setup →
-    IsRefusedLine before setup bus number refusal → Decides before config report (line_status place number refusal)
-line-decides before config report setup place zero number refusal is set stops =
-    configured-decides before config report setup (AtLine number refusal) (line_status place number refusal) set stops (place, is, refl)
-line-decides before config report setup place (suc zero) number refusal is set stops =
-    configured-decides before config report setup (Whole stops.lines stops.source) (line_status place number refusal) set stops.source_log (AtLine number refusal, stops.stops, (place, is, refl))
-line-decides before config report setup place (suc (suc bus)) number refusal is set none = absurd none
+line-decides : (before : Files) (config report : List ℕ) (setup : Setup) (place : BusNo) (bus number : ℕ) (fault : LineFault) → place.0 ≡ bus → IsConfigured before config report setup →
+    IsRefusedLine before setup bus number fault → Decides before config report (LogRefused place number fault)
+line-decides before config report setup place zero number fault is set stops =
+    configured-decides before config report setup (AtLine number fault) (LogRefused place number fault) set stops (place, is, refl)
+line-decides before config report setup place (suc zero) number fault is set stops =
+    configured-decides before config report setup (Whole stops.lines stops.source) (LogRefused place number fault) set stops.source_log (AtLine number fault, stops.stops, (place, is, refl))
+line-decides before config report setup place (suc (suc bus)) number fault is set none = absurd none
 
 log-decides : (before : Files) (config report : List ℕ) (bus : BusNo) (number : ℕ) (fault : LineFault) → IsCause before config report (LogRefused bus number fault) → Decides before config report (LogRefused bus number fault)
-log-decides before config report bus number fault (setup, set, line) = line-decides before config report setup bus bus.0 number (BadLine fault) refl set line
+log-decides before config report bus number fault (setup, set, line) = line-decides before config report setup bus bus.0 number fault refl set line
 
 unbuilt-decides : (before : Files) (config report : List ℕ) (form : Form) → IsCause before config report (Unbuilt form) → Decides before config report (Unbuilt form)
 unbuilt-decides before config report WholeConfiguration (c, reads, not) = (Good c, reads, NotBuilt not refl)
-unbuilt-decides before config report (Line bus number) (setup, set, line) = line-decides before config report setup bus bus.0 number LineNotBuilt refl set line
 
 limit-decides : (before : Files) (config report : List ℕ) (which : Which) (value : ℕ) → IsCause before config report (Limit which value) → Decides before config report (Limit which value)
 limit-decides before config report ConfigBytes value (is, long) = (Long, long, ap (Limit ConfigBytes) is)

@@ -1,9 +1,5 @@
 -- The frames of a log that are still to come.
 use Rattle.std.proofs.Common.{◌≡◌, ℕ, suc, ◌+◌, ◌<◌, ◌≤◌, max, fold, List, [], ◌∷◌, length, map, refl, ap, arith}
-use Rattle.std.specs.Prelude.{All}
-use Rattle.std.specs.List.{AllByRecursion}
-use Rattle.std.proofs.lemmas.List.Elements.{recursion_from_All}
-use Rattle.can_frame.specs.Frame.{CanFrame}
 use Rattle.tick_clock.specs.Ticks.{tick_at}
 use Rattle.candump_log.specs.declared.log.Stamped.{Stamped}
 use Rattle.gw_run.specs.Feed.{ComeAfter, ComeWithin}
@@ -30,16 +26,6 @@ come_within start period most frames by = within_from start period 0 most frames
 pub length-in_ticks : (start period before : ℕ) (frames : List Stamped) → length (in_ticks_from start period before frames) ≡ length frames
 length-in_ticks start period before [] = refl
 length-in_ticks start period before (s ∷ frames) = ap suc (length-in_ticks start period (max before (tick_at start period s.at.0)) frames)
-
-from_each : (P : CanFrame → Type 0) (start period before : ℕ) (frames : List Stamped) → AllByRecursion (λ (s : Stamped). P s.frame) frames →
-    AllByRecursion (λ (f : InTick). P f.frame) (in_ticks_from start period before frames)
-from_each P start period before [] each = tt
-from_each P start period before (s ∷ frames) each = (each.0, from_each P start period (max before (tick_at start period s.at.0)) frames each.1)
-
--- what is true of each frame of a log is true of each with its tick
-pub each-in_ticks : (P : CanFrame → Type 0) (start period : ℕ) (frames : List Stamped) → All (λ (s : Stamped). P s.frame) frames →
-    AllByRecursion (λ (f : InTick). P f.frame) (in_ticks start period frames)
-each-in_ticks P start period frames each = from_each P start period 0 frames (recursion_from_All (λ (s : Stamped). P s.frame) frames each)
 
 -- where none comes by a tick, all come after it
 pub later-within : (tick least most : ℕ) (frames : List InTick) → ComeAfter tick frames → ComeWithin least most frames → ComeWithin (tick + 1) most frames

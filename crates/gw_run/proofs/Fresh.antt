@@ -1,8 +1,9 @@
 -- A gateway that is new stands at the barrier before tick 0.
-use Rattle.std.proofs.Common.{◌≡◌, ℕ, ◌≤◌, Option, None, [], ◌∷◌, refl, sym, subst, ap, arith}
+use Rattle.std.proofs.Common.{◌≡◌, ℕ, ◌≤◌, Option, None, Some, option_map, List, [], ◌∷◌, refl, sym, subst, ap, arith}
 use Rattle.tp_sender.specs.Port.{Knows as KnowsPort}
 use Rattle.tp_receiver.specs.Port.{KnowsState}
-use Rattle.tp_receiver.specs.State.{WaitsBy, RxState, reception_in, idle, state_of as receiver_state}
+use Rattle.tp_receiver.specs.State.{LiesBy, RxState, WaitsIn, reception_in, rx_new, state_of as receiver_state}
+use Rattle.gw_base.specs.declared.numbers.Tick.{Tick}
 use Rattle.hub_core.specs.Calls.{Means}
 use Rattle.hub_core.specs.Plain.{hub_means}
 use Rattle.hub_core.specs.View.{View, empty_view}
@@ -13,26 +14,29 @@ use Rattle.tp_unit.specs.Unit.{Meaning}
 use Rattle.gw_run.specs.Standing.{groups_in, AtBarrier, FitsIn, Lies, lying, view_in}
 use Rattle.gw_run.specs.Telling.{means_in}
 use Rattle.gw_run.specs.declared.gateway.Gateway.{Gateway}
-use Rattle.gw_run.specs.declared.machines.TheConstants.{BUFFER_CELLS}
 
 idle-knows : (view : View) (path : ℕ) (state : State) → reception_in state ≡ None → KnowsState view path state
 idle-knows view path Idle is = tt
 idle-knows view path (Busy r) is = cc
 
-idle-waits : (state : State) (tick : ℕ) → reception_in state ≡ None → WaitsBy state tick
+idle-waits : (state : State) (tick : ℕ) → reception_in state ≡ None → WaitsIn state tick
 idle-waits Idle tick is = tt
 idle-waits (Busy r) tick is = cc
 
-pub begins : (g : Gateway) → view_in g.hub ≡ empty_view → means_in g.hub ≡ hub_means ((BUFFER_CELLS ∷ []) ∷ []) 1000000 → g.receiver.set ≡ g.machines.rx → receiver_state g.receiver ≡ idle 0 0 →
+none-lies : (refusing : Option Tick) (tick : ℕ) → option_map (λ (since : Tick). since.0) refusing ≡ None → LiesBy refusing tick
+none-lies None tick is = tt
+none-lies (Some since) tick is = cc
+
+pub begins : (sizes : List ℕ) (g : Gateway) → view_in g.hub ≡ empty_view → means_in g.hub ≡ hub_means (sizes ∷ []) 1000000 → g.receiver.set ≡ g.machines.rx → receiver_state g.receiver ≡ rx_new →
     set_of g.sender ≡ g.machines.tx → sender_state g.sender ≡ tx_new → KnowsPort empty_view g.sender → lying g.control ≡ None → lying g.frame ≡ None →
-    g.controls ≡ [] → g.frames ≡ [] → g.sessions ≡ [] → g.dests ≡ [] → g.moves ≡ [] → AtBarrier g [] [] 0
-begins g view means rx rx_state tx tx_state knows control frame controls frames sessions dests moves =
+    g.controls ≡ [] → g.frames ≡ [] → g.sessions ≡ [] → g.dests ≡ [] → g.moves ≡ [] → AtBarrier sizes g [] [] 0
+begins sizes g view means rx rx_state tx tx_state knows control frame controls frames sessions dests moves =
     let busy : reception_in g.receiver.state ≡ None = ap (λ (s : RxState). s.busy) rx_state in
     let next : g.receiver.next_n ≡ 0 = ap (λ (s : RxState). s.next) rx_state in
     let seq : g.receiver.next_seq ≡ 0 = ap (λ (s : RxState). s.seq) rx_state in
     let live : (sender_state g.sender).live ≡ None = ap (λ (s : TxState). s.live) tx_state in
     let takes : g.hub.takes ≡ 1000000 = ap (λ (m : Means). m.takes) means in
-    let groups : groups_in g.hub ≡ (BUFFER_CELLS ∷ []) ∷ [] = ap (λ (m : Means). m.groups) means in
+    let groups : groups_in g.hub ≡ sizes ∷ [] = ap (λ (m : Means). m.groups) means in
     let L : Option Transmission → Type 0 = λ l. HasFrame l → Lies (lying g.frame) in
     let N : Option Meaning → Type 0 = λ l. Lies l → HasFrame (sender_state g.sender).live in
     let S : Option Transmission → Type 0 = λ l. since_of l ≤ 0 in
@@ -48,7 +52,7 @@ begins g view means rx rx_state tx tx_state knows control frame controls frames 
           knows = record { number = sym seq; session = idle-knows empty_view g.receiver.set.path.0 g.receiver.state busy };
           number = omega (arith, next);
           now = omega arith;
-          waits = idle-waits g.receiver.state 0 busy;
+          waits = record { reception = idle-waits g.receiver.state 0 busy; refusing = none-lies g.receiver.refusing 0 (ap (λ (s : RxState). s.refusing) rx_state) };
           lies_is = control;
           fits = subst (FitsIn g.machines.shape) (sym control) tt;
           controls_are = controls;

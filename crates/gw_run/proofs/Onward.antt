@@ -9,7 +9,6 @@ use Rattle.tp_attempts.specs.Seen.{Seen}
 use Rattle.gw_run.specs.declared.gateway.Gateway.{Gateway}
 use Rattle.candump_log.specs.declared.log.Stamped.{Stamped}
 use Rattle.gw_run.specs.declared.machines.Machines.{Machines}
-use Rattle.gw_run.specs.Answers.{IsPlainAnswer, IsPlainControl}
 use Rattle.gw_run.specs.Feed.{ComeAfter, ComeWithin, TakesFirst}
 use Rattle.gw_law.specs.Channels.{InTick, answer_in, answers_in, bytes_of_address, frames_for, is_addressed, seen_in}
 use Rattle.gw_law.specs.Plan.{Address}
@@ -18,19 +17,19 @@ use Rattle.gw_run.specs.Played.{Plays, Told}
 use Rattle.gw_run.specs.Playing.{DestinationSoFar, IsNext, MayWorkOnDestination, MayWorkOnSource, SoFar, SourceSoFar, WorksOnDestination, WorksOnSource}
 use Rattle.gw_run.specs.Standing.{AtBarrier, Finishes, InDestination, InSource, IsQuiet}
 use Rattle.gw_run.proofs.Beginning.{begins-tick}
-use Rattle.gw_run.proofs.Feeds.{come_within, each-in_ticks, later-within, length-in_ticks, none-within}
+use Rattle.gw_run.proofs.Feeds.{come_within, later-within, length-in_ticks, none-within}
 
 -- a tick's work on the source's bus, from one frame to another
-abbrev pub Receives : (address : Address) (tick : ℕ) → (old : Gateway) → (before : List InTick) → (new : Gateway) → (after : List InTick) → Type 0
-Receives address tick old before new after =
-    (seen all : List Seen) (answers : List Answer) (last : ℕ) → SourceSoFar address all tick last seen before → InSource old seen answers tick →
-    (now : List Seen) × SourceSoFar address all tick last now after × InSource new now answers tick
+abbrev pub Receives : (sizes : List ℕ) (address : Address) (tick : ℕ) → (old : Gateway) → (before : List InTick) → (new : Gateway) → (after : List InTick) → Type 0
+Receives sizes address tick old before new after =
+    (seen all : List Seen) (answers : List Answer) (last : ℕ) → SourceSoFar address all tick last seen before → InSource sizes old seen answers tick →
+    (now : List Seen) × SourceSoFar address all tick last now after × InSource sizes new now answers tick
 
 -- a tick's work on the destination's bus, from one frame to another
-abbrev pub Answers : (address : Address) (tick : ℕ) → (old : Gateway) → (before : List InTick) → (new : Gateway) → (after : List InTick) → Type 0
-Answers address tick old before new after =
-    (seen : List Seen) (answers all : List Answer) (last : ℕ) → DestinationSoFar address all tick last answers before → InDestination old seen answers tick →
-    (now : List Answer) × DestinationSoFar address all tick last now after × InDestination new seen now tick
+abbrev pub Answers : (sizes : List ℕ) (address : Address) (tick : ℕ) → (old : Gateway) → (before : List InTick) → (new : Gateway) → (after : List InTick) → Type 0
+Answers sizes address tick old before new after =
+    (seen : List Seen) (answers all : List Answer) (last : ℕ) → DestinationSoFar address all tick last answers before → InDestination sizes old seen answers tick →
+    (now : List Answer) × DestinationSoFar address all tick last now after × InDestination sizes new seen now tick
 
 -- a frame that came by a tick, where none comes before it, is of that tick
 takes-now : (tick last : ℕ) (frame : CanFrame) (old new : List InTick) → TakesFirst tick old new frame → ComeWithin tick last old → old ≡ record { tick = tick; frame = frame } ∷ new
@@ -80,7 +79,6 @@ destination-takes address all answers tick last frame coming same far =
           append_assoc answers (answer_in tick (unit_for address frame)) (answers_for address coming)
           ∙ ap (λ (frames : List InTick). answers ++ answers_in (bytes_of_address address.byte) frames) (sym (keeps (is_addressed address frame) f (frames_for address coming) same)) ∙ far.all_is;
       within = far.within.2;
-      plain = far.plain.1;
     }
 
 -- a frame that isn't of the destination's channel came
@@ -91,103 +89,92 @@ destination-leaves address all answers tick last frame coming other far =
     record {
       all_is = ap (λ (frames : List InTick). answers ++ answers_in (bytes_of_address address.byte) frames) (sym (leaves (is_addressed address frame) f (frames_for address coming) other)) ∙ far.all_is;
       within = far.within.2;
-      plain = far.plain.1;
     }
 
 -- the source's work goes on with a frame of its channel
-pub receives-one : (address : Address) (tick : ℕ) (g0 g g1 : Gateway) (before coming later : List InTick) (frame : CanFrame) → TakesFirst tick coming later frame → is_addressed address frame ≡ true →
-    Receives address tick g0 before g coming →
-    ((seen : List Seen) (answers : List Answer) → InSource g seen answers tick → InSource g1 (seen ++ seen_by address tick frame ∷ []) answers tick) →
-    Receives address tick g0 before g1 later
-receives-one address tick g0 g g1 before coming later frame takes same so_far step seen all answers last far at =
+pub receives-one : (sizes : List ℕ) (address : Address) (tick : ℕ) (g0 g g1 : Gateway) (before coming later : List InTick) (frame : CanFrame) → TakesFirst tick coming later frame → is_addressed address frame ≡ true →
+    Receives sizes address tick g0 before g coming →
+    ((seen : List Seen) (answers : List Answer) → InSource sizes g seen answers tick → InSource sizes g1 (seen ++ seen_by address tick frame ∷ []) answers tick) →
+    Receives sizes address tick g0 before g1 later
+receives-one sizes address tick g0 g g1 before coming later frame takes same so_far step seen all answers last far at =
     let here = so_far seen all answers last far at in
     let first = takes-now tick last frame coming later takes here.1.within in
     (here.0 ++ seen_by address tick frame ∷ [], source-takes address all here.0 tick last frame later same (subst (SourceSoFar address all tick last here.0) first here.1), step here.0 answers here.2)
 
 -- and with one that isn't
-pub receives-other : (address : Address) (tick : ℕ) (g0 g : Gateway) (before coming later : List InTick) (frame : CanFrame) → TakesFirst tick coming later frame → is_addressed address frame ≡ false →
-    Receives address tick g0 before g coming → Receives address tick g0 before g later
-receives-other address tick g0 g before coming later frame takes other so_far seen all answers last far at =
+pub receives-other : (sizes : List ℕ) (address : Address) (tick : ℕ) (g0 g : Gateway) (before coming later : List InTick) (frame : CanFrame) → TakesFirst tick coming later frame → is_addressed address frame ≡ false →
+    Receives sizes address tick g0 before g coming → Receives sizes address tick g0 before g later
+receives-other sizes address tick g0 g before coming later frame takes other so_far seen all answers last far at =
     let here = so_far seen all answers last far at in
     let first = takes-now tick last frame coming later takes here.1.within in
     (here.0, source-leaves address all here.0 tick last frame later other (subst (SourceSoFar address all tick last here.0) first here.1), here.2)
 
 -- the gateway may be given the source's next frame
-pub may_receive : (address : Address) (tick : ℕ) (g0 g : Gateway) (before coming later : List InTick) (frame : CanFrame) → TakesFirst tick coming later frame → Receives address tick g0 before g coming →
-    MayWorkOnSource address tick g0 before →
-    (seen : List Seen) × (answers : List Answer) × (length seen < 1000000) × InSource g seen answers tick
-may_receive address tick g0 g before coming later frame takes so_far start =
+pub may_receive : (sizes : List ℕ) (address : Address) (tick : ℕ) (g0 g : Gateway) (before coming later : List InTick) (frame : CanFrame) → TakesFirst tick coming later frame → Receives sizes address tick g0 before g coming →
+    MayWorkOnSource sizes address tick g0 before →
+    (seen : List Seen) × (answers : List Answer) × (length seen < 1000000) × (sizes : List ℕ) × InSource sizes g seen answers tick
+may_receive sizes address tick g0 g before coming later frame takes so_far start =
     let here = so_far start.0 start.1 start.2 start.3 start.4 start.5 in
     let some : length coming ≡ length later + 1 = ap length takes.first ∙ omega arith in
-    (here.0, start.2, omega (arith, here.1.few, some), here.2)
+    (here.0, start.2, omega (arith, here.1.few, some), sizes, here.2)
 
 -- the source's work of the tick is done
-pub receives-all : (address : Address) (tick : ℕ) (g0 g g1 : Gateway) (before coming : List InTick) → ComeAfter tick coming → Receives address tick g0 before g coming →
-    ((seen : List Seen) (answers : List Answer) → InSource g seen answers tick → InDestination g1 seen answers tick) →
-    WorksOnSource address tick g0 before g1 coming
-receives-all address tick g0 g g1 before coming after so_far step seen all answers last far at =
+pub receives-all : (sizes : List ℕ) (address : Address) (tick : ℕ) (g0 g g1 : Gateway) (before coming : List InTick) → ComeAfter tick coming → Receives sizes address tick g0 before g coming →
+    ((seen : List Seen) (answers : List Answer) → InSource sizes g seen answers tick → InDestination sizes g1 seen answers tick) →
+    WorksOnSource sizes address tick g0 before g1 coming
+receives-all sizes address tick g0 g g1 before coming after so_far step seen all answers last far at =
     let here = so_far seen all answers last far at in
     (here.0, record { all_is = here.1.all_is; few = here.1.few; within = later-within tick tick last coming after here.1.within }, step here.0 answers here.2)
 
 -- the destination's work goes on with a frame of its channel
-pub answers-one : (address : Address) (tick : ℕ) (g0 g g1 : Gateway) (before coming later : List InTick) (frame : CanFrame) → TakesFirst tick coming later frame → is_addressed address frame ≡ true →
-    Answers address tick g0 before g coming →
-    ((seen : List Seen) (answers : List Answer) → InDestination g seen answers tick → InDestination g1 seen (answers ++ answer_in tick (unit_for address frame)) tick) →
-    Answers address tick g0 before g1 later
-answers-one address tick g0 g g1 before coming later frame takes same so_far step seen answers all last far at =
+pub answers-one : (sizes : List ℕ) (address : Address) (tick : ℕ) (g0 g g1 : Gateway) (before coming later : List InTick) (frame : CanFrame) → TakesFirst tick coming later frame → is_addressed address frame ≡ true →
+    Answers sizes address tick g0 before g coming →
+    ((seen : List Seen) (answers : List Answer) → InDestination sizes g seen answers tick → InDestination sizes g1 seen (answers ++ answer_in tick (unit_for address frame)) tick) →
+    Answers sizes address tick g0 before g1 later
+answers-one sizes address tick g0 g g1 before coming later frame takes same so_far step seen answers all last far at =
     let here = so_far seen answers all last far at in
     let first = takes-now tick last frame coming later takes here.1.within in
     (here.0 ++ answer_in tick (unit_for address frame), destination-takes address all here.0 tick last frame later same (subst (DestinationSoFar address all tick last here.0) first here.1), step seen here.0 here.2)
 
 -- and with one that isn't
-pub answers-other : (address : Address) (tick : ℕ) (g0 g : Gateway) (before coming later : List InTick) (frame : CanFrame) → TakesFirst tick coming later frame → is_addressed address frame ≡ false →
-    Answers address tick g0 before g coming → Answers address tick g0 before g later
-answers-other address tick g0 g before coming later frame takes other so_far seen answers all last far at =
+pub answers-other : (sizes : List ℕ) (address : Address) (tick : ℕ) (g0 g : Gateway) (before coming later : List InTick) (frame : CanFrame) → TakesFirst tick coming later frame → is_addressed address frame ≡ false →
+    Answers sizes address tick g0 before g coming → Answers sizes address tick g0 before g later
+answers-other sizes address tick g0 g before coming later frame takes other so_far seen answers all last far at =
     let here = so_far seen answers all last far at in
     let first = takes-now tick last frame coming later takes here.1.within in
     (here.0, destination-leaves address all here.0 tick last frame later other (subst (DestinationSoFar address all tick last here.0) first here.1), here.2)
 
--- the gateway may be given the destination's next frame
-pub may_answer : (address : Address) (tick : ℕ) (g0 g : Gateway) (before coming later : List InTick) (frame : CanFrame) → TakesFirst tick coming later frame → is_addressed address frame ≡ true → Answers address tick g0 before g coming →
-    MayWorkOnDestination address tick g0 before →
-    IsPlainControl (unit_for address frame)
-may_answer address tick g0 g before coming later frame takes same so_far start =
-    let here = so_far start.0 start.1 start.2 start.3 start.4 start.5 in
-    let first = takes-now tick start.3 frame coming later takes here.1.within in
-    let far : DestinationSoFar address start.2 tick start.3 here.0 (record { tick = tick; frame = frame } ∷ later) = subst (DestinationSoFar address start.2 tick start.3 here.0) first here.1 in
-    far.plain.0 same
-
 -- where the gateway stands at the destination's work
-pub at_destination : (address : Address) (tick : ℕ) (g0 g : Gateway) (before coming : List InTick) → Answers address tick g0 before g coming →
-    MayWorkOnDestination address tick g0 before →
-    (seen : List Seen) × (answers : List Answer) × InDestination g seen answers tick
-at_destination address tick g0 g before coming so_far start =
+pub at_destination : (sizes : List ℕ) (address : Address) (tick : ℕ) (g0 g : Gateway) (before coming : List InTick) → Answers sizes address tick g0 before g coming →
+    MayWorkOnDestination sizes address tick g0 before →
+    (seen : List Seen) × (answers : List Answer) × (sizes : List ℕ) × InDestination sizes g seen answers tick
+at_destination sizes address tick g0 g before coming so_far start =
     let here = so_far start.0 start.1 start.2 start.3 start.4 start.5 in
-    (start.0, here.0, here.2)
+    (start.0, here.0, sizes, here.2)
 
 -- where the gateway stands at the source's work
-pub at_source : (address : Address) (tick : ℕ) (g0 g : Gateway) (before coming : List InTick) → Receives address tick g0 before g coming →
-    MayWorkOnSource address tick g0 before →
-    (seen : List Seen) × (answers : List Answer) × InSource g seen answers tick
-at_source address tick g0 g before coming so_far start =
+pub at_source : (sizes : List ℕ) (address : Address) (tick : ℕ) (g0 g : Gateway) (before coming : List InTick) → Receives sizes address tick g0 before g coming →
+    MayWorkOnSource sizes address tick g0 before →
+    (seen : List Seen) × (answers : List Answer) × (sizes : List ℕ) × InSource sizes g seen answers tick
+at_source sizes address tick g0 g before coming so_far start =
     let here = so_far start.0 start.1 start.2 start.3 start.4 start.5 in
-    (here.0, start.2, here.2)
+    (here.0, start.2, sizes, here.2)
 
 -- the destination's work of the tick is done
-pub answers-all : (address : Address) (tick : ℕ) (g0 g g1 : Gateway) (before coming : List InTick) → ComeAfter tick coming → Answers address tick g0 before g coming →
-    ((seen : List Seen) (answers : List Answer) → InDestination g seen answers tick → AtBarrier g1 seen answers (tick + 1)) →
-    WorksOnDestination address tick g0 before g1 coming
-answers-all address tick g0 g g1 before coming after so_far step seen answers all last far at =
+pub answers-all : (sizes : List ℕ) (address : Address) (tick : ℕ) (g0 g g1 : Gateway) (before coming : List InTick) → ComeAfter tick coming → Answers sizes address tick g0 before g coming →
+    ((seen : List Seen) (answers : List Answer) → InDestination sizes g seen answers tick → AtBarrier sizes g1 seen answers (tick + 1)) →
+    WorksOnDestination sizes address tick g0 before g1 coming
+answers-all sizes address tick g0 g g1 before coming after so_far step seen answers all last far at =
     let here = so_far seen answers all last far at in
-    (here.0, record { all_is = here.1.all_is; within = later-within tick tick last coming after here.1.within; plain = here.1.plain }, step seen here.0 here.2)
+    (here.0, record { all_is = here.1.all_is; within = later-within tick tick last coming after here.1.within }, step seen here.0 here.2)
 
 -- before the first tick all frames are still to come
 pub starts : (g : Gateway) (m : Machines) (start period last : ℕ) (source destination : List Stamped) →
     length source + length destination ≤ 1000000 → greatest_tick start period source ≤ last → greatest_tick start period destination ≤ last →
-    All (λ (s : Stamped). IsPlainAnswer (address_of m.destination) s.frame) destination → g.machines ≡ m → AtBarrier g [] [] 0 →
+    g.machines ≡ m → AtBarrier (m.cells ∷ []) g [] [] 0 →
     SoFar g m (seen_for (address_of m.source) (in_ticks start period source)) (answers_for (address_of m.destination) (in_ticks start period destination)) 0 last
     (in_ticks start period source) (in_ticks start period destination)
-starts g m start period last source destination few by by' plain machines at = record {
+starts g m start period last source destination few by by' machines at = record {
   seen = [];
   answers = [];
   next = 0;
@@ -203,32 +190,31 @@ starts g m start period last source destination few by by' plain machines at = r
   on_destination = record {
     all_is = refl;
     within = come_within start period last destination by';
-    plain = each-in_ticks (IsPlainAnswer (address_of m.destination)) start period destination plain;
   };
 }
 
 -- what a tick's work needs on the source's bus
 pub works_on_source : (g : Gateway) (m : Machines) (all : List Seen) (all_answers : List Answer) (tick last : ℕ) (source destination : List InTick) →
     SoFar g m all all_answers tick last source destination →
-    MayWorkOnSource (address_of m.source) tick g source
+    MayWorkOnSource (m.cells ∷ []) (address_of m.source) tick g source
 works_on_source g m all all_answers tick last source destination far =
-    (far.seen, all, far.answers, last, far.on_source, begins-tick g far.seen far.answers far.next tick far.begun far.quiet far.at)
+    (far.seen, all, far.answers, last, far.on_source, begins-tick (m.cells ∷ []) g far.seen far.answers far.next tick far.begun far.quiet far.at)
 
 -- what it needs on the destination's bus
 pub works_on_destination : (g g1 : Gateway) (m : Machines) (all : List Seen) (all_answers : List Answer) (tick last : ℕ) (source destination later : List InTick) →
-    SoFar g m all all_answers tick last source destination → WorksOnSource (address_of m.source) tick g source g1 later →
-    MayWorkOnDestination (address_of m.destination) tick g1 destination
+    SoFar g m all all_answers tick last source destination → WorksOnSource (m.cells ∷ []) (address_of m.source) tick g source g1 later →
+    MayWorkOnDestination (m.cells ∷ []) (address_of m.destination) tick g1 destination
 works_on_destination g g1 m all all_answers tick last source destination later far did =
-    let at : InSource g far.seen far.answers tick = begins-tick g far.seen far.answers far.next tick far.begun far.quiet far.at in
+    let at : InSource (m.cells ∷ []) g far.seen far.answers tick = begins-tick (m.cells ∷ []) g far.seen far.answers far.next tick far.begun far.quiet far.at in
     let one = did far.seen all far.answers last far.on_source at in
     (one.0, far.answers, all_answers, last, far.on_destination, one.2)
 
 -- the tick's work is done on both buses
 worked : (g g1 g2 : Gateway) (m : Machines) (all : List Seen) (all_answers : List Answer) (tick last : ℕ) (source destination later later' : List InTick) →
-    SoFar g m all all_answers tick last source destination → WorksOnSource (address_of m.source) tick g source g1 later → WorksOnDestination (address_of m.destination) tick g1 destination g2 later' →
+    SoFar g m all all_answers tick last source destination → WorksOnSource (m.cells ∷ []) (address_of m.source) tick g source g1 later → WorksOnDestination (m.cells ∷ []) (address_of m.destination) tick g1 destination g2 later' →
     g1.machines ≡ g.machines → g2.machines ≡ g1.machines → SoFar g2 m all all_answers (tick + 1) last later later'
 worked g g1 g2 m all all_answers tick last source destination later later' far did did' same same' =
-    let at : InSource g far.seen far.answers tick = begins-tick g far.seen far.answers far.next tick far.begun far.quiet far.at in
+    let at : InSource (m.cells ∷ []) g far.seen far.answers tick = begins-tick (m.cells ∷ []) g far.seen far.answers far.next tick far.begun far.quiet far.at in
     let one = did far.seen all far.answers last far.on_source at in
     let two = did' one.0 far.answers all_answers last far.on_destination one.2 in
     record {
@@ -250,7 +236,7 @@ either_idle g live tick next was quiet (inr same) (inr same') = inr (same ∙ sa
 
 -- the run goes on with the next tick
 pub goes_on : (g g1 g2 : Gateway) (m : Machines) (all : List Seen) (all_answers : List Answer) (live : Bool) (tick last next : ℕ) (source destination later later' : List InTick) →
-    SoFar g m all all_answers tick last source destination → WorksOnSource (address_of m.source) tick g source g1 later → WorksOnDestination (address_of m.destination) tick g1 destination g2 later' →
+    SoFar g m all all_answers tick last source destination → WorksOnSource (m.cells ∷ []) (address_of m.source) tick g source g1 later → WorksOnDestination (m.cells ∷ []) (address_of m.destination) tick g1 destination g2 later' →
     g1.machines ≡ g.machines → g2.machines ≡ g1.machines → (live ≡ false → IsQuiet g2) →
     (ComeWithin (tick + 1) last later → ComeWithin (tick + 1) last later' → IsNext live tick last later later' next) →
     (next ≤ last + 1) × SoFar g2 m all all_answers next last later later' × (tick < next)
@@ -267,7 +253,7 @@ goes_on g g1 g2 m all all_answers live tick last next source destination later l
         quiet = either_idle g2 live tick next far.next quiet is.idle far.quiet;
         machines = far.machines;
         on_source = record { all_is = far.on_source.all_is; few = far.on_source.few; within = is.on_source };
-        on_destination = record { all_is = far.on_destination.all_is; within = is.on_destination; plain = far.on_destination.plain };
+        on_destination = record { all_is = far.on_destination.all_is; within = is.on_destination };
       },
       is.later,
     )
@@ -275,15 +261,15 @@ goes_on g g1 g2 m all all_answers live tick last next source destination later l
 -- past the last tick nothing is still to come
 pub ends : (g : Gateway) (m : Machines) (all : List Seen) (all_answers : List Answer) (tick last : ℕ) (source destination : List InTick) →
     tick ≤ last + 1 → last < tick → SoFar g m all all_answers tick last source destination →
-    (seen : List Seen) × (answers : List Answer) × (next : ℕ) × (next ≤ last + 1) × (IsQuiet g ⊎ (next ≡ last + 1)) × AtBarrier g seen answers next
+    (seen : List Seen) × (answers : List Answer) × (next : ℕ) × (next ≤ last + 1) × (IsQuiet g ⊎ (next ≡ last + 1)) × (sizes : List ℕ) × AtBarrier sizes g seen answers next
 ends g m all all_answers tick last source destination by past far =
     let end : tick ≡ last + 1 = omega arith in
-    (far.seen, far.answers, far.next, omega (arith, far.begun), elim far.quiet [ inl idle ↦ inl idle | inr same ↦ inr (sym same ∙ end) ], far.at)
+    (far.seen, far.answers, far.next, omega (arith, far.begun), elim far.quiet [ inl idle ↦ inl idle | inr same ↦ inr (sym same ∙ end) ], m.cells ∷ [], far.at)
 
 -- and all came, of which the run tells
 pub tells : (g : Gateway) (m : Machines) (clock : Clock) (tick last : ℕ) (source destination : List Stamped) (rest rest' : List InTick) (told : Told) → tick ≤ last + 1 → last < tick →
     SoFar g m (seen_for (address_of m.source) (in_ticks clock.start.0 clock.period source)) (answers_for (address_of m.destination) (in_ticks clock.start.0 clock.period destination)) tick last rest rest' →
-    ((seen : List Seen) (answers : List Answer) (next : ℕ) → next ≤ last + 1 → IsQuiet g ⊎ (next ≡ last + 1) → AtBarrier g seen answers next → Finishes g.machines clock last seen answers told) →
+    ((sizes : List ℕ) (seen : List Seen) (answers : List Answer) (next : ℕ) → next ≤ last + 1 → IsQuiet g ⊎ (next ≡ last + 1) → AtBarrier sizes g seen answers next → Finishes sizes g.machines clock last seen answers told) →
     Plays m clock last source destination told
 unfolding ends
 tells g m clock tick last source destination rest rest' told by past far tell =
@@ -295,8 +281,8 @@ tells g m clock tick last source destination rest rest' told by past far tell =
     let answers : far.answers ≡ all_answers =
     sym (append-nil far.answers) ∙ subst (λ (frames : List InTick). far.answers ++ answers_for (address_of m.destination) frames ≡ all_answers) none' far.on_destination.all_is in
     let end = ends g m all all_answers tick last rest rest' by past far in
-    let over : Finishes m clock last all all_answers told =
-    subst (λ (m : Machines). Finishes m clock last all all_answers told) far.machines
-    (subst (λ (answers : List Answer). Finishes g.machines clock last all answers told) answers
-    (subst (λ (seen : List Seen). Finishes g.machines clock last seen far.answers told) seen (tell far.seen far.answers end.2 end.3 end.4 far.at))) in
+    let over : Finishes (m.cells ∷ []) m clock last all all_answers told =
+    subst (λ (k : Machines). Finishes (m.cells ∷ []) k clock last all all_answers told) far.machines
+    (subst (λ (answers : List Answer). Finishes (m.cells ∷ []) g.machines clock last all answers told) answers
+    (subst (λ (seen : List Seen). Finishes (m.cells ∷ []) g.machines clock last seen far.answers told) seen (tell (m.cells ∷ []) far.seen far.answers end.2 end.3 end.4 far.at))) in
     record { ticks = over.ticks; end = over.end; run = over.run; tells = over.tells; clock_is = over.clock_is; buffers = over.buffers }

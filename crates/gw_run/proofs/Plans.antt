@@ -23,9 +23,9 @@ built told before config report setup lines lines' source destination plan is co
   configured = configured;
   logs = record {
     source_lines = lines;
-    source_log = record { content = from.content; there = from.there is; built = from.is_log; few = few };
+    source_log = record { content = from.content; there = from.there is; is_log = from.is_log; few = few };
     destination_lines = lines';
-    destination_log = record { content = to.content; there = to.there is; built = to.is_log; few = rest };
+    destination_log = record { content = to.content; there = to.there is; is_log = to.is_log; few = rest };
   };
   ticks = planned.ticks;
 }
@@ -53,9 +53,9 @@ plan-cause told before config report setup lines lines' source destination (Limi
     destination = destination;
     logs = record {
       source_lines = lines;
-      source_log = record { content = from.content; there = from.there is; built = from.is_log; few = few };
+      source_log = record { content = from.content; there = from.there is; is_log = from.is_log; few = few };
       destination_lines = lines';
-      destination_log = record { content = to.content; there = to.there is; built = to.is_log; few = rest };
+      destination_log = record { content = to.content; there = to.there is; is_log = to.is_log; few = rest };
     };
     over = stops;
   },

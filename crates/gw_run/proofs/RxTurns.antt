@@ -21,7 +21,7 @@ use Rattle.tp_sender.specs.declared.set.TxSet.{TxSet}
 use Rattle.tp_unit.specs.Unit.{Meaning}
 use Rattle.tp_unit.specs.declared.shape.Shape.{Shape}
 use Rattle.tp_receiver.specs.Runs.{control_at, control_once}
-use Rattle.receiver_law.proofs.controls.Offers.{offered-fits-shape}
+use Rattle.receiver_law.proofs.runs.Offers.{offered-fits-shape}
 use Rattle.gw_run.specs.Standing.{FitsIn, RxStands, Stands, TxStands, lying, view_in}
 use Rattle.gw_run.specs.Telling.{RxStepped, TellsReceiver}
 use Rattle.gw_run.specs.declared.gateway.Gateway.{Gateway}
@@ -98,10 +98,10 @@ sender-stays tx t tick moments view later sender lies frames dests same by s = r
 }
 
 -- all of it
-pub turn-stands : (g h : Gateway) (t tick : ℕ) (turns : List RxTurn) (moments : List TxTurn) (view : View) (event : RxEvent) → Stands g t turns moments view → t ≤ tick →
+pub turn-stands : (sizes : List ℕ) (g h : Gateway) (t tick : ℕ) (turns : List RxTurn) (moments : List TxTurn) (view : View) (event : RxEvent) → Stands sizes g t turns moments view → t ≤ tick →
     (told : TellsReceiver g h event tick (control_once event (lying g.control)) (g.controls ++ control_at g.machines.shape event tick (lying g.control))) →
-    Stands h tick (record { event = event; did = told.did } ∷ turns) moments (grows told.did.calls view)
-turn-stands g h t tick turns moments view event s by told =
+    Stands sizes h tick (record { event = event; did = told.did } ∷ turns) moments (grows told.did.calls view)
+turn-stands sizes g h t tick turns moments view event s by told =
     let did = told.did in
     let st = told.stepped in
     let pool = s.pool in

@@ -1,13 +1,20 @@
 -- What a configuration leaves free is one thing, and why one isn't built.
-use Rattle.std.proofs.Common.{◌≡◌, ◌≢◌, ℕ, ◌<◌, ◌≤◌, ◌&&◌, nat_le, Bool, true, false, if◌then◌else◌, Option, Some, None, option_map, List, [], ◌∷◌, ◌++◌, get_or, length, ap, refl, sym, ◌∙◌, arith}
+use Rattle.std.proofs.Common.{◌≡◌, ◌≢◌, ℕ, ◌<◌, ◌≤◌, ◌&&◌, nat_le, nat_lt, not, Bool, true, false, if◌then◌else◌, Option, Some, None, option_map, List, [], ◌∷◌, ◌++◌, get_or, length, ap, refl, sym, subst, ◌∙◌, arith}
 use Rattle.std.specs.Option.{option_or}
+use Rattle.std.specs.Prelude.{slice_get}
+use Rattle.std.specs.List.{list_all}
 use Rattle.std.proofs.lemmas.Bool.Decides.{nat_tests}
 use Rattle.std.proofs.lemmas.Slice.Eq.{bytes_eq-Decides}
 use Rattle.gw_config.specs.Config.{BusEntry, ChannelEntry, Configuration, PathEntry}
-use Rattle.gw_config.specs.Lawful.{IsLawfulChannel}
+use Rattle.gw_config.specs.Lawful.{IsLawful, IsLawfulChannel}
+use Rattle.gw_config.specs.Rows.{is_frame_length, number_fits}
+use Rattle.gw_config.specs.declared.keys.TheConstants.{BUFFER}
+use Rattle.route_check.specs.Conflicts.{IsAccepted}
+use Rattle.route_check.specs.declared.conflict.ConflictKind.TheVariants.{MixedLength}
+use Rattle.route_check.specs.declared.conflict.Place.TheVariants.{Bus, Channel}
+use Rattle.tp_unit.specs.Shape.{is_frame_size}
 use Rattle.gw_config.specs.Repeated.{bus_repeats, is_used, repeated_among, repeated_in}
-use Rattle.gw_run.specs.declared.setup.Side.TheVariants.{Source, Destination}
-use Rattle.gw_run.specs.Setup.{HasLawfulNumbers, IsBaseBus, IsBaseChannel, IsBasePath, IsBuiltConfig, Setup, comes_to, setup_of}
+use Rattle.gw_run.specs.Setup.{FitsBus, HasLawfulNumbers, IsBaseBus, IsBasePath, IsBuiltConfig, Setup, bus_of}
 
 -- a list of two items, and of one
 pub two-items : {A : Type 0} (l : List A) (x y : A) → 2 ≤ length l → length l < 3 → x ≡ get_or l 0 x → y ≡ get_or l 1 y → l ≡ x ∷ y ∷ []
@@ -30,14 +37,24 @@ second-same l a b c d one other = let same : a ∷ b ∷ [] ≡ c ∷ d ∷ [] =
 only-same : {A : Type 0} (l : List A) (a b : A) → l ≡ a ∷ [] → l ≡ b ∷ [] → a ≡ b
 only-same l a b one other = let same : a ∷ [] ≡ b ∷ [] = sym one ∙ other in cc
 
+-- two are one where all of their fields are
+same-fields : (some other : Setup) → some.source ≡ other.source → some.destination ≡ other.destination → some.receiver ≡ other.receiver → some.sender ≡ other.sender → some.path ≡ other.path →
+    some.cells ≡ other.cells → some.period ≡ other.period → some.linger ≡ other.linger → some ≡ other
+same-fields some other source destination receiver sender path cells period linger =
+    ap (λ x. record some { source = x }) source ∙ ap (λ x. record some { source = other.source; destination = x }) destination
+    ∙ ap (λ x. record some { source = other.source; destination = other.destination; receiver = x }) receiver
+    ∙ ap (λ x. record some { source = other.source; destination = other.destination; receiver = other.receiver; sender = x }) sender
+    ∙ ap (λ x. record other { path = x; cells = some.cells; period = some.period; linger = some.linger }) path
+    ∙ ap (λ x. record other { cells = x; period = some.period; linger = some.linger }) cells
+    ∙ ap (λ x. record other { period = x; linger = some.linger }) period ∙ ap (λ x. record other { linger = x }) linger
+
 pub setup-once : (c : Configuration) (some other : Setup) → IsBuiltConfig c some → IsBuiltConfig c other → some ≡ other
 setup-once c some other one two =
-    one.setup_is
-    ∙ ap (λ b. setup_of b one.destination one.receiver one.sender c.period c.linger) (first-same c.bus one.source one.destination two.source two.destination one.buses two.buses)
-    ∙ ap (λ b. setup_of two.source b one.receiver one.sender c.period c.linger) (second-same c.bus one.source one.destination two.source two.destination one.buses two.buses)
-    ∙ ap (λ k. setup_of two.source two.destination k one.sender c.period c.linger) (first-same c.channel one.receiver one.sender two.receiver two.sender one.channels two.channels)
-    ∙ ap (λ k. setup_of two.source two.destination two.receiver k c.period c.linger) (second-same c.channel one.receiver one.sender two.receiver two.sender one.channels two.channels)
-    ∙ sym two.setup_is
+    same-fields some other (one.source_bus ∙ ap bus_of (first-same c.bus one.source one.destination two.source two.destination one.buses two.buses) ∙ sym two.source_bus)
+    (one.destination_bus ∙ ap bus_of (second-same c.bus one.source one.destination two.source two.destination one.buses two.buses) ∙ sym two.destination_bus)
+    (first-same c.channel some.receiver some.sender other.receiver other.sender one.channels two.channels)
+    (second-same c.channel some.receiver some.sender other.receiver other.sender one.channels two.channels) (only-same c.path some.path other.path one.paths two.paths)
+    (only-same c.buffers some.cells other.cells one.buffer two.buffer) (one.period ∙ sym two.period) (one.linger ∙ sym two.linger)
 
 -- ---- why a configuration isn't built
 
@@ -50,40 +67,71 @@ other_destination c source destination is not setup built =
     not (rw (second-same c.bus source destination built.source built.destination is built.buses) built.destination_is)
 
 pub other_receiver : (c : Configuration) (source destination : BusEntry) (receiver sender : ChannelEntry) → c.bus ≡ source ∷ destination ∷ [] → c.channel ≡ receiver ∷ sender ∷ [] →
-    ¬ IsBaseChannel source.name receiver → (setup : Setup) → ¬ IsBuiltConfig c setup
+    receiver.bus ≢ source.name → (setup : Setup) → ¬ IsBuiltConfig c setup
 other_receiver c source destination receiver sender buses channels not setup built =
-    not (rw (first-same c.bus source destination built.source built.destination buses built.buses, first-same c.channel receiver sender built.receiver built.sender channels built.channels) built.receiver_is)
+    not (rw (first-same c.bus source destination built.source built.destination buses built.buses, first-same c.channel receiver sender setup.receiver setup.sender channels built.channels) built.receiver_on)
 
 pub other_sender : (c : Configuration) (source destination : BusEntry) (receiver sender : ChannelEntry) → c.bus ≡ source ∷ destination ∷ [] → c.channel ≡ receiver ∷ sender ∷ [] →
-    ¬ IsBaseChannel destination.name sender → (setup : Setup) → ¬ IsBuiltConfig c setup
+    sender.bus ≢ destination.name → (setup : Setup) → ¬ IsBuiltConfig c setup
 other_sender c source destination receiver sender buses channels not setup built =
-    not (rw (second-same c.bus source destination built.source built.destination buses built.buses, second-same c.channel receiver sender built.receiver built.sender channels built.channels) built.sender_is)
+    not (rw (second-same c.bus source destination built.source built.destination buses built.buses, second-same c.channel receiver sender setup.receiver setup.sender channels built.channels) built.sender_on)
 
 pub other_path : (c : Configuration) (receiver sender : ChannelEntry) (path : PathEntry) → c.channel ≡ receiver ∷ sender ∷ [] → c.path ≡ path ∷ [] →
     ¬ IsBasePath receiver.name sender.name path → (setup : Setup) → ¬ IsBuiltConfig c setup
 other_path c receiver sender path channels paths not setup built =
-    not (rw (first-same c.channel receiver sender built.receiver built.sender channels built.channels, second-same c.channel receiver sender built.receiver built.sender channels built.channels, only-same c.path path built.path paths built.paths) built.path_is)
+    not (rw (first-same c.channel receiver sender setup.receiver setup.sender channels built.channels, second-same c.channel receiver sender setup.receiver setup.sender channels built.channels, only-same c.path path setup.path paths built.paths) built.path_is)
 
 -- ---- what a lawful configuration leaves free is lawful
 
 in-range : (low high n : ℕ) → (nat_le low n && nat_le n high) ≡ true → (low ≤ n) × (n ≤ high)
 in-range low high n is = grind (arith, nat_tests)
 
-pub lawful_numbers : (setup : Setup) → setup.source.side ≡ Source (comes_to setup.receiver) setup.receiver.functional → setup.destination.side ≡ Destination (comes_to setup.sender) → (nat_le 1 setup.period && nat_le setup.period 1_000_000) ≡ true → (nat_le 0 setup.linger && nat_le setup.linger 1_000_000) ≡ true →
-    IsLawfulChannel setup.receiver → IsLawfulChannel setup.sender → setup.source.out ≢ setup.destination.out → HasLawfulNumbers setup
-lawful_numbers setup source_side destination_side period_is linger_is received sent apart =
-    let ticks = in-range 1 1_000_000 setup.period period_is in
-    let on = in-range 0 1_000_000 setup.linger linger_is in
+-- the one buffer has a lawful size
+only-cells : (buffers : List ℕ) (cells : ℕ) → list_all (number_fits BUFFER) buffers ≡ true → buffers ≡ cells ∷ [] → (1 ≤ cells) × (cells ≤ 8192)
+only-cells buffers cells all is =
+    let fits : (nat_le 1 cells && nat_le cells 8192 && true) ≡ true = subst (λ l. list_all (number_fits BUFFER) l ≡ true) is all in
+    grind (arith, nat_tests)
+
+all-three : (a b : Bool) → (a && b) ≡ true → (a && true && b) ≡ true
+all-three true true is = refl
+all-three true false is = let clash : false ≡ true = is in cc
+all-three false b is = let clash : false ≡ true = is in cc
+
+-- an accepted configuration has no channel of longer frames than its bus has
+pub fits-bus : (c : Configuration) (place other : ℕ) (channel : ChannelEntry) (bus : BusEntry) → IsAccepted c → slice_get c.channel place ≡ Some channel → slice_get c.bus other ≡ Some bus → channel.bus ≡ bus.name →
+    (b : Bool) → (nat_lt 8 channel.dl && not bus.fd) ≡ b → b ≡ false
+fits-bus c place other channel bus accepted there here on false is = refl
+fits-bus c place other channel bus accepted there here on true is =
+    absurd (accepted (record { kind = MixedLength; place = Channel; first = place; other = Bus; second = other })
+    (rw (there, here) (rw ((bytes_eq-Decides channel.bus bus.name).1 on) (all-three (nat_lt 8 channel.dl) (not bus.fd) is))))
+
+frame-size : (dl : ℕ) → is_frame_length dl ≡ true → is_frame_size dl ≡ true
+frame-size dl is = grind (arith, nat_tests)
+
+pub lawful_numbers : (c : Configuration) (setup : Setup) → IsLawful c → c.buffers ≡ setup.cells ∷ [] → setup.period ≡ c.period → setup.linger ≡ c.linger →
+    IsLawfulChannel setup.receiver → IsLawfulChannel setup.sender → setup.source.out ≢ setup.destination.out →
+    2 ≤ setup.source.budget → 2 ≤ setup.destination.budget → FitsBus setup.source setup.receiver → FitsBus setup.destination setup.sender → HasLawfulNumbers setup
+lawful_numbers c setup lawful buffer period_is linger_is received sent apart source_budget destination_budget received_fits sent_fits =
+    let ticks = in-range 1 1_000_000 c.period lawful.period in
+    let on = in-range 0 1_000_000 c.linger lawful.linger in
+    let size = only-cells c.buffers setup.cells lawful.buffers buffer in
     record {
-      source_side = source_side;
-      destination_side = destination_side;
       apart = apart;
-      some = omega (arith, ticks.0);
-      period = ticks.1;
-      linger = on.1;
+      some_cells = size.0;
+      cells = size.1;
+      some = omega (arith, ticks.0, period_is);
+      period = omega (arith, ticks.1, period_is);
+      linger = omega (arith, on.1, linger_is);
       receiver_tx = received.tx;
       sender_tx = sent.tx;
+      receiver_size = frame-size setup.receiver.dl received.dl;
+      sender_size = frame-size setup.sender.dl sent.dl;
+      source_budget = source_budget;
+      destination_budget = destination_budget;
+      receiver_fits = received_fits;
+      sender_fits = sent_fits;
       n_ar = (in-range 1 1_000_000 setup.receiver.n_ar received.n_ar).0;
+      n_br = (in-range 1 1_000_000 setup.receiver.n_br received.n_br).0;
       n_cr = (in-range 1 1_000_000 setup.receiver.n_cr received.n_cr).0;
       n_as = (in-range 1 1_000_000 setup.sender.n_as sent.n_as).0;
       n_bs = (in-range 1 1_000_000 setup.sender.n_bs sent.n_bs).0;

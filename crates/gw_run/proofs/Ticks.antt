@@ -19,15 +19,14 @@ use Rattle.tp_unit.specs.Unit.{Meaning}
 use Rattle.gw_run.specs.Standing.{groups_in, InDestination, InSource, Stands, lying, view_in}
 use Rattle.gw_run.specs.Telling.{LeavesControl, TellsReceiver}
 use Rattle.gw_run.specs.declared.gateway.Gateway.{Gateway}
-use Rattle.gw_run.specs.declared.machines.TheConstants.{BUFFER_CELLS}
 use Rattle.gw_run.proofs.RxTurns.{turn-stands}
 use Rattle.hub_core.proofs.Growing.{grows-append}
 use Rattle.hub_core.proofs.Turns.{calls-append}
 
 -- the hub is joint at every moment
-pub stands-joint : (g : Gateway) (t : ℕ) (turns : List RxTurn) (moments : List TxTurn) (view : View) → Stands g t turns moments view → IsJoint (BUFFER_CELLS ∷ []) view
-stands-joint g t turns moments view s =
-    let P : View → Type 0 = λ v. IsJoint (BUFFER_CELLS ∷ []) v in
+pub stands-joint : (sizes : List ℕ) (g : Gateway) (t : ℕ) (turns : List RxTurn) (moments : List TxTurn) (view : View) → Stands sizes g t turns moments view → IsJoint sizes view
+stands-joint sizes g t turns moments view s =
+    let P : View → Type 0 = λ v. IsJoint sizes v in
     let Q : List (List ℕ) → Type 0 = λ groups. Joint groups (view_in g.hub) in
     subst P s.pool.view_is (subst Q s.pool.groups (is-joint g.hub))
 
@@ -38,27 +37,23 @@ told-with g h event tick lies controls other is told = record { did = told.did; 
 abbrev pub told-same : (g h : Gateway) (event : RxEvent) (tick : ℕ) (lies : Option Meaning) → TellsReceiver g h event tick lies g.controls → TellsReceiver g h event tick lies (g.controls ++ [])
 told-same g h event tick lies told = told-with g h event tick lies g.controls (g.controls ++ []) (sym (append-nil g.controls)) told
 
--- the one group of buffers
-abbrev pub groups : List (List ℕ)
-groups = (BUFFER_CELLS ∷ []) ∷ []
-
 -- what a step saw stands in the view before it
-pub fresh-at : (g : Gateway) (t : ℕ) (turns : List RxTurn) (moments : List TxTurn) (view : View) (calls : List Event) → Stands g t turns moments view → AreFresh (floors_of (groups_in g.hub) (view_in g.hub)) (view_in g.hub) calls → AreFresh (floors_of groups view) view calls
-fresh-at g t turns moments view calls s fresh =
+pub fresh-at : (sizes : List ℕ) (g : Gateway) (t : ℕ) (turns : List RxTurn) (moments : List TxTurn) (view : View) (calls : List Event) → Stands sizes g t turns moments view → AreFresh (floors_of (groups_in g.hub) (view_in g.hub)) (view_in g.hub) calls → AreFresh (floors_of (sizes ∷ []) view) view calls
+fresh-at sizes g t turns moments view calls s fresh =
     let P : List (List ℕ) → Type 0 = λ l. AreFresh (floors_of l (view_in g.hub)) (view_in g.hub) calls in
-    let Q : View → Type 0 = λ v. AreFresh (floors_of groups v) v calls in
+    let Q : View → Type 0 = λ v. AreFresh (floors_of (sizes ∷ []) v) v calls in
     subst Q s.pool.view_is (subst P s.pool.groups fresh)
 
 -- a frame of the source channel came
-pub received : (g h : Gateway) (seen : List Seen) (answers : List Answer) (a tick : ℕ) (frame : CanFrame) → InSource g seen answers tick →
-    TellsReceiver g h (Came (length frame.bytes) (unit_of a frame)) tick (lying g.control) g.controls → InSource h (seen ++ seen_frame a tick frame ∷ []) answers tick
-received g h seen answers a tick frame at told =
+pub received : (sizes : List ℕ) (g h : Gateway) (seen : List Seen) (answers : List Answer) (a tick : ℕ) (frame : CanFrame) → InSource sizes g seen answers tick →
+    TellsReceiver g h (Came (length frame.bytes) (unit_of a frame)) tick (lying g.control) g.controls → InSource sizes h (seen ++ seen_frame a tick frame ∷ []) answers tick
+received sizes g h seen answers a tick frame at told =
     let event = Came (length frame.bytes) (unit_of a frame) in
     let turn : RxTurn = record { event = event; did = told.did } in
     let view = grows (calls_by at.turns) (view_of at.earlier) in
     let told_so = told-same g h event tick (lying g.control) told in
-    let stands = turn-stands g h tick tick (at.turns ++ turns_of at.earlier) (moments_of at.earlier) view event at.stands (omega arith) told_so in
-    let V : View → Type 0 = λ v. Stands h tick (turn ∷ (at.turns ++ turns_of at.earlier)) (moments_of at.earlier) v in
+    let stands = turn-stands sizes g h tick tick (at.turns ++ turns_of at.earlier) (moments_of at.earlier) view event at.stands (omega arith) told_so in
+    let V : View → Type 0 = λ v. Stands sizes h tick (turn ∷ (at.turns ++ turns_of at.earlier)) (moments_of at.earlier) v in
     record {
       earlier = at.earlier;
       turns = turn ∷ at.turns;
@@ -66,7 +61,7 @@ received g h seen answers a tick frame at told =
       later = at.later;
       next = at.next;
       came = (told.stepped.tick_is, at.came);
-      looks = (fresh-at g tick _ _ view told.did.calls at.stands told.stepped.fresh, at.looks);
+      looks = (fresh-at sizes g tick _ _ view told.did.calls at.stands told.stepped.fresh, at.looks);
       stands = subst V (sym (grows-append (calls_by at.turns) told.did.calls (view_of at.earlier))) stands;
       clear = at.clear;
       seen_is = ap (λ (k : ℕ). came_by frames_in (at.turns ++ turns_of at.earlier) ++ (record { at = k; size = length frame.bytes; meaning = unit_of a frame } ∷ [])) told.stepped.tick_is
@@ -75,19 +70,19 @@ received g h seen answers a tick frame at told =
     }
 
 -- what lay in the receiver's box left
-record ControlLeft (h : Gateway) (tick : ℕ) (turns : List RxTurn) (moments : List TxTurn) (view : View) : Type 0 where
+record ControlLeft (sizes : List ℕ) (h : Gateway) (tick : ℕ) (turns : List RxTurn) (moments : List TxTurn) (view : View) : Type 0 where
   left : List RxTurn
   left_is : ControlLeaves tick (control_after turns) left
   none_seen : came_by frames_in (left ++ turns) ≡ came_by frames_in turns
-  looks : AreFreshTurns groups view left
-  stands : Stands h tick (left ++ turns) moments (grows (calls_by left) view)
+  looks : AreFreshTurns (sizes ∷ []) view left
+  stands : Stands sizes h tick (left ++ turns) moments (grows (calls_by left) view)
 
-control-left : (g h : Gateway) (tick : ℕ) (turns : List RxTurn) (moments : List TxTurn) (view : View) (lies : Option Meaning) → lying g.control ≡ lies → Stands g tick turns moments view → LeavesControl lies g h tick → ControlLeft h tick turns moments view
-control-left g h tick turns moments view None is s same =
+control-left : (sizes : List ℕ) (g h : Gateway) (tick : ℕ) (turns : List RxTurn) (moments : List TxTurn) (view : View) (lies : Option Meaning) → lying g.control ≡ lies → Stands sizes g tick turns moments view → LeavesControl lies g h tick → ControlLeft sizes h tick turns moments view
+control-left sizes g h tick turns moments view None is s same =
     let P : Option Meaning → Type 0 = λ l. ControlLeaves tick l [] in
-    let H : Gateway → Type 0 = λ x. Stands x tick turns moments view in
+    let H : Gateway → Type 0 = λ x. Stands sizes x tick turns moments view in
     record { left = []; left_is = subst P (sym is ∙ s.receives.lies_is) refl; none_seen = refl; looks = tt; stands = subst H (sym same) s }
-control-left g h tick turns moments view (Some meaning) is s told =
+control-left sizes g h tick turns moments view (Some meaning) is s told =
     let turn : RxTurn = record { event = FcLeft; did = told.did } in
     let P : Option Meaning → Type 0 = λ l. ControlLeaves tick l (turn ∷ []) in
     let same = ap (λ l. g.controls ++ written_of g.machines.shape tick l) (sym is) in
@@ -95,42 +90,42 @@ control-left g h tick turns moments view (Some meaning) is s told =
       left = turn ∷ [];
       left_is = subst P (sym is ∙ s.receives.lies_is) (refl, told.stepped.tick_is, refl);
       none_seen = append-nil (came_by frames_in turns);
-      looks = (fresh-at g tick turns moments view told.did.calls s told.stepped.fresh, tt);
-      stands = turn-stands g h tick tick turns moments view FcLeft s (omega arith) (told-with g h FcLeft tick None _ _ same told);
+      looks = (fresh-at sizes g tick turns moments view told.did.calls s told.stepped.fresh, tt);
+      stands = turn-stands sizes g h tick tick turns moments view FcLeft s (omega arith) (told-with g h FcLeft tick None _ _ same told);
     }
 
 grows-join : (left rest : List RxTurn) (view : View) → grows (calls_by (left ++ rest)) view ≡ grows (calls_by left) (grows (calls_by rest) view)
 grows-join left rest view = ap (λ c. grows c view) (calls-append left rest) ∙ grows-append (calls_by rest) (calls_by left) view
 
-pub fresh-join : {E A R S : Type 0} (left rest : List (Turn E Event A R S)) (view : View) → AreFreshTurns groups (grows (calls_by rest) view) left → AreFreshTurns groups view rest → AreFreshTurns groups view (left ++ rest)
-fresh-join [] rest view one other = other
-fresh-join (turn ∷ left) rest view one other =
-    let P : View → Type 0 = λ v. AreFresh (floors_of groups v) v turn.did.calls in
-    (subst P (sym (ap (λ c. grows c view) (calls-append left rest) ∙ grows-append (calls_by rest) (calls_by left) view)) one.0, fresh-join left rest view one.1 other)
+pub fresh-join : {E A R S : Type 0} (sizes : List ℕ) (left rest : List (Turn E Event A R S)) (view : View) → AreFreshTurns (sizes ∷ []) (grows (calls_by rest) view) left → AreFreshTurns (sizes ∷ []) view rest → AreFreshTurns (sizes ∷ []) view (left ++ rest)
+fresh-join sizes [] rest view one other = other
+fresh-join sizes (turn ∷ left) rest view one other =
+    let P : View → Type 0 = λ v. AreFresh (floors_of (sizes ∷ []) v) v turn.did.calls in
+    (subst P (sym (ap (λ c. grows c view) (calls-append left rest) ∙ grows-append (calls_by rest) (calls_by left) view)) one.0, fresh-join sizes left rest view one.1 other)
 
 -- the receiver's timer
-pub timer-stands : (g k : Gateway) (seen : List Seen) (answers : List Answer) (tick : ℕ) → (at : InSource g seen answers tick) → (told : TellsReceiver g k Timer tick (lying g.control) g.controls) →
-    Stands k tick (record { event = Timer; did = told.did } ∷ (at.turns ++ turns_of at.earlier)) (moments_of at.earlier) (grows told.did.calls (grows (calls_by at.turns) (view_of at.earlier)))
-timer-stands g k seen answers tick at told =
-    turn-stands g k tick tick (at.turns ++ turns_of at.earlier) (moments_of at.earlier) (grows (calls_by at.turns) (view_of at.earlier)) Timer at.stands (omega arith) (told-same g k Timer tick (lying g.control) told)
+pub timer-stands : (sizes : List ℕ) (g k : Gateway) (seen : List Seen) (answers : List Answer) (tick : ℕ) → (at : InSource sizes g seen answers tick) → (told : TellsReceiver g k Timer tick (lying g.control) g.controls) →
+    Stands sizes k tick (record { event = Timer; did = told.did } ∷ (at.turns ++ turns_of at.earlier)) (moments_of at.earlier) (grows told.did.calls (grows (calls_by at.turns) (view_of at.earlier)))
+timer-stands sizes g k seen answers tick at told =
+    turn-stands sizes g k tick tick (at.turns ++ turns_of at.earlier) (moments_of at.earlier) (grows (calls_by at.turns) (view_of at.earlier)) Timer at.stands (omega arith) (told-same g k Timer tick (lying g.control) told)
 
 -- the source's part of a tick ends
-pub source-ends : (g k h : Gateway) (seen : List Seen) (answers : List Answer) (tick : ℕ) → InSource g seen answers tick → TellsReceiver g k Timer tick (lying g.control) g.controls →
-    LeavesControl (lying k.control) k h tick → InDestination h seen answers tick
-source-ends g k h seen answers tick at told leaves =
+pub source-ends : (sizes : List ℕ) (g k h : Gateway) (seen : List Seen) (answers : List Answer) (tick : ℕ) → InSource sizes g seen answers tick → TellsReceiver g k Timer tick (lying g.control) g.controls →
+    LeavesControl (lying k.control) k h tick → InDestination sizes h seen answers tick
+source-ends sizes g k h seen answers tick at told leaves =
     let timer : RxTurn = record { event = Timer; did = told.did } in
     let view = grows (calls_by at.turns) (view_of at.earlier) in
-    let stands = timer-stands g k seen answers tick at told in
-    let out = control-left k h tick (timer ∷ (at.turns ++ turns_of at.earlier)) (moments_of at.earlier) (grows told.did.calls view) (lying k.control) refl stands leaves in
+    let stands = timer-stands sizes g k seen answers tick at told in
+    let out = control-left sizes k h tick (timer ∷ (at.turns ++ turns_of at.earlier)) (moments_of at.earlier) (grows told.did.calls view) (lying k.control) refl stands leaves in
     let mid : grows (calls_by (timer ∷ at.turns)) (view_of at.earlier) ≡ grows told.did.calls view = grows-append (calls_by at.turns) told.did.calls (view_of at.earlier) in
     let all : grows (calls_by (out.left ++ timer ∷ at.turns)) (view_of at.earlier) ≡ grows (calls_by out.left) (grows told.did.calls view) =
     grows-join out.left (timer ∷ at.turns) (view_of at.earlier) ∙ ap (λ v. grows (calls_by out.left) v) mid in
     let turns_are : (out.left ++ timer ∷ at.turns) ++ turns_of at.earlier ≡ out.left ++ timer ∷ (at.turns ++ turns_of at.earlier) = append_assoc out.left (timer ∷ at.turns) (turns_of at.earlier) in
-    let L : List RxTurn → Type 0 = λ l. Stands h tick l (moments_of at.earlier) (grows (calls_by out.left) (grows told.did.calls view)) in
-    let V : View → Type 0 = λ v. Stands h tick ((out.left ++ timer ∷ at.turns) ++ turns_of at.earlier) (moments_of at.earlier) v in
-    let now : Stands h tick ((out.left ++ timer ∷ at.turns) ++ turns_of at.earlier) (moments_of at.earlier) (grows (calls_by (out.left ++ timer ∷ at.turns)) (view_of at.earlier)) =
+    let L : List RxTurn → Type 0 = λ l. Stands sizes h tick l (moments_of at.earlier) (grows (calls_by out.left) (grows told.did.calls view)) in
+    let V : View → Type 0 = λ v. Stands sizes h tick ((out.left ++ timer ∷ at.turns) ++ turns_of at.earlier) (moments_of at.earlier) v in
+    let now : Stands sizes h tick ((out.left ++ timer ∷ at.turns) ++ turns_of at.earlier) (moments_of at.earlier) (grows (calls_by (out.left ++ timer ∷ at.turns)) (view_of at.earlier)) =
     subst V (sym all) (subst L (sym turns_are) out.stands) in
-    let looks_left : AreFreshTurns groups (grows (calls_by (timer ∷ at.turns)) (view_of at.earlier)) out.left = (let P : View → Type 0 = λ v. AreFreshTurns groups v out.left in subst P (sym mid) out.looks) in
+    let looks_left : AreFreshTurns (sizes ∷ []) (grows (calls_by (timer ∷ at.turns)) (view_of at.earlier)) out.left = (let P : View → Type 0 = λ v. AreFreshTurns (sizes ∷ []) v out.left in subst P (sym mid) out.looks) in
     record {
       earlier = at.earlier;
       turns = out.left ++ timer ∷ at.turns;
@@ -139,8 +134,8 @@ source-ends g k h seen answers tick at told leaves =
       later = at.later;
       next = at.next;
       receives = record { came = at.turns; timer = timer; left = out.left; turns_are = refl; came_only = at.came; timer_is = refl; timer_tick = told.stepped.tick_is; left_is = out.left_is };
-      looks = fresh-join out.left (timer ∷ at.turns) (view_of at.earlier) looks_left (fresh-at g tick _ _ view told.did.calls at.stands told.stepped.fresh, at.looks);
-      between = stands-joint h tick _ _ _ now;
+      looks = fresh-join sizes out.left (timer ∷ at.turns) (view_of at.earlier) looks_left (fresh-at sizes g tick _ _ view told.did.calls at.stands told.stepped.fresh, at.looks);
+      between = stands-joint sizes h tick _ _ _ now;
       only = tt;
       sees = tt;
       stands = now;

@@ -73,7 +73,7 @@ receiver-stays rx shape t tick turns view later receiver lies controls sessions 
   knows = knows-same view later receiver same s.knows;
   number = s.number;
   now = omega (arith, s.now);
-  waits = waits-later receiver.state t tick by s.waits;
+  waits = waits-later receiver t tick by s.waits;
   lies_is = s.lies_is;
   fits = s.fits;
   controls_are = s.controls_are;
@@ -81,10 +81,10 @@ receiver-stays rx shape t tick turns view later receiver lies controls sessions 
 }
 
 -- all of it
-pub moment-stands : (g h : Gateway) (t tick : ℕ) (turns : List RxTurn) (moments : List TxTurn) (view : View) (event : TxEvent) → Stands g t turns moments view → t ≤ tick → InOrder event tick moments →
+pub moment-stands : (sizes : List ℕ) (g h : Gateway) (t tick : ℕ) (turns : List RxTurn) (moments : List TxTurn) (view : View) (event : TxEvent) → Stands sizes g t turns moments view → t ≤ tick → InOrder event tick moments →
     (told : TellsSender g h event tick (box_once event (lying g.frame)) (g.frames ++ written_at g.machines.tx.shape event tick (lying g.frame))) →
-    Stands h tick turns (told.turn ∷ moments) (grows told.turn.did.calls view)
-moment-stands g h t tick turns moments view event s by order told =
+    Stands sizes h tick turns (told.turn ∷ moments) (grows told.turn.did.calls view)
+moment-stands sizes g h t tick turns moments view event s by order told =
     let turn = told.turn in
     let st = told.stepped in
     let pool = s.pool in

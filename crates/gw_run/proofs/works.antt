@@ -1,7 +1,6 @@
 -- The works of the loop over ticks are a run.
 pub mod Joined
 pub mod Runs
-pub mod RxLooks
 pub mod RxParts
 pub mod SerialRun
 pub mod TxParts

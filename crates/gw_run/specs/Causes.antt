@@ -6,14 +6,13 @@ use Rattle.gw_depot.specs.declared.outside.CallKind.TheVariants.{Read}
 use Rattle.gw_depot.specs.Fault.{Blame, Rose}
 use Rattle.gw_depot.specs.Files.{Files}
 use Rattle.candump_log.specs.declared.log.Stamped.{Stamped}
-use Rattle.candump_log.specs.declared.log.LineRefusal.{LineRefusal}
-use Rattle.candump_log.specs.declared.log.LineRefusal.TheVariants.{Unsupported as NotBuilt, Bad}
+use Rattle.candump_line.specs.declared.fault.LineFault.{LineFault}
 use Rattle.candump_log.specs.declared.log.LineStop.TheVariants.{Refused, Limit as LineLimit, Memory as LineMemory}
 use Rattle.candump_log.specs.declared.log.LogStop.{LogStop}
 use Rattle.candump_log.specs.declared.log.LogStop.TheVariants.{Fault, Line as AtLine}
 use Rattle.gw_run.specs.declared.status.FileRole.{FileRole}
 use Rattle.gw_run.specs.declared.status.FileRole.TheVariants.{Config, Log, Say}
-use Rattle.gw_run.specs.declared.status.Form.TheVariants.{Configuration as WholeConfiguration, Line}
+use Rattle.gw_run.specs.declared.status.Form.TheVariants.{Configuration as WholeConfiguration}
 use Rattle.gw_run.specs.declared.status.Status.{Status}
 use Rattle.gw_run.specs.declared.status.Summary.{Summary}
 use Rattle.gw_run.specs.declared.status.Status.TheVariants.{Ok, Accepted, Usage, ConfigRefused, LogRefused, Unbuilt, ReadFault, WriteFault, Memory, Limit}
@@ -28,10 +27,10 @@ use Rattle.gw_run.specs.Start.{IsStart, stamps_of}
 use Rattle.gw_run.specs.Whole.{IsTooLong}
 
 -- the bus's log has a line that is refused, and only lines that are taken before it; it is among the first so many
-pub record StopsLog (before : Files) (bus : Bus) (most number : ℕ) (refusal : LineRefusal) : Type 0 where
+pub record StopsLog (before : Files) (bus : Bus) (most number : ℕ) (fault : LineFault) : Type 0 where
   pub content : List ℕ
   pub there : before bus.log ≡ Some content
-  pub stops : StopsAt (source_of bus) most content number refusal
+  pub stops : StopsAt (source_of bus) most content number fault
 
 -- a line of the bus's log begins after so many, all of them taken
 pub record PassesLog (before : Files) (bus : Bus) (most : ℕ) : Type 0 where
@@ -43,24 +42,24 @@ pub record PassesLog (before : Files) (bus : Bus) (most : ℕ) : Type 0 where
 abbrev pub IsUnbuiltConfig : Files → (config report : List ℕ) → Type 0
 IsUnbuiltConfig before config report = (c : Configuration) × ReadsConfig before config (Some report) c × ((setup : Setup) → ¬ IsBuiltConfig c setup)
 
--- the source's log is built line by line, and the destination's isn't
-pub record StopsSecondLog (before : Files) (setup : Setup) (number : ℕ) (refusal : LineRefusal) : Type 0 where
+-- each line of the source's log is taken, and one of the destination's isn't
+pub record StopsSecondLog (before : Files) (setup : Setup) (number : ℕ) (fault : LineFault) : Type 0 where
   pub lines : ℕ
   pub source : List Stamped
   pub source_log : HoldsLog before setup.source 1_000_000 lines source
-  pub stops : StopsLog before setup.destination (1_000_000 - lines) number refusal
+  pub stops : StopsLog before setup.destination (1_000_000 - lines) number fault
 
 -- the line of the bus, counted from 1, is the first that is refused, in bus order
-abbrev pub IsRefusedLine : Files → Setup → (bus number : ℕ) → LineRefusal → Type 0
-IsRefusedLine before setup zero number refusal = StopsLog before setup.source 1_000_000 number refusal
-IsRefusedLine before setup (suc zero) number refusal = StopsSecondLog before setup number refusal
-IsRefusedLine before setup (suc (suc bus)) number refusal = ⊥
+abbrev pub IsRefusedLine : Files → Setup → (bus number : ℕ) → LineFault → Type 0
+IsRefusedLine before setup zero number fault = StopsLog before setup.source 1_000_000 number fault
+IsRefusedLine before setup (suc zero) number fault = StopsSecondLog before setup number fault
+IsRefusedLine before setup (suc (suc bus)) number fault = ⊥
 
 -- the same of the run that a configuration asks for
-abbrev pub RefusesLine : Files → (config report : List ℕ) → (bus number : ℕ) → LineRefusal → Type 0
-RefusesLine before config report bus number refusal = (setup : Setup) × IsConfigured before config report setup × IsRefusedLine before setup bus number refusal
+abbrev pub RefusesLine : Files → (config report : List ℕ) → (bus number : ℕ) → LineFault → Type 0
+RefusesLine before config report bus number fault = (setup : Setup) × IsConfigured before config report setup × IsRefusedLine before setup bus number fault
 
--- the source's log is built line by line, and a line of the destination's begins after a million of both
+-- each line of the source's log is taken, and a line of the destination's begins after a million of both
 pub record PassesSecondLog (before : Files) (setup : Setup) : Type 0 where
   pub lines : ℕ
   pub source : List Stamped
@@ -74,7 +73,7 @@ pub record TooManyTicks (setup : Setup) (source destination : List Stamped) (val
   pub count : value ≡ last_of setup start source destination + 1
   pub over : 10_000_000 < value
 
--- both logs are built, and they have too many ticks
+-- each line of both logs is taken, and they have too many ticks
 pub record PassesTicks (before : Files) (setup : Setup) (value : ℕ) : Type 0 where
   pub source : List Stamped
   pub destination : List Stamped
@@ -87,9 +86,8 @@ IsCause before config report (Ok summary) = Unit {0}
 IsCause before config report Accepted = ⊥
 IsCause before config report Usage = ⊥
 IsCause before config report (ConfigRefused cause) = HoldsText before config (IsRefusedFor config (Some report) cause)
-IsCause before config report (LogRefused bus number fault) = RefusesLine before config report bus.0 number (Bad fault)
+IsCause before config report (LogRefused bus number fault) = RefusesLine before config report bus.0 number fault
 IsCause before config report (Unbuilt WholeConfiguration) = IsUnbuiltConfig before config report
-IsCause before config report (Unbuilt (Line bus number)) = RefusesLine before config report bus.0 number NotBuilt
 IsCause before config report (ReadFault role) = Unit {0}
 IsCause before config report (WriteFault role) = Unit {0}
 IsCause before config report Memory = Unit {0}
@@ -149,23 +147,17 @@ IsNamed told before config report Accepted name = Unit {0}
 IsNamed told before config report Usage name = Unit {0}
 IsNamed told before config report (ConfigRefused cause) name = Unit {0}
 IsNamed told before config report (LogRefused bus line fault) name = IsNameOf told before config report bus.0 name
-IsNamed told before config report (Unbuilt WholeConfiguration) name = Unit {0}
-IsNamed told before config report (Unbuilt (Line bus number)) name = IsNameOf told before config report bus.0 name
+IsNamed told before config report (Unbuilt form) name = Unit {0}
 IsNamed told before config report (ReadFault role) name = Unit {0}
 IsNamed told before config report (WriteFault role) name = Unit {0}
 IsNamed told before config report Memory name = Unit {0}
 IsNamed told before config report (Limit which value) name = Unit {0}
 
--- what is answered where a line of a bus's log isn't taken
-abbrev pub line_status : BusNo → (number : ℕ) → LineRefusal → Status
-line_status bus number NotBuilt = Unbuilt (Line bus number)
-line_status bus number (Bad fault) = LogRefused bus number fault
-
 -- what is answered where a bus's log isn't read to its end
 abbrev pub log_status : BusNo → LogStop → Status
 log_status bus Fault = ReadFault (Log bus)
 log_status bus (AtLine LineMemory) = Memory
-log_status bus (AtLine (Refused number refusal)) = line_status bus number refusal
+log_status bus (AtLine (Refused number fault)) = LogRefused bus number fault
 log_status bus (AtLine LineLimit) = Limit Lines 1_000_001
 
 -- why the results of both logs' frames weren't planned

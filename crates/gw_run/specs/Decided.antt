@@ -1,7 +1,6 @@
 -- How a run ended, and what was told of it.
 use Rattle.std.specs.Prelude.{◌≡◌, ◌≢◌, ℕ, true, List}
 use Rattle.gw_depot.specs.Outside.{DepotState, SinkState}
-use Rattle.gw_run.specs.declared.status.Form.TheVariants.{Configuration, Line}
 use Rattle.gw_run.specs.declared.status.Status.{Status}
 use Rattle.gw_run.specs.declared.status.Status.TheVariants.{Ok, Accepted, Usage, ConfigRefused, LogRefused, Unbuilt, ReadFault, WriteFault, Memory, Limit}
 use Rattle.gw_run.specs.Causes.{IsCause, IsFault, IsNamed, LeavesFiles}
@@ -34,8 +33,7 @@ IsNameIn setup Accepted name = Unit {0}
 IsNameIn setup Usage name = Unit {0}
 IsNameIn setup (ConfigRefused cause) name = Unit {0}
 IsNameIn setup (LogRefused bus line fault) name = name ≡ (bus_numbered setup bus.0).interface
-IsNameIn setup (Unbuilt Configuration) name = Unit {0}
-IsNameIn setup (Unbuilt (Line bus number)) name = name ≡ (bus_numbered setup bus.0).interface
+IsNameIn setup (Unbuilt form) name = Unit {0}
 IsNameIn setup (ReadFault role) name = Unit {0}
 IsNameIn setup (WriteFault role) name = Unit {0}
 IsNameIn setup Memory name = Unit {0}

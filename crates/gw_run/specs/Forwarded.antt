@@ -18,7 +18,7 @@ use Rattle.gw_run.specs.declared.status.Status.{Status}
 use Rattle.gw_run.specs.declared.status.Status.TheVariants.{Ok, Accepted, Usage, ConfigRefused, LogRefused, Unbuilt, ReadFault, WriteFault, Memory, Limit}
 use Rattle.gw_run.specs.Config.{ReadsConfig}
 use Rattle.gw_run.specs.Frames.{greatest_tick}
-use Rattle.gw_run.specs.Log.{IsBuiltLog}
+use Rattle.gw_run.specs.Log.{IsLogOfBus}
 use Rattle.gw_run.specs.Output.{IsLogWhereDated, output_text}
 use Rattle.gw_run.specs.Played.{Told, account_of}
 use Rattle.gw_run.specs.Results.{HasBegun, HasResults}
@@ -29,10 +29,10 @@ use Rattle.gw_run.specs.Start.{IsStart, stamps_of}
 pub record HoldsLog (files : Files) (bus : Bus) (most count : ℕ) (frames : List Stamped) : Type 0 where
   pub content : List ℕ
   pub there : files bus.log ≡ Some content
-  pub built : IsBuiltLog bus content count frames
+  pub is_log : IsLogOfBus bus content count frames
   pub few : count ≤ most
 
--- both logs are built line by line, and have at most a million lines together
+-- each line of both logs is taken, and they have at most a million lines together
 pub record HoldsLogs (files : Files) (setup : Setup) (source destination : List Stamped) : Type 0 where
   pub source_lines : ℕ
   pub source_log : HoldsLog files setup.source 1_000_000 source_lines source
@@ -114,8 +114,8 @@ pub record Forwards (before after : Files) (config report : List ℕ) (summary :
   pub left : HasResults before after setup (output_text start setup.period setup.source.interface told.controls) (output_text start setup.period setup.destination.interface told.frames) report (report_text told.report)
   pub counted : Counts told.report summary
   -- each output can be read in one way only, as a log of just the frames that left
-  pub source_log : IsLogWhereDated start setup.period setup.source.interface told.controls
-  pub log : IsLogWhereDated start setup.period setup.destination.interface told.frames
+  pub source_log : IsLogWhereDated start setup.period setup.source.interface setup.source.fd told.controls
+  pub log : IsLogWhereDated start setup.period setup.destination.interface setup.destination.fd told.frames
 
 -- such a run has begun: the outputs and the report are beginnings of those that it leaves
 pub record BeginsToForward (before after : Files) (config report : List ℕ) : Type 0 where

@@ -1,5 +1,4 @@
 pub mod Answered
-pub mod Answers
 pub mod Causes
 pub mod Checked
 pub mod Config

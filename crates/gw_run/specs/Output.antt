@@ -1,5 +1,5 @@
 -- The lines of the frames that a bus sends.
-use Rattle.std.specs.Prelude.{◌≡◌, ℕ, ◌*◌, ◌^◌, ◌<◌, ◌≤◌, false, List, All, flat_map, map}
+use Rattle.std.specs.Prelude.{◌≡◌, ℕ, ◌*◌, ◌^◌, ◌<◌, ◌≤◌, Bool, false, ◌&&◌, not, List, All, flat_map, map}
 use Rattle.can_frame.specs.Frame.{IsLawful}
 use Rattle.candump_line.specs.Line.{entry_text, line_text}
 use Rattle.candump_line.specs.Reading.{ReadsBack}
@@ -25,11 +25,15 @@ pub record IsOneLine (start period : ℕ) (interface : List ℕ) (written : Writ
 abbrev pub AreDatedLines : (start period : ℕ) → List Written → Type 0
 AreDatedLines start period written = All (λ (w : Written). stamp_after start period w.tick < 2 ^ 32 * 10 ^ 6) written
 
--- a frame whose line can be read back: its stamp is below 2^32 seconds, and it is lawful and classic
-pub record IsReadable (start period : ℕ) (written : Written) : Type 0 where
+-- a bus without CAN FD has no FD frame
+abbrev pub IsOnBus : (fd : Bool) → Written → Type 0
+IsOnBus fd written = (written.frame.fd && not fd) ≡ false
+
+-- a frame whose line can be read back in the log of such a bus: its stamp is below 2^32 seconds, and it is lawful and one of the bus's
+pub record IsReadable (start period : ℕ) (fd : Bool) (written : Written) : Type 0 where
   pub dated : stamp_after start period written.tick < 2 ^ 32 * 10 ^ 6
   pub lawful : IsLawful written.frame
-  pub classic : written.frame.fd ≡ false
+  pub on_bus : IsOnBus fd written
   pub bytes : All (λ b. b < 256) written.frame.bytes
 
 -- the frames as a log has them, each with the stamp of its line
@@ -37,10 +41,10 @@ abbrev pub stamped_of : (start period : ℕ) → List Written → List Stamped
 stamped_of start period written = map (λ (w : Written). record { at = record { 0 = stamp_after start period w.tick }; frame = w.frame }) written
 
 -- the output is a log of just these frames
-abbrev pub IsLogOf : (start period : ℕ) → (interface : List ℕ) → List Written → Type 0
-IsLogOf start period interface written =
-    (lines : List (List ℕ)) × IsLog interface (λ frame. false) (output_text start period interface written) lines (stamped_of start period written)
+abbrev pub IsLogOf : (start period : ℕ) → (interface : List ℕ) → (fd : Bool) → List Written → Type 0
+IsLogOf start period interface fd written =
+    (lines : List (List ℕ)) × IsLog interface fd (output_text start period interface written) lines (stamped_of start period written)
 
 -- and so where the stamps are such as a line may have
-abbrev pub IsLogWhereDated : (start period : ℕ) → (interface : List ℕ) → List Written → Type 0
-IsLogWhereDated start period interface written = AreDatedLines start period written → IsLogOf start period interface written
+abbrev pub IsLogWhereDated : (start period : ℕ) → (interface : List ℕ) → (fd : Bool) → List Written → Type 0
+IsLogWhereDated start period interface fd written = AreDatedLines start period written → IsLogOf start period interface fd written

@@ -24,5 +24,5 @@ pub record IsPlan (setup : Setup) (source destination : List Stamped) (plan : Pl
   pub told : Told
   pub tells : Tells setup source destination start told
   pub prints : Prints start setup told plan
-  pub source_log : IsLogWhereDated start setup.period setup.source.interface told.controls
-  pub log : IsLogWhereDated start setup.period setup.destination.interface told.frames
+  pub source_log : IsLogWhereDated start setup.period setup.source.interface setup.source.fd told.controls
+  pub log : IsLogWhereDated start setup.period setup.destination.interface setup.destination.fd told.frames

@@ -10,7 +10,6 @@ use Rattle.tp_unit.specs.Box.{Answer, Written}
 use Rattle.gw_run.specs.Frames.{address_of, answers_for, in_ticks, seen_for}
 use Rattle.gw_run.specs.Works.{IsSerialRun, RunTold, Work, told_by}
 use Rattle.gw_run.specs.declared.machines.Machines.{Machines}
-use Rattle.gw_run.specs.declared.machines.TheConstants.{BUDGET, BUFFER_CELLS}
 
 -- what was sent on the two buses, and the report
 pub record Told : Type 0 where
@@ -33,7 +32,7 @@ sending_of m = record { set = m.tx; comes = address_of m.destination; bus = 1 }
 
 -- the run's plan: windows of one tick, and one group of one buffer
 abbrev pub plan_of : Machines → (last : ℕ) → Plan
-plan_of m last = record { receivers = receiving_of m ∷ []; senders = sending_of m ∷ []; budget = λ bus. BUDGET; groups = (BUFFER_CELLS ∷ []) ∷ []; window = 1; last = last }
+plan_of m last = record { receivers = receiving_of m ∷ []; senders = sending_of m ∷ []; budget = by_bus m.source_budget m.destination_budget 1; groups = (m.cells ∷ []) ∷ []; window = 1; last = last }
 
 -- what is told of the run: the frames of both logs, and what was sent and reported
 abbrev pub account_of : Machines → (start period last : ℕ) → (source destination : List Stamped) → Told → Account
@@ -73,7 +72,7 @@ destination_answers m start period frames = answers_for (address_of m.destinatio
 pub record Plays (m : Machines) (clock : Clock) (last : ℕ) (source destination : List Stamped) (told : Told) : Type 0 where
   pub ticks : List Work
   pub end : Work
-  pub run : IsSerialRun m.rx m.tx (BUFFER_CELLS ∷ []) last told.report.pool.changes told.report.pool.free ticks end
+  pub run : IsSerialRun m.rx m.tx (m.cells ∷ []) last told.report.pool.changes told.report.pool.free ticks end
   pub tells : told_by m.tx m.shape told.report.pool.changes told.report.pool.free ticks end ≡ told_with (source_seen m clock.start.0 clock.period source) (destination_answers m clock.start.0 clock.period destination) told
   pub clock_is : told.report.clock ≡ clock
   pub buffers : told.report.pool.buffers ≡ 1

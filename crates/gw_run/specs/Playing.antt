@@ -1,9 +1,7 @@
 -- How far a run over two logs has come: what came of them so far, and what is still to come.
-use Rattle.std.specs.Prelude.{◌≡◌, ◌⊎◌, ℕ, ◌+◌, ◌<◌, ◌≤◌, Bool, false, List, ◌++◌, length}
+use Rattle.std.specs.Prelude.{◌≡◌, ◌⊎◌, ℕ, ◌+◌, ◌<◌, ◌≤◌, Bool, false, List, [], ◌∷◌, ◌++◌, length}
 use Rattle.tp_unit.specs.Box.{Answer}
-use Rattle.std.specs.List.{AllByRecursion}
 use Rattle.tp_attempts.specs.Seen.{Seen}
-use Rattle.gw_run.specs.Answers.{IsPlainAnswer}
 use Rattle.gw_run.specs.Feed.{ComeWithin}
 use Rattle.gw_law.specs.Channels.{InTick}
 use Rattle.gw_law.specs.Plan.{Address}
@@ -22,36 +20,35 @@ pub record SourceSoFar (address : Address) (all : List Seen) (least last : ℕ) 
 pub record DestinationSoFar (address : Address) (all : List Answer) (least last : ℕ) (came : List Answer) (coming : List InTick) : Type 0 where
   pub all_is : came ++ answers_for address coming ≡ all
   pub within : ComeWithin least last coming
-  pub plain : AllByRecursion (λ (f : InTick). IsPlainAnswer address f.frame) coming
 
 -- a tick's work may begin on the source's bus
-abbrev pub MayWorkOnSource : Address → (tick : ℕ) → Gateway → List InTick → Type 0
-MayWorkOnSource address tick g coming =
-    (seen : List Seen) × (all : List Seen) × (answers : List Answer) × (last : ℕ) × SourceSoFar address all tick last seen coming × InSource g seen answers tick
+abbrev pub MayWorkOnSource : (sizes : List ℕ) → Address → (tick : ℕ) → Gateway → List InTick → Type 0
+MayWorkOnSource sizes address tick g coming =
+    (seen : List Seen) × (all : List Seen) × (answers : List Answer) × (last : ℕ) × SourceSoFar address all tick last seen coming × InSource sizes g seen answers tick
 
 -- a tick's work on the source's bus is done: its frames came
-abbrev pub WorksOnSource : Address → (tick : ℕ) → (old : Gateway) → (before : List InTick) → (new : Gateway) → (after : List InTick) → Type 0
-WorksOnSource address tick old before new after =
-    (seen all : List Seen) (answers : List Answer) (last : ℕ) → SourceSoFar address all tick last seen before → InSource old seen answers tick →
-    (now : List Seen) × SourceSoFar address all (tick + 1) last now after × InDestination new now answers tick
+abbrev pub WorksOnSource : (sizes : List ℕ) → Address → (tick : ℕ) → (old : Gateway) → (before : List InTick) → (new : Gateway) → (after : List InTick) → Type 0
+WorksOnSource sizes address tick old before new after =
+    (seen all : List Seen) (answers : List Answer) (last : ℕ) → SourceSoFar address all tick last seen before → InSource sizes old seen answers tick →
+    (now : List Seen) × SourceSoFar address all (tick + 1) last now after × InDestination sizes new now answers tick
 
 -- a tick's work may begin on the destination's bus
-abbrev pub MayWorkOnDestination : Address → (tick : ℕ) → Gateway → List InTick → Type 0
-MayWorkOnDestination address tick g coming =
-    (seen : List Seen) × (answers : List Answer) × (all : List Answer) × (last : ℕ) × DestinationSoFar address all tick last answers coming × InDestination g seen answers tick
+abbrev pub MayWorkOnDestination : (sizes : List ℕ) → Address → (tick : ℕ) → Gateway → List InTick → Type 0
+MayWorkOnDestination sizes address tick g coming =
+    (seen : List Seen) × (answers : List Answer) × (all : List Answer) × (last : ℕ) × DestinationSoFar address all tick last answers coming × InDestination sizes g seen answers tick
 
 -- a tick's work on the destination's bus is done: its flow controls came
-abbrev pub WorksOnDestination : Address → (tick : ℕ) → (old : Gateway) → (before : List InTick) → (new : Gateway) → (after : List InTick) → Type 0
-WorksOnDestination address tick old before new after =
-    (seen : List Seen) (answers all : List Answer) (last : ℕ) → DestinationSoFar address all tick last answers before → InDestination old seen answers tick →
-    (now : List Answer) × DestinationSoFar address all (tick + 1) last now after × AtBarrier new seen now (tick + 1)
+abbrev pub WorksOnDestination : (sizes : List ℕ) → Address → (tick : ℕ) → (old : Gateway) → (before : List InTick) → (new : Gateway) → (after : List InTick) → Type 0
+WorksOnDestination sizes address tick old before new after =
+    (seen : List Seen) (answers all : List Answer) (last : ℕ) → DestinationSoFar address all tick last answers before → InDestination sizes old seen answers tick →
+    (now : List Answer) × DestinationSoFar address all (tick + 1) last now after × AtBarrier sizes new seen now (tick + 1)
 
 -- between two ticks: the next one may be that tick, and what came and what is still to come from it on are all that the logs have for the channels
 pub record SoFar (g : Gateway) (m : Machines) (all : List Seen) (all_answers : List Answer) (tick last : ℕ) (source destination : List InTick) : Type 0 where
   pub seen : List Seen
   pub answers : List Answer
   pub next : ℕ
-  pub at : AtBarrier g seen answers next
+  pub at : AtBarrier (m.cells ∷ []) g seen answers next
   pub begun : next ≤ tick
   pub quiet : IsQuiet g ⊎ (tick ≡ next)
   pub machines : g.machines ≡ m

@@ -34,7 +34,6 @@ use Rattle.tp_unit.specs.declared.unit.Unit.{Unit as ProtocolUnit}
 use Rattle.gw_run.specs.Played.{Told, told_with}
 use Rattle.gw_run.specs.declared.gateway.Gateway.{Gateway}
 use Rattle.gw_run.specs.declared.machines.Machines.{Machines}
-use Rattle.gw_run.specs.declared.machines.TheConstants.{BUFFER_CELLS}
 
 -- what lies in a box
 abbrev pub lying : Option ProtocolUnit → Option Meaning
@@ -66,7 +65,7 @@ pub record RxStands (rx : RxSet) (shape : Shape) (tick : ℕ) (turns : List RxTu
   pub knows : Knows view receiver
   pub number : receiver.next_n ≤ length (came_by frames_in turns)
   pub now : now_of turns ≤ tick
-  pub waits : WaitsBy receiver.state tick
+  pub waits : WaitsBy receiver tick
   pub lies_is : lies ≡ control_after turns
   pub fits : FitsIn shape lies
   pub controls_are : controls ≡ controls_by shape turns
@@ -87,18 +86,18 @@ pub record TxStands (tx : TxSet) (tick : ℕ) (moments : List TxTurn) (view : Vi
   pub frames_are : frames ≡ left_by tx.shape moments
   pub dests_are : dests ≡ records_by moments
 
--- the pool after so many frames of the source channel: one take is used for each at most, and its moves are told
-pub record PoolStands (came : ℕ) (view : View) (hub : PlainHub) (moves : List Move) : Type 0 where
+-- the pool, with one group of buffers of these cells, after so many frames of the source channel: one take is used for each at most, and its moves are told
+pub record PoolStands (sizes : List ℕ) (came : ℕ) (view : View) (hub : PlainHub) (moves : List Move) : Type 0 where
   pub view_is : view_in hub ≡ view
-  pub groups : groups_in hub ≡ (BUFFER_CELLS ∷ []) ∷ []
+  pub groups : groups_in hub ≡ sizes ∷ []
   pub takes : 1000000 ≤ came + hub.takes
   pub moves_are : moves ≡ map move_of view.changes
 
 -- the gateway after these turns and moments, the last of them no later than the tick
-pub record Stands (g : Gateway) (tick : ℕ) (turns : List RxTurn) (moments : List TxTurn) (view : View) : Type 0 where
+pub record Stands (sizes : List ℕ) (g : Gateway) (tick : ℕ) (turns : List RxTurn) (moments : List TxTurn) (view : View) : Type 0 where
   pub receives : RxStands g.machines.rx g.machines.shape tick turns view g.receiver (lying g.control) g.controls g.sessions
   pub sends : TxStands g.machines.tx tick moments view g.sender (lying g.frame) g.frames g.dests
-  pub pool : PoolStands (length (came_by frames_in turns)) view g.hub g.moves
+  pub pool : PoolStands sizes (length (came_by frames_in turns)) view g.hub g.moves
 
 -- nothing is received and nothing is sent
 pub record IsQuiet (g : Gateway) : Type 0 where
@@ -106,52 +105,52 @@ pub record IsQuiet (g : Gateway) : Type 0 where
   pub sender : (sender_state g.sender).live ≡ None
 
 -- between two ticks: these frames and flow controls came so far, and the next tick is this one or, where nothing goes on, any later one
-pub record AtBarrier (g : Gateway) (seen : List Seen) (answers : List Answer) (next : ℕ) : Type 0 where
+pub record AtBarrier (sizes : List ℕ) (g : Gateway) (seen : List Seen) (answers : List Answer) (next : ℕ) : Type 0 where
   pub works : List Work
-  pub ticks : AreTicks (BUFFER_CELLS ∷ []) works
+  pub ticks : AreTicks sizes works
   pub next_is : tick_after works ≡ next
-  pub stands : Stands g (next - 1) (turns_of works) (moments_of works) (view_of works)
+  pub stands : Stands sizes g (next - 1) (turns_of works) (moments_of works) (view_of works)
   pub clear : clear_from (moments_of works) ≤ next
   pub seen_is : came_by frames_in (turns_of works) ≡ seen
   pub answers_is : came_by controls_in (moments_of works) ≡ answers
 
 -- at the source's part of a tick's work: these turns are those of its frames that came so far
-pub record InSource (g : Gateway) (seen : List Seen) (answers : List Answer) (tick : ℕ) : Type 0 where
+pub record InSource (sizes : List ℕ) (g : Gateway) (seen : List Seen) (answers : List Answer) (tick : ℕ) : Type 0 where
   pub earlier : List Work
   pub turns : List RxTurn
-  pub ticks : AreTicks (BUFFER_CELLS ∷ []) earlier
+  pub ticks : AreTicks sizes earlier
   pub later : tick_after earlier ≤ tick
   pub next : IsIdle earlier ⊎ (tick ≡ tick_after earlier)
   pub came : AllByRecursion (λ (turn : RxTurn). CameIn tick turn.event turn.did.tick) turns
-  pub looks : AreFreshTurns ((BUFFER_CELLS ∷ []) ∷ []) (view_of earlier) turns
-  pub stands : Stands g tick (turns ++ turns_of earlier) (moments_of earlier) (grows (calls_by turns) (view_of earlier))
+  pub looks : AreFreshTurns (sizes ∷ []) (view_of earlier) turns
+  pub stands : Stands sizes g tick (turns ++ turns_of earlier) (moments_of earlier) (grows (calls_by turns) (view_of earlier))
   pub clear : clear_from (moments_of earlier) ≤ tick
   pub seen_is : came_by frames_in (turns ++ turns_of earlier) ≡ seen
   pub answers_is : came_by controls_in (moments_of earlier) ≡ answers
 
 -- at the destination's part of a tick's work: these moments are those of the flow controls that came so far
-pub record InDestination (g : Gateway) (seen : List Seen) (answers : List Answer) (tick : ℕ) : Type 0 where
+pub record InDestination (sizes : List ℕ) (g : Gateway) (seen : List Seen) (answers : List Answer) (tick : ℕ) : Type 0 where
   pub earlier : List Work
   pub turns : List RxTurn
   pub moments : List TxTurn
-  pub ticks : AreTicks (BUFFER_CELLS ∷ []) earlier
+  pub ticks : AreTicks sizes earlier
   pub later : tick_after earlier ≤ tick
   pub next : IsIdle earlier ⊎ (tick ≡ tick_after earlier)
   pub receives : ReceivesIn tick (turns_of earlier) turns
-  pub looks : AreFreshTurns ((BUFFER_CELLS ∷ []) ∷ []) (view_of earlier) turns
-  pub between : IsJoint (BUFFER_CELLS ∷ []) (grows (calls_by turns) (view_of earlier))
+  pub looks : AreFreshTurns (sizes ∷ []) (view_of earlier) turns
+  pub between : IsJoint sizes (grows (calls_by turns) (view_of earlier))
   pub only : AllByRecursion (IsAnswerIn tick) moments
-  pub sees : AreFreshTurns ((BUFFER_CELLS ∷ []) ∷ []) (grows (calls_by turns) (view_of earlier)) moments
-  pub stands : Stands g tick (turns ++ turns_of earlier) (moments ++ moments_of earlier) (grows (calls_by moments) (grows (calls_by turns) (view_of earlier)))
+  pub sees : AreFreshTurns (sizes ∷ []) (grows (calls_by turns) (view_of earlier)) moments
+  pub stands : Stands sizes g tick (turns ++ turns_of earlier) (moments ++ moments_of earlier) (grows (calls_by moments) (grows (calls_by turns) (view_of earlier)))
   pub clear : clear_from (moments ++ moments_of earlier) ≤ tick
   pub seen_is : came_by frames_in (turns ++ turns_of earlier) ≡ seen
   pub answers_is : came_by controls_in (moments ++ moments_of earlier) ≡ answers
 
 -- the run is over, these frames and flow controls came in it, and this is what it tells
-pub record Finishes (m : Machines) (clock : Clock) (last : ℕ) (seen : List Seen) (answers : List Answer) (told : Told) : Type 0 where
+pub record Finishes (sizes : List ℕ) (m : Machines) (clock : Clock) (last : ℕ) (seen : List Seen) (answers : List Answer) (told : Told) : Type 0 where
   pub ticks : List Work
   pub end : Work
-  pub run : IsSerialRun m.rx m.tx (BUFFER_CELLS ∷ []) last told.report.pool.changes told.report.pool.free ticks end
+  pub run : IsSerialRun m.rx m.tx sizes last told.report.pool.changes told.report.pool.free ticks end
   pub tells : told_by m.tx m.shape told.report.pool.changes told.report.pool.free ticks end ≡ told_with seen answers told
   pub clock_is : told.report.clock ≡ clock
   pub buffers : told.report.pool.buffers ≡ 1

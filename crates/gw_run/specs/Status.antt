@@ -2,7 +2,7 @@
 use Rattle.std.specs.Prelude.{ℕ, Bool, true, false, List, ◌++◌, decimal, codes}
 use Rattle.gw_run.specs.declared.status.Summary.{Summary}
 use Rattle.gw_run.specs.declared.status.Form.{Form}
-use Rattle.gw_run.specs.declared.status.Form.TheVariants.{Configuration, Line}
+use Rattle.gw_run.specs.declared.status.Form.TheVariants.{Configuration}
 use Rattle.gw_run.specs.declared.status.FileRole.{FileRole}
 use Rattle.gw_run.specs.declared.status.FileRole.TheVariants.{Config, Log, Out, Report, Say}
 use Rattle.candump_line.specs.Fault.{cause_text}
@@ -45,10 +45,9 @@ abbrev pub summary_text : Summary → List ℕ
 summary_text summary =
     decimal summary.sessions ++ codes " " ++ decimal summary.whole ++ codes " " ++ decimal summary.dests ++ codes " " ++ decimal summary.sent ++ codes " " ++ decimal summary.moves
 
--- the configuration, or a line of the log of the bus with that name
-abbrev pub form_text : (name : List ℕ) → Form → List ℕ
-form_text name Configuration = codes "configuration"
-form_text name (Line bus line) = codes "log " ++ name ++ codes " line " ++ decimal line
+-- what isn't built yet
+abbrev pub form_text : Form → List ℕ
+form_text Configuration = codes "configuration"
 
 -- a file's role, with the number of its bus
 abbrev pub role_text : FileRole → List ℕ
@@ -76,4 +75,4 @@ status_text name (ReadFault role) = codes "read " ++ role_text role
 status_text name (WriteFault role) = codes "write " ++ role_text role
 status_text name Memory = codes "memory"
 status_text name (Limit which value) = codes "limit " ++ which_text which ++ codes " " ++ decimal value
-status_text name (Unbuilt form) = codes "unbuilt " ++ form_text name form
+status_text name (Unbuilt form) = codes "unbuilt " ++ form_text form

@@ -37,7 +37,7 @@ means_in hub = hub_means (groups_in hub) hub.takes
 pub record CanTell (receiver : Receiver) (hub : PlainHub) (event : RxEvent) (tick : ℕ) : Type 0 where
   pub acts : ActsFor receiver.set (means_in hub)
   pub knows : Knows (view_in hub) receiver
-  pub waits : WaitsBy receiver.state tick
+  pub waits : WaitsBy receiver tick
   pub can : CanTake receiver.set (means_in hub) receiver.next_n event
 
 -- a step of the receiver over the hub
@@ -49,7 +49,7 @@ pub record RxStepped (receiver : Receiver) (hub : PlainHub) (next : Receiver) (l
   pub set : next.set ≡ receiver.set
   pub state : receiver_state next ≡ did.new
   pub knows : Knows (view_in later) next
-  pub waits : WaitsBy next.state tick
+  pub waits : WaitsBy next tick
   pub number : next.next_n ≤ receiver.next_n + takes_for event
   pub readings : (view_in later).readings ≡ (view_in hub).readings
   pub groups : groups_in later ≡ groups_in hub
@@ -112,10 +112,10 @@ LeavesFrame None g h tick = h ≡ g
 LeavesFrame (Some meaning) g h tick = TellsSender g h Left tick None (g.frames ++ written_of g.machines.tx.shape tick (Some meaning))
 
 -- the sender was told of the run's end, perhaps many times, and all stands
-pub record EndsTelling (h : Gateway) (last : ℕ) (turns : List RxTurn) (moments : List TxTurn) (view : View) : Type 0 where
+pub record EndsTelling (sizes : List ℕ) (h : Gateway) (last : ℕ) (turns : List RxTurn) (moments : List TxTurn) (view : View) : Type 0 where
   pub more : List TxTurn
   pub only : AllByRecursion (IsStepIn last RunEnd) more
-  pub stands : Stands h last turns (more ++ moments) (grows (calls_by more) view)
+  pub stands : Stands sizes h last turns (more ++ moments) (grows (calls_by more) view)
 
 -- nothing is sent any more, and each session that was entered was joined
 pub record IsOver (h : Gateway) : Type 0 where

@@ -1,35 +1,26 @@
 //! A run of a configuration that is built: logs are read, results are planned, and then written.
 ghost use Rattle.std.specs.Prelude.{◌≡◌, ◌≢◌, ℕ, List, true, Some};
 ghost use Rattle.gw_depot.specs.Files.{IsName};
-ghost use Rattle.gw_run.specs.Causes.{IsCause, IsFault, IsSetup, LeavesFiles, line_status, log_status};
+ghost use Rattle.gw_run.specs.Causes.{IsCause, IsFault, IsSetup, LeavesFiles, log_status};
 ghost use Rattle.gw_run.specs.Forwarded.{Forwards, IfDone, IsConfigured};
 ghost use Rattle.gw_run.specs.Results.{bus_numbered};
 ghost use Rattle.gw_run.specs.Decided.{IsNameIn, IsToldOf};
 
 use crate::config::{NamedFiles, read_checked};
+use crate::form::built;
 use crate::plan::plan_results;
 use crate::results::write_results;
 use crate::say::tell;
-use crate::setup::{DESTINATION, SOURCE, Setup, built};
+use crate::setup::{DESTINATION, SOURCE, Setup};
 use crate::status::{FileRole, Form, Status, Which};
 use crate::words::RunFiles;
-use candump_log::{LineRefusal, LineStop, LogStop, read_log};
+use candump_log::{LineStop, LogStop, read_log};
 use gw_base::BusNo;
 use gw_depot::{Depot, Sink};
 use std::alloc::Global;
 
 /// The most lines of all logs together.
 const MOST_LINES: u32 = 1_000_000;
-
-/// What is answered where a line of a bus's log isn't taken.
-fn refused_line(bus: BusNo, line: u32, refusal: LineRefusal) -> Status
-    ensures { result ≡ line_status bus line refusal }
-{
-    match refusal {
-        LineRefusal::Unsupported => Status::Unbuilt(Form::Line { bus, line }),
-        LineRefusal::Bad(fault) => Status::LogRefused { bus, line, fault },
-    }
-}
 
 /// What is answered where a bus's log wasn't read to its end.
 fn refused_log(bus: BusNo, stop: LogStop) -> Status
@@ -38,7 +29,7 @@ fn refused_log(bus: BusNo, stop: LogStop) -> Status
     match stop {
         LogStop::Fault => Status::ReadFault(FileRole::Log(bus)),
         LogStop::Line(LineStop::Memory) => Status::Memory,
-        LogStop::Line(LineStop::Refused { line, refusal }) => refused_line(bus, line, refusal),
+        LogStop::Line(LineStop::Refused { line, fault }) => Status::LogRefused { bus, line, fault },
         LogStop::Line(LineStop::Limit) => Status::Limit {
             which: Which::Lines,
             value: u64::from(MOST_LINES) + 1,
@@ -93,8 +84,7 @@ fn name_in<'a>(setup: &'a Setup<'_>, status: Status) -> &'a str
     ensures { IsNameIn setup.now status result.now }
 {
     match status {
-        Status::Unbuilt(Form::Line { bus, line: _ })
-        | Status::LogRefused {
+        Status::LogRefused {
             bus,
             line: _,
             fault: _,

@@ -7,7 +7,6 @@ ghost use Rattle.std.specs.Bool.{MatchBool};
 ghost use Rattle.hub_core.specs.View.{View};
 ghost use Rattle.tp_attempts.specs.Seen.{Seen};
 ghost use Rattle.tp_sender.specs.declared.event.TxEvent.TheVariants.{Left, RunEnd};
-ghost use Rattle.gw_run.specs.Answers.{IsPlainControl};
 ghost use Rattle.gw_law.specs.Channels.{answer_in, bytes_of_address};
 ghost use Rattle.gw_run.specs.Frames.{address_of, seen_by, unit_for};
 ghost use Rattle.gw_run.specs.Standing.{AtBarrier, Finishes, FitsIn, InDestination, InSource, IsQuiet, Lies, Stands, lying};
@@ -15,7 +14,7 @@ ghost use Rattle.gw_run.specs.Telling.{CanTell, CanTellSender, EndsTelling, IsOv
 
 use crate::address::Address;
 use crate::boxes::{leave, put};
-use crate::machines::{BUFFER_CELLS, Machines};
+use crate::machines::Machines;
 use crate::notes::{note, note_all};
 use crate::played::{Played, Sent};
 use can_frame::Frame;
@@ -61,11 +60,11 @@ impl Gateway {
     /// A gateway at the barrier before tick 0.
     pub(crate) fn new(alloc: Global, machines: &Machines) -> Result<Gateway, Memory>
         ensures machines { IfOk result (λ g. g.machines ≡ machines.now) }
-        ensures barrier { IfOk result (λ g. AtBarrier g [] [] 0) }
+        ensures barrier { IfOk result (λ g. AtBarrier (machines.now.cells ∷ []) g [] [] 0) }
     {
         Ok(Gateway {
             machines: *machines,
-            hub: PlainHub::new(alloc, &[BUFFER_CELLS], &[1])?,
+            hub: PlainHub::new(alloc, &[machines.cells], &[1])?,
             receiver: Receiver::new(machines.rx),
             control: None,
             sender: Sender::new(machines.tx),
@@ -102,9 +101,9 @@ impl Gateway {
         frame: &Frame,
     ) -> Result<(), Memory>
         requires address { self.old.machines.rx.a ≡ bytes_of_address address.byte }
-        requires at { (seen : List Seen) × (answers : List Answer) × (length seen < 1_000_000) × InSource self.old seen answers tick.0 }
+        requires at { (seen : List Seen) × (answers : List Answer) × (length seen < 1_000_000) × (sizes : List ℕ) × InSource sizes self.old seen answers tick.0 }
         ensures machines { OnOk result (self.new.machines ≡ self.old.machines) }
-        ensures step { OnOk result ((seen : List Seen) (answers : List Answer) → InSource self.old seen answers tick.0 → InSource self.new (seen ++ seen_by (address_of address) tick.0 frame.now ∷ []) answers tick.0) }
+        ensures step { OnOk result ((sizes : List ℕ) (seen : List Seen) (answers : List Answer) → InSource sizes self.old seen answers tick.0 → InSource sizes self.new (seen ++ seen_by (address_of address) tick.0 frame.now ∷ []) answers tick.0) }
     {
         let event = RxEvent::Unit {
             unit: address.unit(frame),
@@ -116,9 +115,9 @@ impl Gateway {
 
     /// The end of the source's part of a tick: the receiver's timer, and the flow control in its box leaves.
     pub(crate) fn end_source(&mut self, tick: Tick) -> Result<(), Memory>
-        requires { (seen : List Seen) × (answers : List Answer) × InSource self.old seen answers tick.0 }
+        requires { (seen : List Seen) × (answers : List Answer) × (sizes : List ℕ) × InSource sizes self.old seen answers tick.0 }
         ensures machines { OnOk result (self.new.machines ≡ self.old.machines) }
-        ensures step { OnOk result ((seen : List Seen) (answers : List Answer) → InSource self.old seen answers tick.0 → InDestination self.new seen answers tick.0) }
+        ensures step { OnOk result ((sizes : List ℕ) (seen : List Seen) (answers : List Answer) → InSource sizes self.old seen answers tick.0 → InDestination sizes self.new seen answers tick.0) }
     {
         self.tell_receiver(RxEvent::Timer, tick)?;
         self.leave_control(tick)?;
@@ -132,11 +131,10 @@ impl Gateway {
         address: Address,
         frame: &Frame,
     ) -> Result<(), Memory>
-        requires plain { IsPlainControl (unit_for (address_of address) frame.now) }
         requires tick { tick.0 ≤ 10_000_000 }
-        requires at { (seen : List Seen) × (answers : List Answer) × InDestination self.old seen answers tick.0 }
+        requires at { (seen : List Seen) × (answers : List Answer) × (sizes : List ℕ) × InDestination sizes self.old seen answers tick.0 }
         ensures machines { OnOk result (self.new.machines ≡ self.old.machines) }
-        ensures step { OnOk result ((seen : List Seen) (answers : List Answer) → InDestination self.old seen answers tick.0 → InDestination self.new seen (answers ++ answer_in tick.0 (unit_for (address_of address) frame.now)) tick.0) }
+        ensures step { OnOk result ((sizes : List ℕ) (seen : List Seen) (answers : List Answer) → InDestination sizes self.old seen answers tick.0 → InDestination sizes self.new seen (answers ++ answer_in tick.0 (unit_for (address_of address) frame.now)) tick.0) }
     {
         match address.unit(frame) {
             Unit::Fc { fs, bs, st } => {
@@ -150,9 +148,9 @@ impl Gateway {
     /// The end of a tick: the sender's turn, and the frame in its box leaves.
     pub(crate) fn end_destination(&mut self, tick: Tick) -> Result<(), Memory>
         requires tick { tick.0 ≤ 10_000_000 }
-        requires at { (seen : List Seen) × (answers : List Answer) × InDestination self.old seen answers tick.0 }
+        requires at { (seen : List Seen) × (answers : List Answer) × (sizes : List ℕ) × InDestination sizes self.old seen answers tick.0 }
         ensures machines { OnOk result (self.new.machines ≡ self.old.machines) }
-        ensures step { OnOk result ((seen : List Seen) (answers : List Answer) → InDestination self.old seen answers tick.0 → AtBarrier self.new seen answers (tick.0 + 1)) }
+        ensures step { OnOk result ((sizes : List ℕ) (seen : List Seen) (answers : List Answer) → InDestination sizes self.old seen answers tick.0 → AtBarrier sizes self.new seen answers (tick.0 + 1)) }
     {
         self.tell_sender(TxEvent::Turn, tick)?;
         self.leave_frame(tick)?;
@@ -167,8 +165,8 @@ impl Gateway {
         last: Tick,
     ) -> Result<Played, Memory>
         requires tick { last.0 ≤ 10_000_000 }
-        requires at { (seen : List Seen) × (answers : List Answer) × (next : ℕ) × (next ≤ last.0 + 1) × (IsQuiet self ⊎ (next ≡ last.0 + 1)) × AtBarrier self seen answers next }
-        ensures { IfOk result (λ told. (seen : List Seen) (answers : List Answer) (next : ℕ) → next ≤ last.0 + 1 → IsQuiet self ⊎ (next ≡ last.0 + 1) → AtBarrier self seen answers next → Finishes self.machines clock.now last.0 seen answers told) }
+        requires at { (seen : List Seen) × (answers : List Answer) × (next : ℕ) × (next ≤ last.0 + 1) × (IsQuiet self ⊎ (next ≡ last.0 + 1)) × (sizes : List ℕ) × AtBarrier sizes self seen answers next }
+        ensures { IfOk result (λ told. (sizes : List ℕ) (seen : List Seen) (answers : List Answer) (next : ℕ) → next ≤ last.0 + 1 → IsQuiet self ⊎ (next ≡ last.0 + 1) → AtBarrier sizes self seen answers next → Finishes sizes self.machines clock.now last.0 seen answers told) }
     {
         self.tell_receiver(RxEvent::RunEnd, last)?;
         self.end_sender(last)?;
@@ -249,9 +247,9 @@ impl Gateway {
     /// The sender is told of the run's end until it makes no record.
     fn end_sender(&mut self, last: Tick) -> Result<(), Memory>
         requires tick { last.0 ≤ 10_000_000 }
-        requires at { (turns : List RxTurn) × (moments : List TxTurn) × (view : View) × Stands self.old last.0 turns moments view }
+        requires at { (turns : List RxTurn) × (moments : List TxTurn) × (view : View) × (sizes : List ℕ) × Stands sizes self.old last.0 turns moments view }
         ensures machines { OnOk result (self.new.machines ≡ self.old.machines) }
-        ensures ends { OnOk result ((turns : List RxTurn) (moments : List TxTurn) (view : View) → Stands self.old last.0 turns moments view → EndsTelling self.new last.0 turns moments view) }
+        ensures ends { OnOk result ((sizes : List ℕ) (turns : List RxTurn) (moments : List TxTurn) (view : View) → Stands sizes self.old last.0 turns moments view → EndsTelling sizes self.new last.0 turns moments view) }
         ensures over { OnOk result (IsOver self.new) }
     {
         while self.end_once(last)? {}

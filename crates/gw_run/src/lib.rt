@@ -7,6 +7,7 @@ mod check;
 mod config;
 mod feed;
 mod files;
+mod form;
 mod forward;
 mod gate;
 mod gateway;

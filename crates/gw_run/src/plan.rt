@@ -4,7 +4,6 @@ ghost use Rattle.gw_run.specs.Causes.{StopsPlan};
 ghost use Rattle.candump_log.specs.Dated.{AreDated};
 ghost use Rattle.gw_run.specs.Forwarded.{Counts, is_sent, is_whole};
 ghost use Rattle.gw_run.specs.Plan.{IsPlan, Prints};
-ghost use Rattle.gw_run.specs.Setup.{IsBuiltFrame};
 
 use crate::output::output_text;
 use crate::play::play;
@@ -118,8 +117,6 @@ pub(crate) fn plan_results(
     requires few { length source.now + length destination.now ≤ 1_000_000 }
     requires source { AreDated source.now }
     requires destination { AreDated destination.now }
-    requires units { All (λ s. IsBuiltFrame setup.now.source.side s.frame) source.now }
-    requires answers { All (λ s. IsBuiltFrame setup.now.destination.side s.frame) destination.now }
     ensures planned { IfOk result (IsPlan setup.now source.now destination.now) }
     ensures refused { IfErr result (StopsPlan setup.now source.now destination.now) }
 {

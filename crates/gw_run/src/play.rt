@@ -1,6 +1,5 @@
 //! A run over the frames of two logs, tick by tick.
-ghost use Rattle.std.specs.Prelude.{◌≡◌, ◌≤◌, ◌<◌, ◌+◌, length, All, IfOk, OnOk};
-ghost use Rattle.gw_run.specs.Answers.{IsPlainAnswer};
+ghost use Rattle.std.specs.Prelude.{◌≡◌, ◌≤◌, ◌<◌, ◌+◌, List, ℕ, length, IfOk, OnOk};
 ghost use Rattle.gw_run.specs.Feed.{ComeWithin};
 ghost use Rattle.gw_law.specs.Channels.{bytes_of_address};
 ghost use Rattle.gw_run.specs.Frames.{address_of, greatest_tick};
@@ -25,9 +24,9 @@ fn work_on_source(
     coming: &mut Feed,
 ) -> Result<(), Memory>
     requires address { gateway.old.machines.rx.a ≡ bytes_of_address address.byte }
-    requires at { MayWorkOnSource (address_of address) tick.0 gateway.old coming.old }
+    requires at { (sizes : List ℕ) × MayWorkOnSource sizes (address_of address) tick.0 gateway.old coming.old }
     ensures machines { OnOk result (gateway.new.machines ≡ gateway.old.machines) }
-    ensures works { OnOk result (WorksOnSource (address_of address) tick.0 gateway.old coming.old gateway.new coming.new) }
+    ensures works { OnOk result ((sizes : List ℕ) → WorksOnSource sizes (address_of address) tick.0 gateway.old coming.old gateway.new coming.new) }
 {
     while let Some(frame) = coming.take_by(tick) {
         if address.is_of(frame) {
@@ -45,9 +44,9 @@ fn work_on_destination(
     coming: &mut Feed,
 ) -> Result<(), Memory>
     requires limit { tick.0 ≤ 10_000_000 }
-    requires at { MayWorkOnDestination (address_of address) tick.0 gateway.old coming.old }
+    requires at { (sizes : List ℕ) × MayWorkOnDestination sizes (address_of address) tick.0 gateway.old coming.old }
     ensures machines { OnOk result (gateway.new.machines ≡ gateway.old.machines) }
-    ensures works { OnOk result (WorksOnDestination (address_of address) tick.0 gateway.old coming.old gateway.new coming.new) }
+    ensures works { OnOk result ((sizes : List ℕ) → WorksOnDestination sizes (address_of address) tick.0 gateway.old coming.old gateway.new coming.new) }
 {
     while let Some(frame) = coming.take_by(tick) {
         if address.is_of(frame) {
@@ -73,8 +72,6 @@ fn next_tick(live: bool, tick: Tick, last: Tick, source: &Feed, destination: &Fe
 }
 
 /// Runs the machines over both logs' frames, from tick 0 to the last one, which no frame's tick is above.
-///
-/// The flow controls of the destination's channel have status, block size and separation time 0.
 pub(crate) fn play(
     alloc: Global,
     machines: &Machines,
@@ -87,7 +84,6 @@ pub(crate) fn play(
     requires source { greatest_tick clock.now.start.0 clock.now.period source.now ≤ last.0 }
     requires destination { greatest_tick clock.now.start.0 clock.now.period destination.now ≤ last.0 }
     requires limit { last.0 < 10_000_000 }
-    requires answers { All (λ s. IsPlainAnswer (address_of machines.now.destination) s.frame) destination.now }
     ensures { IfOk result (Plays machines.now clock.now last.0 source.now destination.now) }
 {
     let mut gateway = Gateway::new(alloc, machines)?;

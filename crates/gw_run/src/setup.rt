@@ -1,42 +1,23 @@
-//! What a configuration that is built leaves free: names, files, the channels' addresses and filling, the period, the linger and the timers.
-ghost use Rattle.std.specs.Prelude.{◌≡◌, ◌≢◌, ◌≤◌, List, ℕ, true, MatchBool, MatchOption};
+//! What a run takes from its configuration: the two buses, the two channels, the path, the buffer, and the times.
+ghost use Rattle.std.specs.Prelude.{◌≡◌, List, ℕ, true};
 ghost use Rattle.std.specs.List.{list_all};
-ghost use Rattle.gw_config.specs.Config.{Configuration};
 ghost use Rattle.gw_config.specs.Lawful.{IsLawfulChannel};
 ghost use Rattle.gw_config.specs.Texts.{is_name_byte};
-ghost use Rattle.gw_law.specs.Channels.{bytes_of_address};
-ghost use Rattle.receiver_law.specs.ReceptionCauses.{most_short};
-ghost use Rattle.gw_run.specs.Frames.{address_of, unit_for};
-ghost use Rattle.gw_run.specs.Setup.{IsBaseBus, IsBaseChannel, IsBasePath, IsBuiltConfig, HasBaseNumbers, HasBaseTop, comes_to, is_long_start, is_other_control, is_unbuilt_frame, setup_of, shape_of};
-ghost use Rattle.gw_run.specs.Setup.{Bus as BusOfRun, Setup as SetupOfRun};
+ghost use Rattle.gw_run.specs.Setup.{bus_of, comes_to, shape_of};
 
 use crate::address::Address;
-use crate::files::are_same;
-use crate::machines::{BUDGET, BUFFER_CELLS, Machines};
-use can_frame::Frame;
+use crate::machines::Machines;
 use candump_log::LogSource;
 use gw_base::{BusNo, ChanNo, DestNo, GroupNo, PathNo};
-use gw_config::{BusKeys, ChannelKeys, Config, Mode, PathKeys};
+use gw_config::{BusKeys, ChannelKeys, PathKeys};
 use std::marker::Model;
 use std::str;
 use tp_receiver::RxSet;
 use tp_sender::TxSet;
-use tp_unit::{Shape, Unit};
+use tp_unit::Shape;
 
 /// The most bytes of a classic frame.
 const CLASSIC_BYTES: u8 = 8;
-
-/// The most waits in a row, by default.
-const MOST_WAITS: u8 = 16;
-
-/// The bytes of a message in a first frame of a channel without an address byte.
-const FIRST_FRAME_BYTES: u32 = 6;
-
-/// The most bytes of a message in a consecutive frame of such a channel.
-const CONSECUTIVE_FRAME_BYTES: u32 = 7;
-
-/// The consecutive frames whose bytes have a cell of the buffer, after the first frame's.
-const CONSECUTIVE_FRAMES: u32 = 3;
 
 /// The number of the source channel's bus.
 pub(crate) const SOURCE: BusNo = BusNo(0);
@@ -44,66 +25,15 @@ pub(crate) const SOURCE: BusNo = BusNo(0);
 /// The number of the destination's bus.
 pub(crate) const DESTINATION: BusNo = BusNo(1);
 
-/// The channel on a bus, by the frames that it receives.
-#[derive(Clone, Copy, Debug, PartialEq, Eq)]
-pub(crate) enum Side {
-    /// The source channel, and whether it is addressed functionally.
-    Source { address: Address, functional: bool },
-    /// The destination's channel.
-    Destination(Address),
-}
-
-/// The most bytes of a message whose frames have so many address bytes, that the buffer's cells carry.
-fn most_bytes(address: u32) -> u32
-    requires { address ≤ 1 }
-    ensures { result ≡ most_short address }
-{
-    FIRST_FRAME_BYTES - address + CONSECUTIVE_FRAMES * (CONSECUTIVE_FRAME_BYTES - address)
-}
-
-/// Whether the frame, which is of that address, starts a message of more bytes than the buffer's cells carry.
-fn is_long_start(functional: bool, address: Address, frame: &Frame) -> bool
-    ensures { result ≡ is_long_start functional (bytes_of_address address.byte) (unit_for (address_of address) frame.now) }
-{
-    match address.unit(frame) {
-        Unit::Ff { len, bytes: _ } => !functional && len > most_bytes(u32::from(address.size())),
-        Unit::Sf { .. } | Unit::Cf { .. } | Unit::Fc { .. } | Unit::Ignored(_) => false,
-    }
-}
-
-/// Whether the frame, which is of that address, is a flow control that doesn't let everything come at once.
-fn is_other_control(address: Address, frame: &Frame) -> bool
-    ensures { result ≡ is_other_control (unit_for (address_of address) frame.now) }
-{
-    match address.unit(frame) {
-        Unit::Fc { fs, bs, st } => !(fs == 0 && bs == 0 && st == 0),
-        Unit::Sf { .. } | Unit::Ff { .. } | Unit::Cf { .. } | Unit::Ignored(_) => false,
-    }
-}
-
-impl Side {
-    /// Whether the frame isn't built: one of the channel's, and the start of a long message, or a flow control that
-    /// doesn't let everything come at once.
-    pub(crate) fn is_unbuilt(self, frame: &Frame) -> bool
-        ensures { result ≡ is_unbuilt_frame self frame.now }
-    {
-        match self {
-            Side::Source {
-                address,
-                functional,
-            } => address.is_of(frame) && is_long_start(functional, address, frame),
-            Side::Destination(address) => address.is_of(frame) && is_other_control(address, frame),
-        }
-    }
-}
-
 /// A bus of a run.
 #[derive(Debug, Drop)]
 pub(crate) struct Bus<'a> {
     interface: &'a str,
     log: &'a str,
     out: &'a str,
-    side: Side,
+    fd: bool,
+    brs: bool,
+    budget: u8,
 }
 
 impl<'a> Model for Bus<'a> {
@@ -111,9 +41,9 @@ impl<'a> Model for Bus<'a> {
 
     ghost Value = { BusOfRun };
 
-    ghost view = { λ bus. record { interface = bus.interface.now; log = bus.log.now; out = bus.out.now; side = bus.side } };
+    ghost view = { λ bus. record { interface = bus.interface.now; log = bus.log.now; out = bus.out.now; fd = bus.fd; brs = bus.brs; budget = bus.budget } };
 
-    ghost invariant = { λ bus. IsBus (record { interface = bus.interface.now; log = bus.log.now; out = bus.out.now; side = bus.side }) };
+    ghost invariant = { λ bus. IsBus (record { interface = bus.interface.now; log = bus.log.now; out = bus.out.now; fd = bus.fd; brs = bus.brs; budget = bus.budget }) };
 }
 
 impl Bus<'_> {
@@ -158,8 +88,8 @@ impl LogSource for Bus<'_> {
         self.interface.as_bytes()
     }
 
-    fn is_unsupported(&self, frame: &Frame) -> bool {
-        self.side.is_unbuilt(frame)
+    fn is_fd(&self) -> bool {
+        self.fd
     }
 }
 
@@ -175,26 +105,30 @@ fn text_of(name: &[u8]) -> &str
 }
 
 /// The bus that these keys configure.
-fn bus_of<'a>(keys: &'a BusKeys, side: Side) -> Bus<'a>
-    ensures { result ≡ record { interface = keys.now.name; log = keys.now.log; out = keys.now.out; side = side } }
+pub(crate) fn bus_of(keys: &BusKeys) -> Bus<'_>
+    ensures { result ≡ bus_of keys.now }
 {
     Bus {
         interface: text_of(keys.name.items()),
         log: text_of(keys.log.items()),
         out: text_of(keys.out.items()),
-        side,
+        fd: keys.fd,
+        brs: keys.brs,
+        budget: keys.budget,
     }
 }
 
 /// What a configuration that is built leaves free.
 #[derive(Debug, Drop)]
 pub(crate) struct Setup<'a> {
-    source: Bus<'a>,
-    destination: Bus<'a>,
-    receiver: &'a ChannelKeys,
-    sender: &'a ChannelKeys,
-    period: u32,
-    linger: u32,
+    pub(crate) source: Bus<'a>,
+    pub(crate) destination: Bus<'a>,
+    pub(crate) receiver: &'a ChannelKeys,
+    pub(crate) sender: &'a ChannelKeys,
+    pub(crate) path: &'a PathKeys,
+    pub(crate) cells: u32,
+    pub(crate) period: u32,
+    pub(crate) linger: u32,
 }
 
 impl<'a> Model for Setup<'a> {
@@ -202,9 +136,9 @@ impl<'a> Model for Setup<'a> {
 
     ghost Value = { SetupOfRun };
 
-    ghost view = { λ setup. record { source = setup.source; destination = setup.destination; receiver = setup.receiver.now; sender = setup.sender.now; period = setup.period; linger = setup.linger } };
+    ghost view = { λ setup. record { source = setup.source; destination = setup.destination; receiver = setup.receiver.now; sender = setup.sender.now; path = setup.path.now; cells = setup.cells; period = setup.period; linger = setup.linger } };
 
-    ghost invariant = { λ setup. HasLawfulNumbers (record { source = setup.source; destination = setup.destination; receiver = setup.receiver.now; sender = setup.sender.now; period = setup.period; linger = setup.linger }) };
+    ghost invariant = { λ setup. HasLawfulNumbers (record { source = setup.source; destination = setup.destination; receiver = setup.receiver.now; sender = setup.sender.now; path = setup.path.now; cells = setup.cells; period = setup.period; linger = setup.linger }) };
 }
 
 /// Which frames come to a channel.
@@ -218,35 +152,16 @@ fn address_of(channel: &ChannelKeys) -> Address
     }
 }
 
-/// What the source channel is to its bus.
-fn source_side(receiver: &ChannelKeys) -> Side
-    ensures side { result ≡ Side.Source (comes_to receiver.now) receiver.now.functional }
-    ensures lawful { IsLawfulChannel receiver.now }
-{
-    Side::Source {
-        address: address_of(receiver),
-        functional: receiver.functional,
-    }
-}
-
-/// What the destination's channel is to its bus.
-fn destination_side(sender: &ChannelKeys) -> Side
-    ensures side { result ≡ Side.Destination (comes_to sender.now) }
-    ensures lawful { IsLawfulChannel sender.now }
-{
-    Side::Destination(address_of(sender))
-}
-
-/// The shape of a channel's frames.
-fn shape_of(channel: &ChannelKeys) -> Shape
-    ensures { result ≡ shape_of channel.now }
+/// The shape of a channel's frames on its bus: FD frames where they may be longer than classic ones.
+fn shape_of(bus: &Bus<'_>, channel: &ChannelKeys) -> Shape
+    ensures { result ≡ shape_of bus.now channel.now }
 {
     Shape {
         id: channel.tx,
-        fd: false,
-        brs: false,
+        fd: channel.dl > CLASSIC_BYTES,
+        brs: bus.brs,
         address: channel.tx_address,
-        dl: CLASSIC_BYTES,
+        dl: channel.dl,
         pad: channel.pad,
         fill: channel.fill,
     }
@@ -254,7 +169,7 @@ fn shape_of(channel: &ChannelKeys) -> Shape
 
 impl Setup<'_> {
     ghost use Rattle.std.specs.Prelude.{◌≡◌, ◌≢◌, ◌≤◌, ◌<◌};
-    ghost use Rattle.gw_run.specs.Setup.{AreMachinesOf};
+    ghost use Rattle.gw_run.specs.Setup.{AreMachinesOf, FitsBus};
 
     /// The source channel's bus.
     pub(crate) fn source(&self) -> &Bus<'_>
@@ -291,11 +206,12 @@ impl Setup<'_> {
     /// How the receiver and the sender are configured.
     pub(crate) fn machines(&self) -> Machines
         ensures are { AreMachinesOf self.now result }
-        ensures source { self.now.source.side ≡ Side.Source result.source result.rx.functional }
-        ensures destination { self.now.destination.side ≡ Side.Destination result.destination }
+        ensures source { FitsBus self.now.source self.now.receiver }
+        ensures destination { FitsBus self.now.destination self.now.sender }
     {
         let receiver = self.receiver;
         let sender = self.sender;
+        let path = self.path;
         let source = address_of(receiver);
         Machines {
             rx: RxSet {
@@ -305,23 +221,23 @@ impl Setup<'_> {
                 readers: 1,
                 a: source.size(),
                 functional: receiver.functional,
-                bs: 0,
-                st: 0,
-                wft_max: MOST_WAITS,
+                bs: receiver.bs,
+                st: receiver.stmin,
+                wft_max: receiver.wft_max,
                 n_ar: receiver.n_ar,
                 n_br: receiver.n_br,
                 n_cr: receiver.n_cr,
-                threshold: 1,
-                store: false,
+                threshold: path.threshold,
+                store: path.store,
             },
-            shape: shape_of(receiver),
+            shape: shape_of(&self.source, receiver),
             tx: TxSet {
                 path: PathNo(0),
                 group: GroupNo(0),
                 dest: DestNo(0),
-                shape: shape_of(sender),
-                threshold: 1,
-                store: false,
+                shape: shape_of(&self.destination, sender),
+                threshold: path.threshold,
+                store: path.store,
                 n_as: sender.n_as,
                 n_bs: sender.n_bs,
                 n_cs: sender.n_cs,
@@ -329,142 +245,9 @@ impl Setup<'_> {
             },
             source,
             destination: address_of(sender),
+            source_budget: self.source.budget,
+            destination_budget: self.destination.budget,
+            cells: self.cells,
         }
-    }
-}
-
-/// Whether it is a classic bus with the default budget.
-fn is_base_bus(bus: &BusKeys) -> bool
-    ensures { MatchBool result (IsBaseBus bus.now) (¬ IsBaseBus bus.now) }
-{
-    if bus.fd {
-        return false;
-    }
-    if bus.brs {
-        return false;
-    }
-    bus.budget == BUDGET
-}
-
-/// Whether what the channel's frames carry and what its flow controls ask for is the default.
-fn has_base_numbers(channel: &ChannelKeys) -> bool
-    ensures { MatchBool result (HasBaseNumbers channel.now) (¬ HasBaseNumbers channel.now) }
-{
-    if channel.dl != CLASSIC_BYTES {
-        return false;
-    }
-    if channel.bs != 0 {
-        return false;
-    }
-    if channel.stmin != 0 {
-        return false;
-    }
-    channel.wft_max == MOST_WAITS
-}
-
-/// Whether the channel is on the bus with that name and has such numbers.
-fn is_base_channel(bus: &[u8], channel: &ChannelKeys) -> bool
-    ensures { MatchBool result (IsBaseChannel bus.now channel.now) (¬ IsBaseChannel bus.now channel.now) }
-{
-    if !are_same(channel.bus.items(), bus) {
-        return false;
-    }
-    has_base_numbers(channel)
-}
-
-/// Whether the path leads from the one channel to the other alone, and forwards at once.
-fn is_base_path(from: &[u8], to: &[u8], path: &PathKeys) -> bool
-    ensures { MatchBool result (IsBasePath from.now to.now path.now) (¬ IsBasePath from.now to.now path.now) }
-{
-    let [destination] = path.to.items() else {
-        return false;
-    };
-    if !are_same(path.from.items(), from) {
-        return false;
-    }
-    if !are_same(destination.items(), to) {
-        return false;
-    }
-    if path.threshold != 1 {
-        return false;
-    }
-    !path.store
-}
-
-/// Whether there is one buffer of four cells, the window is one tick, the workers run one after another, and nothing is
-/// cancelled or sent on interface paths.
-fn has_base_top(config: &Config) -> bool
-    ensures { MatchBool result (HasBaseTop config.now) (¬ HasBaseTop config.now) }
-{
-    if config.window != 1 {
-        return false;
-    }
-    if !matches!(config.mode, Mode::Serial) {
-        return false;
-    }
-    let [cells] = config.buffers.items() else {
-        return false;
-    };
-    if *cells != BUFFER_CELLS {
-        return false;
-    }
-    if !config.interface.items().is_empty() {
-        return false;
-    }
-    config.cancel.items().is_empty()
-}
-
-/// What the configuration leaves free, where it is built; None exactly where it isn't.
-pub(crate) fn built(config: &Config) -> Option<Setup<'_>>
-    ensures { MatchOption result ((setup : SetupOfRun) → ¬ IsBuiltConfig config.now setup) (IsBuiltConfig config.now) }
-{
-    if !has_base_top(config) {
-        return None;
-    }
-    let [source, destination] = config.bus.items() else {
-        return None;
-    };
-    let [receiver, sender] = config.channel.items() else {
-        return None;
-    };
-    let [path] = config.path.items() else {
-        return None;
-    };
-    if !is_base_bus(source) {
-        return None;
-    }
-    if !is_base_bus(destination) {
-        return None;
-    }
-    if !is_base_channel(source.name.items(), receiver) {
-        return None;
-    }
-    if !is_base_channel(destination.name.items(), sender) {
-        return None;
-    }
-    if !is_base_path(receiver.name.items(), sender.name.items(), path) {
-        return None;
-    }
-    Some(setup_of(config, source, destination, receiver, sender))
-}
-
-/// What these buses and channels of a configuration leave free.
-fn setup_of<'a>(
-    config: &'a Config,
-    source: &'a BusKeys,
-    destination: &'a BusKeys,
-    receiver: &'a ChannelKeys,
-    sender: &'a ChannelKeys,
-) -> Setup<'a>
-    requires { source.now.out ≢ destination.now.out }
-    ensures { result ≡ setup_of source.now destination.now receiver.now sender.now config.now.period config.now.linger }
-{
-    Setup {
-        source: bus_of(source, source_side(receiver)),
-        destination: bus_of(destination, destination_side(sender)),
-        receiver,
-        sender,
-        period: config.period,
-        linger: config.linger,
     }
 }

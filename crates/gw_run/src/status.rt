@@ -29,11 +29,8 @@ pub struct Summary {
 /// What isn't built yet.
 #[derive(Clone, Copy, Debug, PartialEq, Eq)]
 pub enum Form {
-    /// The configuration is accepted, but differs from the base one in more than names, files, identifiers of 11 bits, the
-    /// period, the linger and the six timers.
+    /// The configuration is accepted, but isn't of the one form that is run.
     Configuration,
-    /// A line of a bus's log, counted from 1.
-    Line { bus: BusNo, line: u32 },
 }
 
 /// What a file is to the command.
@@ -214,9 +211,6 @@ impl fmt::Display for Said<'_> {
                 write!(f, "log {name} line {line} byte {at}: {kind}")
             }
             Status::Unbuilt(Form::Configuration) => write!(f, "unbuilt configuration"),
-            Status::Unbuilt(Form::Line { bus: _, line }) => {
-                write!(f, "unbuilt log {name} line {line}")
-            }
             Status::ReadFault(role) => write!(f, "read {role}"),
             Status::WriteFault(role) => write!(f, "write {role}"),
             Status::Memory => write!(f, "memory"),

@@ -18,10 +18,8 @@ use std::thread::Threads;
 /// Does the command that the words ask for, says one line of how it ended, and answers the status.
 ///
 /// `run CONFIG REPORT` forwards the messages in the logs that the configuration names, writes an output for each
-/// bus and then the report. A configuration that differs from the base one in more than names, files, identifiers,
-/// addressing, `functional`, `pad` and `fill`, the period, the linger and the timers isn't built yet, nor are first frames of the
-/// source of more than 27 bytes, or 23 with an address byte, and flow controls of the destination other than those that let
-/// everything come at once.
+/// bus and then the report. A configuration is built where it has one buffer, two buses with a channel on each, and a path from
+/// the first one's channel to the second's; any other is answered by `Unbuilt`.
 /// A log is lines of candump's format; the first one with a fault is told as `LogRefused`, before any output is created.
 /// `check CONFIG` reads a configuration and checks it, also one whose runs aren't built. It answers `Accepted`, or
 /// `ConfigRefused` with the first fault of the text or else the first conflict. No file is created or changed.

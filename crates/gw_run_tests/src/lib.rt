@@ -6,9 +6,13 @@ mod addresses;
 #[cfg(test)]
 mod base;
 #[cfg(test)]
+mod blocks;
+#[cfg(test)]
 mod configurations;
 #[cfg(test)]
 mod faults;
+#[cfg(test)]
+mod long;
 #[cfg(test)]
 mod names_and_timers;
 #[cfg(test)]

@@ -53,7 +53,7 @@ const TESTER_CONTROL: &[u8] = b"(0000000001.000500) vcan0 7E8#300000\n";
 const ENGINE_FIRST: &[u8] = b"(0000000001.000500) body 12B#1014000102030405\n";
 
 /// The logs of vcan0 and body, the exit code, what is said, and both outputs and the report, where they are there.
-const OTHER_RUNS: [([&[u8]; 2], u8, &[u8], [Option<&[u8]>; 3]); 6] = [
+const OTHER_RUNS: [([&[u8]; 2], u8, &[u8], [Option<&[u8]>; 3]); 4] = [
     // Both consecutive frames come in tick 2, and leave in ticks 2 and 3.
     (
         [
@@ -133,26 +133,6 @@ pool 1 2 00000001
         ],
         3,
         b"log vcan0 line 2 byte 34: bad data\n",
-        [None, None, None],
-    ),
-    // A first frame of 28 bytes, of another identifier and of the source.
-    (
-        [
-            b"(0000000001.000000) vcan0 700#101C000102030405\n(0000000001.000000) vcan0 7E0#101C000102030405\n",
-            EMPTY,
-        ],
-        9,
-        b"unbuilt log vcan0 line 2\n",
-        [None, None, None],
-    ),
-    // A flow control that asks to wait, of another identifier and of the destination.
-    (
-        [
-            EMPTY,
-            b"(0000000001.000000) body 718#310000\n(0000000001.000000) body 12A#310000\n",
-        ],
-        9,
-        b"unbuilt log body line 2\n",
         [None, None, None],
     ),
 ];

@@ -1,6 +1,5 @@
 //! Commands that are refused: by their words, their configuration, a line of a log or a limit.
 
-use crate::addresses::ADDRESSED_SOURCE;
 use crate::base::{
     AS_IT_IS, BAD, CONFIGURATION, Change, EMPTY, NOTHING, Outcome, RESULTS, RUN, SAME_ADDRESS,
     SHORT, changed, depot_with, expect,
@@ -45,17 +44,13 @@ fn words_without_a_shape_ask_for_nothing(rt: HostRuntime) -> Result<(), Fail> {
     Ok(())
 }
 
-/// What is said of a configuration that isn't built, and of lines.
+/// What is said of a configuration that isn't built.
 const UNBUILT: &[u8] = b"unbuilt configuration\n";
-
-const FIRST_OF_CAN0: &[u8] = b"unbuilt log can0 line 1\n";
-
-const FIRST_OF_CAN1: &[u8] = b"unbuilt log can1 line 1\n";
 
 /// A change of the configuration, the report's name, the exit code, and what is said. The log of can0 is bad.
 type ConfigurationRow = (Change, &'static str, u8, &'static [u8]);
 
-const REFUSED_CONFIGURATIONS: [ConfigurationRow; 14] = [
+const REFUSED_CONFIGURATIONS: [ConfigurationRow; 9] = [
     // A report that is a log or an output.
     (AS_IT_IS, "can0.log", 2, b"config bus[0].log: repeated\n"),
     (AS_IT_IS, "can0.out", 2, b"config bus[0].out: repeated\n"),
@@ -67,30 +62,11 @@ const REFUSED_CONFIGURATIONS: [ConfigurationRow; 14] = [
         b"config bus[1].out: repeated\n",
     ),
     // Accepted configurations that aren't built.
-    (("[4]", "[8]"), "gw.report", 9, UNBUILT),
     (("[4]", "[4, 4]"), "gw.report", 9, UNBUILT),
     (("", "window = 2\n"), "gw.report", 9, UNBUILT),
     (("", "mode = \"threads\"\n"), "gw.report", 9, UNBUILT),
     (
-        ("\"can1.out\"\n", "\"can1.out\"\nbudget = 9\n"),
-        "gw.report",
-        9,
-        UNBUILT,
-    ),
-    (
-        ("\"can1.out\"\n", "\"can1.out\"\nfd = true\n"),
-        "gw.report",
-        9,
-        UNBUILT,
-    ),
-    (
-        ("tx = \"710\"\n", "tx = \"710\"\nstmin = 1\n"),
-        "gw.report",
-        9,
-        UNBUILT,
-    ),
-    (
-        ("tx = \"708\"\n", "tx = \"708\"\nbs = 1\n"),
+        ("\"can1.out\"\n", "\"can1.out\"\nbudget = 1\n"),
         "gw.report",
         9,
         UNBUILT,
@@ -100,12 +76,6 @@ const REFUSED_CONFIGURATIONS: [ConfigurationRow; 14] = [
             "from = \"A\"\nto = [\"B\"]\n",
             "from = \"B\"\nto = [\"A\"]\n",
         ),
-        "gw.report",
-        9,
-        UNBUILT,
-    ),
-    (
-        ("to = [\"B\"]\n", "to = [\"B\"]\nthreshold = 2\n"),
         "gw.report",
         9,
         UNBUILT,
@@ -143,46 +113,7 @@ fn a_refused_configuration_makes_no_output(rt: HostRuntime) -> Result<(), Fail> 
 /// A change of the configuration, the logs of can0 and can1, the exit code, and what is said.
 type LogRow = (Change, [&'static [u8]; 2], u8, &'static [u8]);
 
-const REFUSED_LOGS: [LogRow; 18] = [
-    // First frames of more bytes than the buffer's cells carry.
-    (
-        AS_IT_IS,
-        [b"(0000000001.000000) can0 700#101C000102030405\n", EMPTY],
-        9,
-        FIRST_OF_CAN0,
-    ),
-    (
-        AS_IT_IS,
-        [b"(0000000001.000000) can0 700#100000001000AABB", EMPTY],
-        9,
-        FIRST_OF_CAN0,
-    ),
-    // With an address byte each frame carries a byte less, so that four cells hold fewer bytes.
-    (
-        ADDRESSED_SOURCE,
-        [b"(0000000001.000000) can0 700#5110180001020304\n", EMPTY],
-        9,
-        FIRST_OF_CAN0,
-    ),
-    // Flow controls with another status, block size and separation time.
-    (
-        AS_IT_IS,
-        [EMPTY, b"(0000000001.000000) can1 718#310000\n"],
-        9,
-        FIRST_OF_CAN1,
-    ),
-    (
-        AS_IT_IS,
-        [EMPTY, b"(0000000001.000000) can1 718#300100\n"],
-        9,
-        FIRST_OF_CAN1,
-    ),
-    (
-        AS_IT_IS,
-        [EMPTY, b"(0000000001.000000) can1 718#300001\n"],
-        9,
-        FIRST_OF_CAN1,
-    ),
+const REFUSED_LOGS: [LogRow; 11] = [
     // A bad line: an id of four digits; one that ends within its stamp; after two of one tick; after a CAN FD frame, which a classic
     // bus passes over, on the other bus; after a frame of another interface.
     (
@@ -223,13 +154,6 @@ const REFUSED_LOGS: [LogRow; 18] = [
         ],
         3,
         b"log can1 line 2 byte 29: bad data\n",
-    ),
-    // A frame that isn't built, before a bad line.
-    (
-        AS_IT_IS,
-        [b"(0000000001.000000) can0 700#101C000102030405\nbad\n", BAD],
-        9,
-        FIRST_OF_CAN0,
     ),
     // A bad line comes before too many ticks, on the other bus too.
     (

@@ -6,8 +6,12 @@ use Rattle.toml.specs.Data.{Data, string, integer, boolean, array, table, Items,
 use Rattle.gw_settings.specs.declared.key.Key.{Key}
 use Rattle.gw_settings.specs.declared.fault.FaultKind.{FaultKind}
 use Rattle.gw_settings.specs.declared.fault.FaultKind.TheVariants.{Missing, WrongKind, OutOfRange, UnknownKey}
-use Rattle.gw_settings.specs.Names.{key_name}
-use Rattle.gw_settings.specs.Tree.{elements, names}
+use Rattle.gw_settings.specs.declared.fault.ConfigFault.{ConfigFault}
+use Rattle.gw_settings.specs.declared.table_kind.TableKind.{TableKind}
+use Rattle.gw_settings.specs.declared.table_kind.TableKind.TheVariants.{Top}
+use Rattle.gw_settings.specs.Faults.{placed}
+use Rattle.gw_settings.specs.Names.{key_name, array_key}
+use Rattle.gw_settings.specs.Tree.{elements, names, value_in, value_at, element_at}
 
 -- an integer from `low` to `high`
 abbrev pub integer_in : ℤ → ℤ → Data → Result ℤ FaultKind
@@ -66,6 +70,20 @@ optional read (Some value) = some_of (read value)
 abbrev pub required : {A : Type 0} → (Data → Result A FaultKind) → Option Data → Result A FaultKind
 required read None = Err Missing
 required read (Some value) = read value
+
+-- a key of a table of this kind and number, read so: None where it is absent, or its fault at that place
+abbrev pub setting : {A : Type 0} → (Data → Result A FaultKind) → Data → TableKind → ℕ → Key →
+    Result (Option A) ConfigFault
+setting read root kind index key = placed kind index key (optional read (value_at root kind index key))
+
+-- the element of this number of an array key, read so, or its fault at the key's place
+abbrev pub setting_item : {A : Type 0} → (Data → Result A FaultKind) → Data → TableKind → ℕ → Key → ℕ →
+    Result A ConfigFault
+setting_item read root kind index key at = placed kind index key (required read (element_at root kind index key at))
+
+-- the number of tables of this kind, None where their array is absent, or its fault in the top table
+abbrev pub table_count : Data → TableKind → Result (Option ℕ) ConfigFault
+table_count root kind = placed Top 0 (array_key kind) (optional tables_in (value_in root (array_key kind)))
 
 -- the key's name is this one
 abbrev pub is_named : Option (List ℕ) → List ℕ → Bool

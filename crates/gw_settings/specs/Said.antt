@@ -33,4 +33,5 @@ cause_text Repeated = codes "repeated"
 
 -- the path and the cause
 abbrev pub fault_text : ConfigFault → List ℕ
-fault_text fault = path_text fault.kind (place_text fault.table fault.index fault.key) ++ codes ": " ++ cause_text fault.kind
+fault_text fault =
+    path_text fault.kind (place_text fault.table fault.index fault.key) ++ codes ": " ++ cause_text fault.kind

@@ -1,11 +1,14 @@
 -- Where a value stands in the tree that a TOML text is.
-use Rattle.std.specs.Prelude.{◌≡◌, ℕ, List, [], ◌∷◌, Option, Some, None, option_map, IsUtf8}
+use Rattle.std.specs.Prelude.{◌≡◌, ◌≢◌, ℕ, List, [], ◌∷◌, Option, Some, None, option_map, IsUtf8}
 use Rattle.std.specs.Option.{option_and_then}
 use Rattle.toml.specs.Data.{Data, table, Items, no_items, item, Members, no_members, member, get, at}
 use Rattle.toml.specs.Parse.{parse_document}
 use Rattle.gw_settings.specs.declared.key.Key.{Key}
 use Rattle.gw_settings.specs.declared.table_kind.TableKind.{TableKind}
 use Rattle.gw_settings.specs.declared.table_kind.TableKind.TheVariants.{Top}
+use Rattle.gw_settings.specs.declared.fault.ConfigError.{ConfigError}
+use Rattle.gw_settings.specs.declared.fault.ConfigError.TheVariants.{Memory, Fault}
+use Rattle.gw_settings.specs.Faults.{not_toml}
 use Rattle.gw_settings.specs.Names.{key_name, array_key}
 
 -- the text is UTF-8, and as TOML it is this tree
@@ -16,6 +19,10 @@ pub record IsText (text : List ℕ) (root : Data) : Type 0 where
 -- the text is no UTF-8, or no TOML
 abbrev pub IsNotToml : List ℕ → Type 0
 IsNotToml text = IsUtf8 text → parse_document text ≡ None
+
+-- a text is refused as no TOML, unless memory was wanting
+abbrev pub IsRefused : List ℕ → ConfigError → Type 0
+IsRefused text error = error ≢ Memory → (error ≡ Fault not_toml) × IsNotToml text
 
 -- the value of a key in a table
 abbrev pub value_in : Data → Key → Option Data

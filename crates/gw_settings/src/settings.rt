@@ -4,10 +4,10 @@ ghost use Rattle.std.specs.List.{list_all};
 ghost use Rattle.toml.specs.Data.{as_integer, as_str, as_table};
 ghost use Rattle.toml.specs.Errors.{IsMemory};
 ghost use Rattle.toml.specs.View.{view, array_view, table_view};
-ghost use Rattle.gw_settings.specs.Names.{array_key, key_name};
+ghost use Rattle.gw_settings.specs.Names.{key_name};
 ghost use Rattle.gw_settings.specs.Faults.{fault_at, not_toml, placed};
-ghost use Rattle.gw_settings.specs.Tree.{IsText, IsNotToml, entry_of, value_in, value_at, element_at, names};
-ghost use Rattle.gw_settings.specs.Readings.{integer_in, flag_in, text_in, items_in, tables_in, integers_in, texts_in, count_of, IsWithin, known_in, optional, required, is_listed, is_named};
+ghost use Rattle.gw_settings.specs.Tree.{IsText, IsRefused, entry_of, value_in, value_at, element_at, names};
+ghost use Rattle.gw_settings.specs.Readings.{integer_in, flag_in, text_in, items_in, tables_in, integers_in, texts_in, count_of, IsWithin, known_in, setting, setting_item, table_count, is_listed, is_named};
 
 use crate::{ConfigError, ConfigFault, FaultKind, Key, TableKind};
 use std::alloc::Global;
@@ -16,8 +16,8 @@ use toml::{Table, Value};
 
 /// The settings of a text: a tree of tables, whose values are read by key.
 ///
-/// Contracts speak of it as `tree settings`. A key is named by the kind of its table, the table's number in its array (0 for
-/// the top table) and the key; a key of a table that isn't there is absent. A fault names the same place.
+/// Contracts speak of it as `tree settings`. A key is named by the kind of its table, the table's number in its array
+/// (0 for the top table) and the key; a key of a table that isn't there is absent. A fault names the same place.
 #[derive(Debug, Drop)]
 pub struct Settings {
     root: Value,
@@ -30,7 +30,7 @@ impl Settings {
     /// memory; `Memory` says nothing of the text.
     pub fn parse(alloc: Global, text: &[u8]) -> Result<Settings, ConfigError>
         ensures ok { IfOk result (λ settings. IsText text.now (tree settings)) }
-        ensures refused { IfErr result (λ error. error ≢ ConfigError.Memory → (error ≡ ConfigError.Fault not_toml) × IsNotToml text.now) }
+        ensures refused { IfErr result (IsRefused text.now) }
     {
         match toml::table_from_slice(alloc, text) {
             Ok(members) => Ok(Settings {
@@ -50,7 +50,7 @@ impl Settings {
         low: i64,
         high: i64,
     ) -> Result<Option<i64>, ConfigFault>
-        ensures value { result ≡ placed table index key (optional (integer_in low high) (value_at (tree self.now) table index key)) }
+        ensures value { result ≡ setting (integer_in low high) (tree self.now) table index key }
         ensures within { IfOk result (IsWithin low high) }
     {
         let number = match self.value(table, index, key) {
@@ -67,7 +67,7 @@ impl Settings {
 
     /// The flag of a key, `None` where it is absent. `WrongKind` where it is no boolean.
     pub fn flag(&self, table: TableKind, index: u32, key: Key) -> Result<Option<bool>, ConfigFault>
-        ensures { result ≡ placed table index key (optional flag_in (value_at (tree self.now) table index key)) }
+        ensures { result ≡ setting flag_in (tree self.now) table index key }
     {
         let Some(value) = self.value(table, index, key) else {
             return Ok(None);
@@ -80,8 +80,8 @@ impl Settings {
 
     /// The text of a key, `None` where it is absent. `WrongKind` where it is no string.
     pub fn text(&self, table: TableKind, index: u32, key: Key) -> Result<Option<&str>, ConfigFault>
-        ensures ok { IfOk result (λ text. placed table index key (optional text_in (value_at (tree self.now) table index key)) ≡ Ok (option_copied text)) }
-        ensures err { IfErr result (λ fault. placed table index key (optional text_in (value_at (tree self.now) table index key)) ≡ Err fault) }
+        ensures ok { IfOk result (λ text. setting text_in (tree self.now) table index key ≡ Ok (option_copied text)) }
+        ensures err { IfErr result (λ fault. setting text_in (tree self.now) table index key ≡ Err fault) }
     {
         let Some(value) = self.value(table, index, key) else {
             return Ok(None);
@@ -95,7 +95,7 @@ impl Settings {
     /// The number of tables of this kind, at most what a `u32` holds, and `None` where their array is absent.
     /// `WrongKind` of the top table's key where it is no array or holds an element that is no table.
     pub fn count(&self, table: TableKind) -> Result<Option<u32>, ConfigFault>
-        ensures { result ≡ placed TableKind.Top 0 (array_key table) (optional tables_in (value_in (tree self.now) (array_key table))) }
+        ensures { result ≡ table_count (tree self.now) table }
     {
         let Some(value) = member(&self.root, table.key()) else {
             return Ok(None);
@@ -109,7 +109,7 @@ impl Settings {
     /// The number of elements of an array key, at most what a `u32` holds, and `None` where the key is absent.
     /// `WrongKind` where it is no array.
     pub fn items(&self, table: TableKind, index: u32, key: Key) -> Result<Option<u32>, ConfigFault>
-        ensures { result ≡ placed table index key (optional items_in (value_at (tree self.now) table index key)) }
+        ensures { result ≡ setting items_in (tree self.now) table index key }
     {
         let Some(value) = self.value(table, index, key) else {
             return Ok(None);
@@ -128,7 +128,7 @@ impl Settings {
         index: u32,
         key: Key,
     ) -> Result<Option<u32>, ConfigFault>
-        ensures { result ≡ placed table index key (optional integers_in (value_at (tree self.now) table index key)) }
+        ensures { result ≡ setting integers_in (tree self.now) table index key }
     {
         let Some(value) = self.value(table, index, key) else {
             return Ok(None);
@@ -142,7 +142,7 @@ impl Settings {
     /// The number of elements of an array key of texts, at most what a `u32` holds, and `None` where the key is
     /// absent. `WrongKind` where it is no array or holds an element that is no string.
     pub fn texts(&self, table: TableKind, index: u32, key: Key) -> Result<Option<u32>, ConfigFault>
-        ensures { result ≡ placed table index key (optional texts_in (value_at (tree self.now) table index key)) }
+        ensures { result ≡ setting texts_in (tree self.now) table index key }
     {
         let Some(value) = self.value(table, index, key) else {
             return Ok(None);
@@ -165,7 +165,7 @@ impl Settings {
         low: i64,
         high: i64,
     ) -> Result<i64, ConfigFault>
-        ensures value { result ≡ placed table index key (required (integer_in low high) (element_at (tree self.now) table index key at)) }
+        ensures value { result ≡ setting_item (integer_in low high) (tree self.now) table index key at }
         ensures within { IfOk result (λ number. IsWithin low high (Some number)) }
     {
         let Some(value) = self.element(table, index, key, at) else {
@@ -193,8 +193,8 @@ impl Settings {
         key: Key,
         at: u32,
     ) -> Result<&str, ConfigFault>
-        ensures ok { IfOk result (λ text. placed table index key (required text_in (element_at (tree self.now) table index key at)) ≡ Ok text.now) }
-        ensures err { IfErr result (λ fault. placed table index key (required text_in (element_at (tree self.now) table index key at)) ≡ Err fault) }
+        ensures ok { IfOk result (λ text. setting_item text_in (tree self.now) table index key at ≡ Ok text.now) }
+        ensures err { IfErr result (λ fault. setting_item text_in (tree self.now) table index key at ≡ Err fault) }
     {
         let Some(value) = self.element(table, index, key, at) else {
             return Err(ConfigFault {

@@ -6,8 +6,17 @@ use Rattle.std.proofs.lemmas.List.Elements.{All-head, All-tail, All-weaker}
 use Rattle.std.proofs.lemmas.List.Sums.{sum_by-cons, sum_by-le, sum_by-take-le}
 use Rattle.std.proofs.lemmas.Option.{same_Some}
 use Rattle.std.specs.Prelude.{slice_get, get_or, sum}
-use Rattle.hub_core.proofs.Grouped.{first-group, later-group}
 use Rattle.hub_core.specs.Groups.{grouped, first_of, all_sizes, group_of, place_of, sizes_of}
+
+-- a buffer of the first group, and one of a later group
+pub first-group : (sizes : List ℕ) (groups : List (List ℕ)) (buf : ℕ) → buf < length sizes →
+    (group_of (sizes ∷ groups) buf ≡ 0) × (place_of (sizes ∷ groups) buf ≡ buf)
+first-group sizes groups buf below = grind arith
+
+pub later-group : (sizes : List ℕ) (groups : List (List ℕ)) (buf : ℕ) → length sizes ≤ buf →
+    (group_of (sizes ∷ groups) buf ≡ suc (group_of groups (buf - length sizes)))
+    × (place_of (sizes ∷ groups) buf ≡ place_of groups (buf - length sizes))
+later-group sizes groups buf past = grind arith
 
 -- an item of two lists, one after the other
 first-part : {A : Type 0} (xs ys : List A) (k : ℕ) → k < length xs → slice_get (xs ++ ys) k ≡ slice_get xs k

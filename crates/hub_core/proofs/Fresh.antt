@@ -2,7 +2,7 @@
 use Rattle.std.proofs.Common.{◌≡◌, ℕ, ◌+◌, ◌-◌, ◌≤◌, zero, suc, Bool, true, false, List, [], ◌∷◌, ◌++◌, length, take, Option, Some, None, inl, inr, refl, ap, sym, ◌∙◌, subst, arith, length-append, append-nil}
 use Rattle.std.proofs.lemmas.Bool.{cases_lt, le-ltb, ltb-false}
 use Rattle.std.proofs.lemmas.Bool.Decides.{eqb_tells}
-use Rattle.std.proofs.lemmas.Option.{slice_get_cases}
+use Rattle.std.proofs.lemmas.Option.{same_Some, slice_get_cases}
 use Rattle.std.specs.Prelude.{◌==◌, ◌&&◌, slice_get, if◌then◌else◌, nat_lt}
 use Rattle.gw_base.specs.Cell.{counted}
 use Rattle.hub_core.specs.Alone.{IsRoomOf, IsNextOf, IsSeenOf}
@@ -10,10 +10,12 @@ use Rattle.hub_core.specs.Floors.{Floors, Rise, IsFresh, AreFresh, staying, numb
 use Rattle.hub_core.specs.Groups.{group_of, in_group, journal_of}
 use Rattle.hub_core.specs.Journal.{changed_buf}
 use Rattle.hub_core.specs.Joint.{IsStream, AreStreams, position}
+use Rattle.hub_core.specs.Tokens.{Writes}
 use Rattle.hub_core.specs.View.{View, Event, Change, Taken, Session, Reading, at_one, at_two, change_at, session_new, reading_new, session_at, reading_at, grow, grows}
 use Rattle.hub_core.specs.View.{Took, Refused, Entered, Asked, Put, Published, Joining, Missed, Saw, Read, Closed, Parted}
 use Rattle.hub_core.specs.declared.port.Room.{Room}
 use Rattle.hub_core.specs.declared.port.Seen.{Seen}
+use Rattle.hub_core.specs.declared.token.Opened.{Opened}
 use Rattle.hub_core.proofs.Growing.{length-change_at, reading-changed}
 
 pub rise-same : (f : Floors) → Rise f f
@@ -62,13 +64,15 @@ fresh-lower low high v (Asked path seq cells readers) rise fresh = λ s there. r
       (fresh s there).room least within (λ dest below stays.
       let low-stays = not-yet (low.parted path dest seq) (high.parted path dest seq) (rise.parted path dest seq) stays in
       omega (arith, read dest below low-stays, rise.read path dest seq));
+  kept = (fresh s there).kept;
+  most = (fresh s there).most;
 }
 fresh-lower low high v (Put path seq cell) rise fresh = tt
 fresh-lower low high v (Published path seq bytes) rise fresh = tt
 fresh-lower low high v (Joining path dest seq buf len) rise fresh = tt
 fresh-lower low high v (Missed group path dest seq) rise fresh = not-yet (low.entered group path dest seq) (high.entered group path dest seq) (rise.entered group path dest seq) fresh
 fresh-lower low high v (Saw path dest seq cells bytes writer) rise fresh =
-    (omega (arith, rise.shown path seq, fresh.0), λ stood. not-yet (low.closed path seq) (high.closed path seq) (rise.closed path seq) (fresh.1 stood))
+    (omega (arith, rise.shown path seq, fresh.0), λ stood. not-yet (low.closed path seq) (high.closed path seq) (rise.closed path seq) (fresh.1 stood), fresh.2)
 fresh-lower low high v (Read path dest seq cell) rise fresh = tt
 fresh-lower low high v (Closed path seq freed) rise fresh = tt
 fresh-lower low high v (Parted path dest seq freed) rise fresh = tt
@@ -238,11 +242,16 @@ position-is : (found : Option Reading) → number_in (λ r. length r.cells) foun
 position-is None = refl
 position-is (Some r) = refl
 
--- an exact room is fresh at present floors
-pub room-fresh : (groups : List (List ℕ)) (v : View) (path seq : ℕ) (room : Room) → IsRoomOf v path seq room → IsFresh v (floors_of groups v) (Asked path seq room.cells room.readers)
-room-fresh groups v path seq room is = λ s there.
+-- an exact room is fresh at present floors, where it is no less than the writer's token tells and no more than its buffer
+pub room-fresh : (groups : List (List ℕ)) (v : View) (t : Opened) (room : Room) → Writes v t → IsRoomOf v t.path.0 t.seq room → (t.room ≤ room.cells) × (room.cells ≤ t.cells) → IsFresh v (floors_of groups v) (Asked t.path.0 t.seq room.cells room.readers)
+room-fresh groups v t room known is bounds = λ s there.
     let exact = is s there in
+    let path : ℕ = t.path.0 in
+    let seq : ℕ = t.seq in
+    let it : known.session ≡ s = same_Some known.session s (sym known.known ∙ there) in
     record {
+      kept = omega (arith, ap (λ (x : Session). x.room) it, known.says.room, bounds.0);
+      most = omega (arith, ap (λ (x : Session). x.size) it, known.says.size, bounds.1);
       dests = omega (arith, exact.readers);
       room = λ least within have. elim (cases_lt 0 room.readers) [
         | inl some ↦

@@ -115,21 +115,8 @@ pub writes-asked : (v w : View) (t u : Opened) (room : Room) → Writes v t → 
     w ≡ grow (Asked t.path.0 t.seq room.cells room.readers) v → SameOpened u (asked room t) → Writes w u
 unfolding grow
 writes-asked v w t u room known least most grown is =
-    writes-changed (λ s. record s { room = room.cells; readers = room.readers }) v w t u known is.path is.seq (ap (λ (x : View). x.sessions) grown) (record {
-      buf = known.says.buf ∙ ap (λ (b : BufNo). b.0) (sym is.buf);
-      size = omega arith;
-      len = omega arith;
-      put = omega arith;
-      given = omega arith;
-      within = omega arith;
-      told = omega arith;
-      published = omega arith;
-      room = omega arith;
-      room_most = omega arith;
-      room_least = omega arith;
-      readers = omega arith;
-      stands = known.says.stands;
-    })
+    writes-changed (λ s. record s { room = room.cells; readers = room.readers }) v w t u known is.path is.seq
+    (ap (λ (x : View). x.sessions) grown) (grind (arith, known, is))
 
 -- after one cell is put
 pub writes-put : (v w : View) (t u : Opened) (cell : ℕ) → Writes v t → 0 < t.room → t.given + count_of cell ≤ t.len →
@@ -138,58 +125,24 @@ unfolding grow
 writes-put v w t u cell known room fits grown is =
     let count = length-append known.session.cells (cell ∷ []) in
     let given = sum_by_push count_of known.session.cells cell in
-    writes-changed (λ s. record s { cells = s.cells ++ cell ∷ []; room = s.room - 1 }) v w t u known is.path is.seq (ap (λ (x : View). x.sessions) grown) (record {
-      buf = known.says.buf ∙ ap (λ (b : BufNo). b.0) (sym is.buf);
-      size = omega arith;
-      len = omega arith;
-      put = omega (arith, count);
-      given = omega (arith, given);
-      within = omega arith;
-      told = omega arith;
-      published = omega arith;
-      room = omega arith;
-      room_most = omega arith;
-      room_least = omega arith;
-      readers = omega arith;
-      stands = known.says.stands;
-    })
+    writes-changed (λ s. record s { cells = s.cells ++ cell ∷ []; room = s.room - 1 }) v w t u known is.path is.seq
+    (ap (λ (x : View). x.sessions) grown) (grind (arith, known, is, count, given))
 
 -- after all that was put is published
 pub writes-published : (v w : View) (t u : Opened) (bytes : ℕ) → Writes v t → t.told + bytes ≡ t.given →
     w ≡ grow (Published t.path.0 t.seq bytes) v → SameOpened u (published t) → Writes w u
 unfolding grow
 writes-published v w t u bytes known all grown is =
-    writes-changed (λ s. record s { shown = length s.cells; told = s.told + bytes }) v w t u known is.path is.seq (ap (λ (x : View). x.sessions) grown) (record {
-      buf = known.says.buf ∙ ap (λ (b : BufNo). b.0) (sym is.buf);
-      size = omega arith;
-      len = omega arith;
-      put = omega arith;
-      given = omega arith;
-      within = omega arith;
-      told = omega arith;
-      published = omega arith;
-      room = omega arith;
-      room_most = omega arith;
-      room_least = omega arith;
-      readers = omega arith;
-      stands = known.says.stands;
-    })
+    writes-changed (λ s. record s { shown = length s.cells; told = s.told + bytes }) v w t u known is.path is.seq
+    (ap (λ (x : View). x.sessions) grown) (grind (arith, known, is))
 
 -- after a look at the count
 pub reads-saw : (v w : View) (t u : Joined) (seen : Seen) → Reads v t → t.seen ≤ seen.cells →
     w ≡ grow (Saw t.path.0 t.dest.0 t.seq seen.cells seen.bytes seen.writer) v → SameJoined u (saw seen t) → Reads w u
 unfolding grow
 reads-saw v w t u seen known rises grown is =
-    reads-changed (λ r. record r { seen = seen.cells; bytes = seen.bytes; writer = seen.writer }) v w t u known is.path is.dest is.seq (ap (λ (x : View). x.readings) grown) (record {
-      buf = known.says.buf ∙ ap (λ (b : BufNo). b.0) (sym is.buf);
-      len = omega arith;
-      at = omega arith;
-      taken = omega arith;
-      within = omega arith;
-      seen = omega arith;
-      at_most = omega arith;
-      stands = known.says.stands;
-    })
+    reads-changed (λ r. record r { seen = seen.cells; bytes = seen.bytes; writer = seen.writer }) v w t u known
+    is.path is.dest is.seq (ap (λ (x : View). x.readings) grown) (grind (arith, known, is))
 
 -- after one cell is read
 pub reads-read : (v w : View) (t u : Joined) (cell : ℕ) → Reads v t → t.at < t.seen → t.taken + count_of cell ≤ t.len →
@@ -198,16 +151,8 @@ unfolding grow
 reads-read v w t u cell known more fits grown is =
     let count = length-append known.reading.cells (cell ∷ []) in
     let taken = sum_by_push count_of known.reading.cells cell in
-    reads-changed (λ r. record r { cells = r.cells ++ cell ∷ [] }) v w t u known is.path is.dest is.seq (ap (λ (x : View). x.readings) grown) (record {
-      buf = known.says.buf ∙ ap (λ (b : BufNo). b.0) (sym is.buf);
-      len = omega arith;
-      at = omega (arith, count);
-      taken = omega (arith, taken);
-      within = omega arith;
-      seen = omega arith;
-      at_most = omega arith;
-      stands = known.says.stands;
-    })
+    reads-changed (λ r. record r { cells = r.cells ++ cell ∷ [] }) v w t u known is.path is.dest is.seq
+    (ap (λ (x : View). x.readings) grown) (grind (arith, known, is, count, taken))
 
 -- the frames of each event
 by_changed-session : (path seq : ℕ) (f : Session → Session) (v w : View) → w.readings ≡ v.readings →
@@ -288,30 +233,10 @@ by-left (ReadEnd t) left v w grown = by-parted t.path.0 t.dest.0 t.seq (freed_by
 
 -- equal tokens are equal field by field
 pub same-opened : (a b : Opened) → a ≡ b → SameOpened a b
-same-opened a b is = record {
-  path = ap (λ (t : Opened). t.path) is;
-  seq = ap (λ (t : Opened). t.seq) is;
-  buf = ap (λ (t : Opened). t.buf) is;
-  cells = ap (λ (t : Opened). t.cells) is;
-  len = ap (λ (t : Opened). t.len) is;
-  put = ap (λ (t : Opened). t.put) is;
-  given = ap (λ (t : Opened). t.given) is;
-  told = ap (λ (t : Opened). t.told) is;
-  room = ap (λ (t : Opened). t.room) is;
-  readers = ap (λ (t : Opened). t.readers) is;
-}
+same-opened a b is = subst (SameOpened a) is (grind arith)
 
 pub same-joined : (a b : Joined) → a ≡ b → SameJoined a b
-same-joined a b is = record {
-  path = ap (λ (t : Joined). t.path) is;
-  dest = ap (λ (t : Joined). t.dest) is;
-  seq = ap (λ (t : Joined). t.seq) is;
-  buf = ap (λ (t : Joined). t.buf) is;
-  len = ap (λ (t : Joined). t.len) is;
-  at = ap (λ (t : Joined). t.at) is;
-  taken = ap (λ (t : Joined). t.taken) is;
-  seen = ap (λ (t : Joined). t.seen) is;
-}
+same-joined a b is = subst (SameJoined a) is (grind arith)
 
 -- the item after a list's own
 pub slice_get-pushed : {A : Type 0} (xs : List A) (x : A) (k : ℕ) → length xs ≡ k → slice_get (xs ++ x ∷ []) k ≡ Some x

@@ -7,7 +7,7 @@ use Rattle.std.specs.Vec.{vec_len}
 use Rattle.gw_base.specs.Fit.{IsSmallest}
 use Rattle.hub_core.proofs.Cut.{all-cut, groups-cut, count-cut, buffer-cut, IsThere, there-cut, few-buffers, part-get}
 use Rattle.hub_core.proofs.GroupReads.{is-buffer, read-cells, few-in, read-count, within-cells, buffer-by}
-use Rattle.hub_core.proofs.Leaving.{pool_freed}
+use Rattle.hub_core.proofs.Freeing.{pool_freed}
 use Rattle.hub_core.proofs.Ledger.{order, session-size}
 use Rattle.hub_core.proofs.Pools.{fewer-changes}
 use Rattle.hub_core.specs.Core.{MayTake}

@@ -1,11 +1,8 @@
 -- What turns saw, each at the floors of the view in which it began, is no older than the floors of the view before all of them.
-use Rattle.std.proofs.Common.{◌≡◌, ◌⊎◌, ℕ, ◌+◌, ◌-◌, ◌≤◌, false, Some, List, [], ◌∷◌, ◌++◌, length, inl, inr, refl, ap, sym, ◌∙◌, subst, arith, length-append}
-use Rattle.std.specs.List.{AllByRecursion}
-use Rattle.hub_core.proofs.Beside.{sessions-beside}
-use Rattle.hub_core.proofs.Fresh.{ShowsPut, are-fresh-append, are-fresh-lower, rise-same, rise-twice, rises}
-use Rattle.hub_core.proofs.Growing.{grows-append}
-use Rattle.hub_core.proofs.Places.{mapped, session-now, session-pushed}
-use Rattle.hub_core.specs.Floors.{AreFresh, Floors, IsFresh, Rise, floors_of}
+use Rattle.std.proofs.Common.{◌≡◌, ℕ, ◌+◌, ◌-◌, ◌≤◌, false, Some, List, [], ◌∷◌, ◌++◌, length, inl, inr, refl, sym, ◌∙◌, subst, arith, length-append}
+use Rattle.hub_core.proofs.Fresh.{ShowsPut, are-fresh-append, rise-same, rise-twice, rises}
+use Rattle.hub_core.proofs.Kept.{mapped, session-now, session-pushed}
+use Rattle.hub_core.specs.Floors.{AreFresh, Rise, floors_of}
 use Rattle.hub_core.specs.Turns.{AreFreshTurns, Turn, calls_by}
 use Rattle.hub_core.specs.View.{Event, Session, View, at_one, change_at, grow, grows, session_at, session_new}
 use Rattle.hub_core.specs.View.{Took, Refused, Entered, Asked, Put, Published, Joining, Missed, Saw, Read, Closed, Parted}

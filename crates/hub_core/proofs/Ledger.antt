@@ -5,6 +5,8 @@ use Rattle.hub_core.proofs.EveryStep.{Lawful, lawful-of}
 use Rattle.hub_core.proofs.Cut.{size-in}
 use Rattle.hub_core.proofs.Led.{leads-more, led-by}
 use Rattle.hub_core.proofs.Numbered.{taken-clear, within}
+use Rattle.hub_core.proofs.Owning.{session-taken, session-turn}
+use Rattle.hub_core.proofs.Streamed.{streams as streams-of, own, roomy as room-of}
 use Rattle.hub_core.proofs.Sure.{NotNot, from, sure-le, sure-lt, sure-some, sure-order, sure-streams, search-free}
 use Rattle.hub_core.specs.Core.{Step, Takes as TakesStep, Refuses, Does, after, May, MayDo, MayTake, MayRefuse, Leads, IsLed}
 use Rattle.hub_core.specs.Joint.{IsFreed}
@@ -27,37 +29,37 @@ module _ (groups : List (List ℕ)) (v : View) (led : IsLed groups v) where
   lawful not = led (λ steps leads. not (lawful-of groups steps v leads))
 
   pub streams : AreStreams v
-  streams = sure-streams v (from (λ (l : Lawful groups v). l.streamed.streams) lawful)
+  streams = sure-streams v (from (λ (l : Lawful groups v). streams-of v l.streamed) lawful)
 
   pub order : (group : ℕ) → AreInOrder (changes_in groups group v)
-  order group = sure-order 1 (changes_in groups group v) (from (λ (l : Lawful groups v). l.journals.order group) lawful)
+  order group = sure-order 1 (changes_in groups group v) (from (λ (l : Lawful groups v). (l.journals group).order) lawful)
 
   -- a session's buffer has its cells
   pub session-size : (path seq : ℕ) (s : Session) → session_at v path seq ≡ Some s → slice_get (all_sizes groups) s.buf ≡ Some s.size
-  session-size path seq s at = sym (size-in groups s.buf) ∙ sure-some _ s.size (from (λ (l : Lawful groups v). (l.owned.taken path seq s at).size_is) lawful)
+  session-size path seq s at = sym (size-in groups s.buf) ∙ sure-some _ s.size (from (λ (l : Lawful groups v). (session-taken groups v l.owned path seq s at).size) lawful)
 
   -- the room that a writer knows is there
   pub roomy : (path seq : ℕ) (s : Session) → session_at v path seq ≡ Some s → HasRoom v path seq s s.room
-  roomy path seq s at dest below stays = sure-le _ _ (from (λ (l : Lawful groups v). l.streamed.roomy path seq s at dest below stays) lawful)
+  roomy path seq s at dest below stays = sure-le _ _ (from (λ (l : Lawful groups v). room-of v l.streamed path seq s at dest below stays) lawful)
 
   -- who joined a session is one of its destinations
   pub joined-below : (path dest seq : ℕ) (s : Session) (r : Reading) → session_at v path seq ≡ Some s → reading_at v path dest seq ≡ Some r → dest < s.dests
-  joined-below path dest seq s r at there = sure-lt _ _ (from (λ (l : Lawful groups v). l.streamed.own path dest seq s r at there) lawful)
+  joined-below path dest seq s r at there = sure-lt _ _ (from (λ (l : Lawful groups v). own v l.streamed path dest seq s r at there) lawful)
 
   -- a session that a party stands in isn't freed
   pub unfreed : (path seq : ℕ) (s : Session) → session_at v path seq ≡ Some s → (IsOver v path seq s → ⊥) → IsFreed groups v s → ⊥
-  unfreed path seq s at stays freed = lawful (λ l. elim (l.owned.turn path seq s at) [
+  unfreed path seq s at stays freed = lawful (λ l. elim (session-turn groups v l.owned path seq s at) [
     | inl last ↦ absurd (let most = last freed.0 (Freed freed.0 (place_of groups s.buf), freed.2, refl) in omega (arith, freed.1, most))
     | inr over ↦ stays over.0
   ])
 
   -- a buffer that isn't freed after a session's take isn't free
   pub session-clear : (path seq : ℕ) (s : Session) → session_at v path seq ≡ Some s → (IsFreed groups v s → ⊥) → IsBitSet (free_in groups (group_of groups s.buf) v) (place_of groups s.buf) → ⊥
-  session-clear path seq s at kept set = lawful (λ l. elim (l.owned.turn path seq s at) [
+  session-clear path seq s at kept set = lawful (λ l. elim (session-turn groups v l.owned path seq s at) [
     | inl last ↦
-        let takes = l.owned.taken path seq s at in
+        let takes = session-taken groups v l.owned path seq s at in
         let group = group_of groups s.buf in
-        taken-clear (sizes_of groups group) (changes_in groups group v) s.number (place_of groups s.buf) takes.need (l.journals.order group) (l.journals.lawful group) takes.take last set
+        taken-clear (sizes_of groups group) (changes_in groups group v) s.number (place_of groups s.buf) takes.need (l.journals group) takes.take last set
     | inr over ↦ kept over.1
   ])
 

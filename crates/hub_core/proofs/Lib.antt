@@ -1,8 +1,10 @@
 mod Beginnings
 pub mod Cut
 pub mod EveryStep
+mod Freeing
 pub mod Grouped
 pub mod GroupReads
+pub mod Kept
 pub mod HubGroups
 mod Leaving
 mod Ledger
@@ -11,6 +13,7 @@ mod Merging
 pub mod Owning
 pub mod Places
 pub mod Pools
+mod Positions
 pub mod Quiet
 mod Rows
 mod Scans

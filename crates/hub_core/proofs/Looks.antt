@@ -1,13 +1,14 @@
 -- What a plain hub answers is exact, and what it looks up is there.
 use Rattle.std.proofs.Common.{◌≡◌, ◌≢◌, ℕ, ◌+◌, ◌-◌, ◌*◌, ◌<◌, ◌≤◌, ◌%◌, ◌⊎◌, inl, inr, zero, suc, Bool, true, false, List, [], ◌∷◌, ◌++◌, length, take, Option, Some, None, All, refl, ap, sym, ◌∙◌, subst, arith}
 use Rattle.std.proofs.lemmas.Bool.{cases_lt, lt-ltb}
+use Rattle.std.proofs.lemmas.List.{take-take}
 use Rattle.std.proofs.lemmas.List.Sums.{sum_by_push, sum_by-take-le}
 use Rattle.std.proofs.lemmas.Option.{same_Some, slice_get_within, slice_get_past, get_or_from_slice_get}
 use Rattle.std.specs.Prelude.{nat_lt, if◌then◌else◌, slice_get, get_or}
 use Rattle.gw_base.proofs.Lists.{there-at}
 use Rattle.gw_base.specs.Cell.{IsCell, count_of, counted}
 use Rattle.hub_core.proofs.Cut.{all-there}
-use Rattle.hub_core.proofs.Leaving.{stands-there}
+use Rattle.hub_core.proofs.Positions.{stands-there}
 use Rattle.hub_core.proofs.Ledger.{streams, roomy, unfreed, session-size, freed-or}
 use Rattle.hub_core.proofs.Led.{led}
 use Rattle.hub_core.proofs.Rows.{occupied, sighted}
@@ -27,6 +28,10 @@ use Rattle.pool_words.specs.declared.pool.Pool.{Pool}
 use Rattle.hub_core.specs.declared.port.Room.{Room}
 use Rattle.hub_core.specs.declared.token.Joined.{Joined}
 use Rattle.hub_core.specs.declared.token.Opened.{Opened}
+
+-- a longer front of cells counts no fewer bytes
+counted-fronts : (cells : List ℕ) (low high : ℕ) → low ≤ high → counted (take low cells) ≤ counted (take high cells)
+counted-fronts cells low high le = omega (arith, ap counted (take-take low high cells le), sum_by-take-le count_of (take high cells) low)
 
 -- the place that the code reads
 pub place-read : (places : List Place) (b path seq i : ℕ) (place : Place) → session_in (slice_get places b) ≡ Some (path, seq) → i ≡ b → place ≡ get_or places i place → (row : Row) × (place ≡ Occupied row) × (slice_get places b ≡ Some (Occupied row)) × (row.path ≡ path) × (row.seq ≡ seq)
@@ -174,7 +179,16 @@ module _ (groups : List (List ℕ)) (places : List Place) (words : List ℕ) (po
     seen-fresh =
         let its = reader-session groups places words pools takes v shown t known in
         let exact = seen-exact its.0 its.1 in
-        (omega (arith, ap (number_in (λ (s : Session). s.shown)) its.1, exact.0), λ stood. ap (has_left (λ (s : Session). s.stands)) its.1 ∙ ap (λ (b : Bool). if b then false else true) (sym exact.2 ∙ stood))
+        let written = (streams groups v shown.led).written t.path.0 t.seq its.0 its.1 in (
+          omega (arith, ap (number_in (λ (s : Session). s.shown)) its.1, exact.0),
+          λ stood. ap (has_left (λ (s : Session). s.stands)) its.1 ∙ ap (λ (b : Bool). if b then false else true) (sym exact.2 ∙ stood),
+          record {
+            reading = known.reading;
+            there = known.known;
+            cells_most = omega (arith, its.2.seen, exact.0);
+            bytes_most = omega (arith, its.2.bytes, written.told, exact.1, counted-fronts its.0.cells known.reading.seen its.0.shown its.2.seen);
+          },
+        )
 
   -- the cell that a destination reads next
   module _ (t : Joined) (known : Reads v t) (more : t.at < t.seen) where

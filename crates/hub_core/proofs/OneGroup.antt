@@ -3,7 +3,7 @@ use Rattle.std.proofs.Common.{◌≡◌, ◌≢◌, ℕ, ◌+◌, ◌<◌, ◌�
 use Rattle.std.proofs.lemmas.Bool.{cases_lt}
 use Rattle.std.proofs.lemmas.List.Elements.{All-weaker}
 use Rattle.std.specs.Prelude.{◌==◌, slice_get, if◌then◌else◌}
-use Rattle.hub_core.proofs.Grouped.{first-group, later-group}
+use Rattle.hub_core.proofs.Cut.{first-group, later-group}
 use Rattle.hub_core.specs.Groups.{group_of, place_of, sizes_of, in_group, journal_of}
 use Rattle.hub_core.specs.Journal.{numbered, replay, IsLawful, IsOverflow, ChangesBuf, IsNextChange, changed_buf}
 use Rattle.hub_core.specs.Joint.{HasLeftWriter, IsOver, IsOverflowIn, AreStreams, Joint}

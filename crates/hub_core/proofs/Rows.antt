@@ -5,15 +5,13 @@ use Rattle.std.proofs.lemmas.List.Sums.{sum_by-set}
 use Rattle.std.proofs.lemmas.Option.{same_Some, some_pair_parts, slice_get_within, get_or_from_slice_get}
 use Rattle.std.specs.Prelude.{nat_lt, if◌then◌else◌, slice_get, slice_set, option_map, sum_by}
 use Rattle.gw_base.specs.Cell.{IsCell}
-use Rattle.hub_core.proofs.Grouped.{pushed-same, pushed-else}
+use Rattle.hub_core.proofs.Grouped.{found-old}
 use Rattle.hub_core.proofs.Growing.{session-changed}
-use Rattle.hub_core.proofs.Numbered.{numbered-old}
-use Rattle.hub_core.proofs.Owning.{GoOn, SameTake, same-take}
-use Rattle.hub_core.proofs.Places.{mapped, session-now, reading-now, reading-pushed}
+use Rattle.hub_core.proofs.Kept.{GoOn, SameTake, same-take, mapped, session-now, reading-now, reading-pushed}
 use Rattle.hub_core.specs.Calls.{ByWriter}
 use Rattle.hub_core.specs.Joint.{IsFreed}
 use Rattle.hub_core.specs.Groups.{group_of, place_of, all_sizes, journal_of}
-use Rattle.hub_core.specs.Journal.{numbered, changed_buf}
+use Rattle.hub_core.specs.Journal.{numbered}
 use Rattle.hub_core.specs.Joint.{IsOver}
 use Rattle.hub_core.specs.Plain.{session_in, reserved, taken, sight_of, sight_in, standing, position_of, IsRowOf, ShowPlaces, ShowWords, AreCounts, pool_after, start_of}
 use Rattle.hub_core.specs.View.{View, Change, Freed, Taking, Session, Reading, at_one, at_two, change_at, session_at, reading_at}
@@ -58,15 +56,9 @@ freed-on groups v w s t changes take freed =
     subst (λ (x : List Change × ℕ × ℕ). (later : ℕ) × (x.2 < later) × (numbered (journal_of groups (group_of groups x.1) x.0) later ≡ Some (Freed later (place_of groups x.1))))
     (λ i. (sym changes i, sym take.buf i, sym take.number i)) freed
 
-found-still : (groups : List (List ℕ)) (changes : List Change) (c d : Change) (g n : ℕ) → numbered (journal_of groups g changes) n ≡ Some d → numbered (journal_of groups g (changes ++ c ∷ [])) n ≡ Some d
-found-still groups changes c d g n is = elim (eqb_tells (group_of groups (changed_buf c)) g) [
-  | inl same ↦ ap (λ (l : List Change). numbered l n) (pushed-same groups g changes c same.1) ∙ numbered-old (journal_of groups g changes) _ n d is
-  | inr other ↦ ap (λ (l : List Change). numbered l n) (pushed-else groups g changes c other.1) ∙ is
-]
-
 pub freed-still : (groups : List (List ℕ)) (v w : View) (c : Change) (s : Session) → w.changes ≡ v.changes ++ c ∷ [] → IsFreed groups v s → IsFreed groups w s
 freed-still groups v w c s changes freed =
-    (freed.0, freed.1, ap (λ (l : List Change). numbered (journal_of groups (group_of groups s.buf) l) freed.0) changes ∙ found-still groups v.changes c _ (group_of groups s.buf) freed.0 freed.2)
+    (freed.0, freed.1, ap (λ (l : List Change). numbered (journal_of groups (group_of groups s.buf) l) freed.0) changes ∙ found-old groups v.changes c (group_of groups s.buf) freed.0 _ freed.2)
 
 -- one session alone may have changed, or its readings
 abbrev pub IsOnlyAt : (path seq : ℕ) → View → View → Type 0
@@ -164,7 +156,7 @@ show-row groups places new v w buf path seq row next show swap path-is seq-is on
         ]
   ];
   sessions = λ p k t at kept.
-      let was = on.back p k t at in
+      let was = on p k t at in
       let old = show.sessions p k was.0 was.1 (λ freed. kept (freed-on groups v w was.0 t changes was.2 freed)) in
       ap (λ (b : ℕ). session_in (slice_get new b)) was.2.buf ∙ elim (eqb_tells was.0.buf buf) [
         | inl same ↦
@@ -263,8 +255,8 @@ counts-on groups places new pools takes v w same lengths on taken-same reserved-
   words = λ group below. counts.words group below ∙ ap (λ (l : List Change). Some (pool_after groups group l)) (sym same);
   moves = omega (arith, counts.moves, taken-same, ap (λ (l : List Change). length l) same);
   sessions = λ path. let h = counts.sessions path in omega (arith, h, lengths path, reserved-same);
-  some = λ p k t at. let was = on.back p k t at in omega (arith, counts.some p k was.0 was.1, was.2.dests);
-  dests = λ p k t at. let was = on.back p k t at in omega (arith, counts.dests p k was.0 was.1, was.2.dests);
+  some = λ p k t at. let was = on p k t at in omega (arith, counts.some p k was.0 was.1, was.2.dests);
+  dests = λ p k t at. let was = on p k t at in omega (arith, counts.dests p k was.0 was.1, was.2.dests);
 }
 
 pub lengths-by : (path : ℕ) (v w : View) → ByWriter path 0 v w → (other : ℕ) → length (w.sessions other) ≡ length (v.sessions other)

@@ -5,8 +5,7 @@ use Rattle.std.proofs.lemmas.Option.{same_Some, slice_get_within, slice_get_past
 use Rattle.std.specs.Prelude.{if◌then◌else◌, slice_get, slice_set, option_map}
 use Rattle.hub_core.proofs.Growing.{session-changed, reading-changed, at_two-same, by-asked, by-published, by-put}
 use Rattle.hub_core.proofs.Ledger.{streams, unfreed, joined-below, led-asked, led-put, led-published, led-joining, led-saw, led-read}
-use Rattle.hub_core.proofs.Owning.{GoOn, SameTake, on-session, on-reading, on-joining}
-use Rattle.hub_core.proofs.Places.{reading-now, reading-pushed}
+use Rattle.hub_core.proofs.Kept.{SameTake, on-session, on-same, reading-now, reading-pushed}
 use Rattle.hub_core.proofs.Rows.{set-here, set-else, freed-on, IsOnlyAt, only-session, only-reading, only-joining, IsSwapped, not-swapped, swapped, show-row, row-on-session, row-on-reading, kept-session, kept-sessions, words-on, counts-on, lengths-by}
 use Rattle.hub_core.specs.Calls.{ByWriter}
 use Rattle.hub_core.specs.Core.{IsLed, MayDo}
@@ -31,7 +30,7 @@ pub session-call : (groups : List (List ℕ)) (places new : List Place) (words m
     next.positions ≡ row.positions → session_at v path seq ≡ Some s → sight_of (f s) ≡ sight_in buf next → ((t : Session) → session_at w path seq ≡ Some t → IsOver w path seq t → ⊥) → ShowWords groups more w →
     IsLed groups w → IsShown groups new more pools takes w
 session-call groups places new words more pools takes v w path seq buf f row next s shown swap path-is seq-is sessions readings held same by take positions at sight party words-show led =
-    let on = on-session path seq f v w sessions readings take in
+    let on = on-session path seq f v w sessions take in
     record {
       places_show = show-row groups places new v w buf path seq row next shown.places_show swap path-is seq-is (only-session path seq f v w sessions readings) on held same
           (row-on-session path seq f v w buf row next s sessions readings (shown.places_show.rows buf row swap.was) path-is seq-is swap.path swap.seq positions at sight (take s).dests) party;
@@ -42,15 +41,15 @@ session-call groups places new words more pools takes v w path seq buf f row nex
 
 -- after a call of a destination
 pub reading-call : (groups : List (List ℕ)) (places new : List Place) (words : List ℕ) (pools : List Pool) (takes : ℕ) (v w : View) (path dest seq buf : ℕ) (row next : Row) (s : Session) (r : Reading) →
-    IsShown groups places words pools takes v → IsSwapped places new buf row next → row.path ≡ path → row.seq ≡ seq → w.sessions ≡ v.sessions → GoOn v w → IsOnlyAt path seq v w → w.held ≡ v.held → w.changes ≡ v.changes →
+    IsShown groups places words pools takes v → IsSwapped places new buf row next → row.path ≡ path → row.seq ≡ seq → w.sessions ≡ v.sessions → IsOnlyAt path seq v w → w.held ≡ v.held → w.changes ≡ v.changes →
     ((d : ℕ) → d ≢ dest → reading_at w path d seq ≡ reading_at v path d seq) → reading_at w path dest seq ≡ Some r → sight_in buf next ≡ sight_in buf row →
     ((d : ℕ) → d ≢ dest → slice_get next.positions d ≡ slice_get row.positions d) → session_at v path seq ≡ Some s → slice_get next.positions dest ≡ Some (position_of (Some s) dest (Some r)) →
     ((t : Session) → session_at w path seq ≡ Some t → IsOver w path seq t → ⊥) → IsLed groups w → IsShown groups new words pools takes w
-reading-call groups places new words pools takes v w path dest seq buf row next s r shown swap path-is seq-is sessions on only held same beside own sight others at mine party led = record {
-  places_show = show-row groups places new v w buf path seq row next shown.places_show swap path-is seq-is only on held same
+reading-call groups places new words pools takes v w path dest seq buf row next s r shown swap path-is seq-is sessions only held same beside own sight others at mine party led = record {
+  places_show = show-row groups places new v w buf path seq row next shown.places_show swap path-is seq-is only (on-same v w sessions) held same
       (row-on-reading path dest seq v w buf row next s r sessions beside own (shown.places_show.rows buf row swap.was) path-is seq-is swap.path swap.seq sight others at mine) party;
   words_show = words-on groups words v w (kept-sessions v w sessions) (λ s t take freed. freed-on groups v w s t same take freed) shown.words_show;
-  counts = counts-on groups places new pools takes v w same (λ p. ap (λ (g : ℕ → List Session). length (g p)) sessions) on swap.taken_same swap.reserved_same shown.counts;
+  counts = counts-on groups places new pools takes v w same (λ p. ap (λ (g : ℕ → List Session). length (g p)) sessions) (on-same v w sessions) swap.taken_same swap.reserved_same shown.counts;
   led = led;
 }
 
@@ -101,7 +100,7 @@ module _ (groups : List (List ℕ)) (places : List Place) (words : List ℕ) (po
   after-asked t row room known is path-is seq-is may =
       let f : Session → Session = λ s. record s { room = room.cells; readers = room.readers } in
       let w : View = grow (Asked t.path.0 t.seq room.cells room.readers) v in
-      let take : (s : Session) → SameTake s (f s) = λ s. record { buf = refl; number = refl; size = refl; dests = refl; gone = λ gone. gone } in
+      let take : (s : Session) → SameTake s (f s) = λ s. record { buf = refl; number = refl; size = refl; dests = refl } in
       session-call groups places places words words pools takes v w t.path.0 t.seq t.buf.0 f row row known.session shown (not-swapped places t.buf.0 row is) path-is seq-is refl refl refl refl
       (by-asked t.path.0 t.seq room.cells room.readers v w refl) take refl known.known (row-sight t.buf.0 t.path.0 t.seq row known.session is path-is seq-is known.known)
       (λ x at over. let it : f known.session ≡ x = same_Some (f known.session) x (sym (session-changed t.path.0 t.seq f known.session v w known.known refl) ∙ at) in true≢false (sym known.says.stands ∙ ap (λ (s : Session). s.stands) it ∙ over.writer))
@@ -116,7 +115,7 @@ module _ (groups : List (List ℕ)) (places : List Place) (words : List ℕ) (po
       let f : Session → Session = λ s. record s { shown = length s.cells; told = s.told + bytes } in
       let w : View = grow (Published t.path.0 t.seq bytes) v in
       let next : Row = record row { shown = t.put; told = t.given } in
-      let take : (s : Session) → SameTake s (f s) = λ s. record { buf = refl; number = refl; size = refl; dests = refl; gone = λ gone. gone } in
+      let take : (s : Session) → SameTake s (f s) = λ s. record { buf = refl; number = refl; size = refl; dests = refl } in
       let sight = row-sight t.buf.0 t.path.0 t.seq row known.session is path-is seq-is known.known in
       let told-is : known.session.told + bytes ≡ t.given = omega (arith, known.says.told, all) in
       session-call groups places new words words pools takes v w t.path.0 t.seq t.buf.0 f row next known.session shown (swapped places new t.buf.0 row next is set refl refl) path-is seq-is refl refl refl refl
@@ -133,7 +132,7 @@ module _ (groups : List (List ℕ)) (places : List Place) (words : List ℕ) (po
   after-put t row more cell known is path-is seq-is words-show may =
       let f : Session → Session = λ s. record s { cells = s.cells ++ cell ∷ []; room = s.room - 1 } in
       let w : View = grow (Put t.path.0 t.seq cell) v in
-      let take : (s : Session) → SameTake s (f s) = λ s. record { buf = refl; number = refl; size = refl; dests = refl; gone = λ gone. gone } in
+      let take : (s : Session) → SameTake s (f s) = λ s. record { buf = refl; number = refl; size = refl; dests = refl } in
       session-call groups places places words more pools takes v w t.path.0 t.seq t.buf.0 f row row known.session shown (not-swapped places t.buf.0 row is) path-is seq-is refl refl refl refl
       (by-put t.path.0 t.seq cell v w refl) take refl known.known (row-sight t.buf.0 t.path.0 t.seq row known.session is path-is seq-is known.known)
       (λ x at over. let it : f known.session ≡ x = same_Some (f known.session) x (sym (session-changed t.path.0 t.seq f known.session v w known.known refl) ∙ at) in true≢false (sym known.says.stands ∙ ap (λ (s : Session). s.stands) it ∙ over.writer))
@@ -149,7 +148,7 @@ module _ (groups : List (List ℕ)) (places : List Place) (words : List ℕ) (po
       let its = reader-session t known in
       let own = reading-changed t.path.0 t.dest.0 t.seq f known.reading v w known.known refl in
       reading-call groups places places words pools takes v w t.path.0 t.dest.0 t.seq t.buf.0 row row its.0 (f known.reading) shown (not-swapped places t.buf.0 row is) path-is seq-is refl
-      (on-reading t.path.0 t.dest.0 t.seq f known.reading v w refl refl known.known known.says.stands) (only-reading t.path.0 t.dest.0 t.seq f v w refl refl) refl refl
+      (only-reading t.path.0 t.dest.0 t.seq f v w refl refl) refl refl
       (λ d other. elim (reading-now t.path.0 t.dest.0 t.seq f v w refl t.path.0 d t.seq) [ inl hit ↦ absurd (other hit.1) | inr same ↦ same ]) own refl (λ d other. refl) its.1
       (row-position t.buf.0 t.path.0 t.seq t.dest.0 row its.0 is path-is seq-is its.1 (let most = shown.counts.dests t.path.0 t.seq its.0 its.1 in omega (arith, most, its.3)) ∙ ap (λ (o : Option Reading). Some (position_of (Some its.0) t.dest.0 o)) known.known)
       (λ x at over.
@@ -173,7 +172,7 @@ module _ (groups : List (List ℕ)) (places : List Place) (words : List ℕ) (po
       let within : t.dest.0 < length row.positions = slice_get_within row.positions t.dest.0 _ (row-position t.buf.0 t.path.0 t.seq t.dest.0 row its.0 is path-is seq-is its.1 few) in
       let at-next : t.at + 1 ≡ length (known.reading.cells ++ cell ∷ []) = omega (arith, known.says.at, length-append known.reading.cells (cell ∷ [])) in
       reading-call groups places new words pools takes v w t.path.0 t.dest.0 t.seq t.buf.0 row next its.0 (f known.reading) shown (swapped places new t.buf.0 row next is set refl refl) path-is seq-is refl
-      (on-reading t.path.0 t.dest.0 t.seq f known.reading v w refl refl known.known known.says.stands) (only-reading t.path.0 t.dest.0 t.seq f v w refl refl) refl refl
+      (only-reading t.path.0 t.dest.0 t.seq f v w refl refl) refl refl
       (λ d other. elim (reading-now t.path.0 t.dest.0 t.seq f v w refl t.path.0 d t.seq) [ inl hit ↦ absurd (other hit.1) | inr same ↦ same ]) own refl (λ d other. set-else row.positions t.dest.0 d (Some (t.at + 1)) other) its.1
       (set-here row.positions t.dest.0 (Some (t.at + 1)) within
       ∙ ap (λ (n : ℕ). Some (Some n)) at-next
@@ -204,7 +203,7 @@ module _ (groups : List (List ℕ)) (places : List Place) (words : List ℕ) (po
         ))
       ] in
       reading-call groups places places words pools takes v w path dest seq buf row row s new shown (not-swapped places buf row is) path-is seq-is refl
-      (on-joining path dest new v w refl refl) (only-joining path dest seq new v w next refl refl) refl refl
+      (only-joining path dest seq new v w next refl refl) refl refl
       (λ d other. elim (reading-pushed path dest new v w refl path d seq) [ inl hit ↦ absurd (other hit.1) | inr same ↦ same ]) own refl (λ d other. refl) at
       (row-position buf path seq dest row s is path-is seq-is at (let most = shown.counts.dests path seq s at in omega (arith, most, below)) ∙ ap (λ (o : Option Reading). Some (position_of (Some s) dest o)) none)
       (λ x there over.

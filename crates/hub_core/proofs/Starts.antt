@@ -11,7 +11,7 @@ use Rattle.gw_base.specs.Cell.{IsCell}
 use Rattle.hub_core.proofs.Cut.{all-there}
 use Rattle.hub_core.proofs.Growing.{session-changed}
 use Rattle.hub_core.proofs.Ledger.{session-size}
-use Rattle.hub_core.proofs.Owning.{SameTake}
+use Rattle.hub_core.proofs.Kept.{SameTake}
 use Rattle.hub_core.proofs.Rows.{set-here, set-else, freed-on, only-session}
 use Rattle.hub_core.proofs.Shown.{writer-place}
 use Rattle.hub_core.specs.Groups.{all_sizes}
@@ -114,7 +114,7 @@ words-put groups places words more pools takes v t cell shown known word all eac
         ]
     | inr other ↦
         let was-at : session_at v p k ≡ Some x = sym (elsewhere p k other) ∙ at in
-        let unfreed-before : IsFreed groups v x → ⊥ = λ freed. unfreed (freed-on groups v w x x refl (record { buf = refl; number = refl; size = refl; dests = refl; gone = λ gone. gone }) freed) in
+        let unfreed-before : IsFreed groups v x → ⊥ = λ freed. unfreed (freed-on groups v w x x refl (record { buf = refl; number = refl; size = refl; dests = refl }) freed) in
         let size-of = session-size groups v shown.led p k x was-at in
         let apart : x.buf ≢ t.buf.0 = λ e.
         let keys = sym (shown.places_show.sessions p k x was-at unfreed-before) ∙ ap (λ (b : ℕ). session_in (slice_get places b)) e ∙ writer-place groups places words pools takes v shown t known in
@@ -153,4 +153,4 @@ words-put groups places words more pools takes v t cell shown known word all eac
     elsewhere p k other = elim (only-session t.path.0 t.seq f v w refl refl p k) [ inl hit ↦ absurd (other hit.0 hit.1) | inr same ↦ same.0 ]
 
     take : {x : Session} → f s ≡ x → SameTake s x
-    take {x = x} it = record { buf = sym (ap (λ (y : Session). y.buf) it); number = sym (ap (λ (y : Session). y.number) it); size = sym (ap (λ (y : Session). y.size) it); dests = sym (ap (λ (y : Session). y.dests) it); gone = λ gone. sym (ap (λ (y : Session). y.stands) it) ∙ gone }
+    take {x = x} it = record { buf = sym (ap (λ (y : Session). y.buf) it); number = sym (ap (λ (y : Session). y.number) it); size = sym (ap (λ (y : Session). y.size) it); dests = sym (ap (λ (y : Session). y.dests) it) }

@@ -8,7 +8,7 @@ use Rattle.gw_base.proofs.Lists.{there-at}
 use Rattle.gw_base.specs.Cell.{IsCell}
 use Rattle.hub_core.proofs.Growing.{at_one-same, at_one-other}
 use Rattle.hub_core.proofs.Ledger.{streams, order, session-clear, led-took, led-entered}
-use Rattle.hub_core.proofs.Places.{session-pushed}
+use Rattle.hub_core.proofs.Kept.{session-pushed}
 use Rattle.hub_core.proofs.Pools.{words-pushed}
 use Rattle.hub_core.proofs.Rows.{set-here, set-else, sum-set, occupied, sighted, freed-still}
 use Rattle.hub_core.specs.Core.{MayDo, MayTake}

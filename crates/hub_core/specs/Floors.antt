@@ -1,7 +1,7 @@
 -- How old a look may be: what no look of a port falls behind, and when an answer is as fresh as that.
 use Rattle.std.specs.Prelude.{◌≡◌, ℕ, ◌+◌, ◌<◌, ◌≤◌, ◌==◌, ◌&&◌, if◌then◌else◌, nat_lt, zero, suc, Bool, true, false, List, [], ◌∷◌, length, Option, Some, None}
 use Rattle.hub_core.specs.Groups.{group_of, changes_in}
-use Rattle.hub_core.specs.View.{View, Event, Session, session_at, reading_at, grow}
+use Rattle.hub_core.specs.View.{View, Event, Session, Reading, session_at, reading_at, grow}
 use Rattle.hub_core.specs.View.{Took, Refused, Entered, Asked, Put, Published, Joining, Missed, Saw, Read, Closed, Parted}
 
 -- numbers and facts of the whole hub that no look of the port falls behind
@@ -65,12 +65,22 @@ staying parted (suc dest) = (if parted dest then 0 else 1) + staying parted dest
 abbrev pub HaveRead : Floors → (path seq dests least : ℕ) → Type 0
 HaveRead f path seq dests least = (dest : ℕ) → dest < dests → f.parted path dest seq ≡ false → least ≤ f.read path dest seq
 
--- a look at the positions counts no destination that had left, and all of the buffer is room but the cells that another one hadn't read
+-- a look at the positions counts no destination that had left, and all of the buffer is room but the cells that another one hadn't read;
+-- it counts at least what the session's writer knew before, since the room falls by puts alone, and at most the buffer
 pub record IsRoomFresh (f : Floors) (path seq : ℕ) (s : Session) (cells readers : ℕ) : Type 0 where
   pub dests : readers ≤ staying (λ dest. f.parted path dest seq) s.dests
   pub room : (least : ℕ) → least ≤ length s.cells → HaveRead f path seq s.dests least → s.size + least ≤ cells + length s.cells
+  pub kept : s.room ≤ cells
+  pub most : cells ≤ s.size
 
--- what an event at a view says of the other parties isn't older than the floors
+-- a look at what is published of a session is one of a destination that joined it, and shows no less than its look before
+pub record ShowsMore (v : View) (path dest seq cells bytes : ℕ) : Type 0 where
+  pub reading : Reading
+  pub there : reading_at v path dest seq ≡ Some reading
+  pub cells_most : reading.seen ≤ cells
+  pub bytes_most : reading.bytes ≤ bytes
+
+-- what an event at a view says of the other parties isn't older than the floors, and than what the party knew
 abbrev pub IsFresh : View → Floors → Event → Type 0
 IsFresh v f (Took group number buf size need) = f.changes group < number
 IsFresh v f (Refused group number free need) = f.changes group ≤ number
@@ -80,7 +90,7 @@ IsFresh v f (Put path seq cell) = Unit {0}
 IsFresh v f (Published path seq bytes) = Unit {0}
 IsFresh v f (Joining path dest seq buf len) = Unit {0}
 IsFresh v f (Missed group path dest seq) = f.entered group path dest seq ≡ false
-IsFresh v f (Saw path dest seq cells bytes writer) = (f.shown path seq ≤ cells) × (writer ≡ true → f.closed path seq ≡ false)
+IsFresh v f (Saw path dest seq cells bytes writer) = (f.shown path seq ≤ cells) × (writer ≡ true → f.closed path seq ≡ false) × ShowsMore v path dest seq cells bytes
 IsFresh v f (Read path dest seq cell) = Unit {0}
 IsFresh v f (Closed path seq freed) = Unit {0}
 IsFresh v f (Parted path dest seq freed) = Unit {0}

@@ -153,9 +153,8 @@ impl Port for PlainHub {
     ghost use Rattle.hub_core.specs.Calls.{SameMeans, TakeUsed, SameParties, ByWriter, ByReader, ByEnd};
     ghost use Rattle.hub_core.specs.Calls.{took_of, asked_of, next_of, saw_of, left_of};
     ghost use Rattle.hub_core.specs.Calls.{Answers, joins, Joins, FreesOwn};
-    ghost use Rattle.hub_core.specs.Floors.{IsFresh};
     ghost use Rattle.hub_core.specs.HubPort.{as_port, groups_of, view_of};
-    ghost use Rattle.hub_core.specs.Stays.{Stays};
+    ghost use Rattle.hub_core.specs.Stays.{IsFreshFor, Stays};
     ghost use Rattle.hub_core.specs.Tokens.{Writes, Reads, TakesPart, asked, saw, SameOpened, SameJoined};
     ghost use Rattle.hub_core.specs.View.{grow};
 
@@ -169,7 +168,7 @@ impl Port for PlainHub {
         requires takes { 0 < (as_port self.old).means.takes }
         ensures view { view_of self.new ≡ grow (took_of group.0 need result) (view_of self.old) }
         ensures answers { Answers (view_of self.new) (groups_of self.old) group.0 need result }
-        ensures fresh { IsFresh (view_of self.old) (as_port self.old).floors (took_of group.0 need result) }
+        ensures fresh { IsFreshFor (as_port self.old) (took_of group.0 need result) }
         ensures stays { Stays SameParties TakeUsed (as_port self.old) (as_port self.new) }
 
         // Beside the port's: a buffer that fits is taken by the next change, and an overflow's word is the present one.
@@ -254,7 +253,7 @@ impl Port for PlainHub {
         ensures token { SameOpened at.new (asked result at.old) }
         ensures cells { (at.old.room ≤ result.cells) × (result.cells ≤ at.old.cells) }
         ensures writes { Writes (view_of self.new) at.new }
-        ensures fresh { IsFresh (view_of self.old) (as_port self.old).floors (asked_of at.old result) }
+        ensures fresh { IsFreshFor (as_port self.old) (asked_of at.old result) }
         ensures stays { Stays (ByWriter at.old.path.0 0) SameMeans (as_port self.old) (as_port self.new) }
 
         // Beside the port's: the look is exact.
@@ -313,7 +312,7 @@ impl Port for PlainHub {
         requires seq { length ((view_of self.old).readings path.0 dest.0) ≡ seq }
         ensures view { view_of self.new ≡ grow (next_of group.0 path.0 dest.0 seq result) (view_of self.old) }
         ensures joins { Joins (view_of self.new) path dest seq result }
-        ensures fresh { IsFresh (view_of self.old) (as_port self.old).floors (next_of group.0 path.0 dest.0 seq result) }
+        ensures fresh { IsFreshFor (as_port self.old) (next_of group.0 path.0 dest.0 seq result) }
         ensures stays { Stays (ByReader path.0 dest.0 (joins result)) SameMeans (as_port self.old) (as_port self.new) }
 
         // Beside the port's: the look is exact.
@@ -349,7 +348,7 @@ impl Port for PlainHub {
         ensures token { SameJoined at.new (saw result at.old) }
         ensures cells { at.old.seen ≤ result.cells }
         ensures reads { Reads (view_of self.new) at.new }
-        ensures fresh { IsFresh (view_of self.old) (as_port self.old).floors (saw_of at.old result) }
+        ensures fresh { IsFreshFor (as_port self.old) (saw_of at.old result) }
         ensures stays { Stays (ByReader at.old.path.0 at.old.dest.0 0) SameMeans (as_port self.old) (as_port self.new) }
 
         // Beside the port's: the look is exact.

@@ -60,8 +60,7 @@ pub trait Port {
     ghost use Rattle.hub_core.specs.Calls.{SameMeans, TakeUsed, CellUsed, SameParties, ByWriter, ByReader, ByEnd};
     ghost use Rattle.hub_core.specs.Calls.{took_of, entered_of, asked_of, next_of, saw_of, read_of, left_of};
     ghost use Rattle.hub_core.specs.Calls.{Answers, joins, Joins, FreesOwn};
-    ghost use Rattle.hub_core.specs.Floors.{IsFresh};
-    ghost use Rattle.hub_core.specs.Stays.{Stays};
+    ghost use Rattle.hub_core.specs.Stays.{IsFreshFor, Stays};
     ghost use Rattle.hub_core.specs.Tokens.{Holds, Writes, Reads, TakesPart, SameOpened, SameJoined};
     ghost use Rattle.hub_core.specs.Tokens.{opened_new, asked, put_one, published, saw, read_one};
     ghost use Rattle.hub_core.specs.View.{grow};
@@ -74,7 +73,7 @@ pub trait Port {
         requires takes { 0 < (state self.old).means.takes }
         ensures view { (state self.new).view ≡ grow (took_of group.0 need result) (state self.old).view }
         ensures answers { Answers (state self.new).view (state self.old).means.groups group.0 need result }
-        ensures fresh { IsFresh (state self.old).view (state self.old).floors (took_of group.0 need result) }
+        ensures fresh { IsFreshFor (state self.old) (took_of group.0 need result) }
         ensures stays { Stays SameParties TakeUsed (state self.old) (state self.new) };
 
     /// Makes the path's next session known, in a buffer that was taken, to `readers` destinations. `len` is the unit's
@@ -100,7 +99,7 @@ pub trait Port {
         // The room falls by puts alone, and is never more than the buffer.
         ensures cells { (at.old.room ≤ result.cells) × (result.cells ≤ at.old.cells) }
         ensures writes { Writes (state self.new).view at.new }
-        ensures fresh { IsFresh (state self.old).view (state self.old).floors (asked_of at.old result) }
+        ensures fresh { IsFreshFor (state self.old) (asked_of at.old result) }
         ensures stays { Stays (ByWriter at.old.path.0 0) SameMeans (state self.old) (state self.new) };
 
     /// Stores the session's next cell: one to seven bytes below their number. No destination sees it before it is
@@ -134,7 +133,7 @@ pub trait Port {
         requires seq { length ((state self.old).view.readings path.0 dest.0) ≡ seq }
         ensures view { (state self.new).view ≡ grow (next_of group.0 path.0 dest.0 seq result) (state self.old).view }
         ensures joins { Joins (state self.new).view path dest seq result }
-        ensures fresh { IsFresh (state self.old).view (state self.old).floors (next_of group.0 path.0 dest.0 seq result) }
+        ensures fresh { IsFreshFor (state self.old) (next_of group.0 path.0 dest.0 seq result) }
         ensures stays { Stays (ByReader path.0 dest.0 (joins result)) SameMeans (state self.old) (state self.new) };
 
     /// Looks whether the writer takes part, and then how many cells and bytes are published. So where the writer is
@@ -147,7 +146,7 @@ pub trait Port {
         // The count never falls.
         ensures cells { at.old.seen ≤ result.cells }
         ensures reads { Reads (state self.new).view at.new }
-        ensures fresh { IsFresh (state self.old).view (state self.old).floors (saw_of at.old result) }
+        ensures fresh { IsFreshFor (state self.old) (saw_of at.old result) }
         ensures stays { Stays (ByReader at.old.path.0 at.old.dest.0 0) SameMeans (state self.old) (state self.new) };
 
     /// Reads the session's next cell, and makes its place free for the writer.

@@ -1,5 +1,4 @@
-pub mod causes
-pub mod controls
+pub mod receptions
 pub mod records
 pub mod runs
 pub mod sessions

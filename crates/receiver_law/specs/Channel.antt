@@ -1,11 +1,12 @@
 -- A source channel: how it is configured, what came and what left on it, and what is told of its receptions.
-use Rattle.std.specs.Prelude.{◌≡◌, ◌⊎◌, ℕ, true, List}
+use Rattle.std.specs.Prelude.{◌≡◌, ℕ, true, List}
 use Rattle.hub_core.specs.declared.record.SessionRecord.{SessionRecord}
 use Rattle.tp_attempts.specs.Seen.{Seen}
+use Rattle.tp_receiver.specs.Own.{IsControl}
 use Rattle.tp_receiver.specs.declared.set.RxSet.{RxSet}
 use Rattle.tp_unit.specs.Box.{Written}
 use Rattle.tp_unit.specs.Shape.{fits_shape}
-use Rattle.tp_unit.specs.Unit.{Meaning, FlowControl}
+use Rattle.tp_unit.specs.Unit.{Meaning}
 use Rattle.tp_unit.specs.Writing.{frame_of}
 use Rattle.tp_unit.specs.declared.shape.Shape.{Shape}
 
@@ -21,10 +22,9 @@ pub record SourceChannel : Type 0 where
   pub controls : List Written
   pub sessions : List SessionRecord
 
--- a flow control of the source's channel, written in its shape: frames may come, with no block size and the configured
--- separation time, or there is no room
+-- one of the flow controls of the source's channel, written in its shape
 pub record WritesControl (set : RxSet) (shape : Shape) (w : Written) : Type 0 where
   pub meaning : Meaning
-  pub either : (meaning ≡ FlowControl 0 0 set.st) ⊎ (meaning ≡ FlowControl 2 0 0)
+  pub control : IsControl set meaning
   pub fits : fits_shape shape meaning ≡ true
   pub frame : w.frame ≡ frame_of shape meaning

@@ -1,16 +1,110 @@
--- Which flow controls leave on the source's channel, by the records of its units (ISO 15765-2, flow control).
-use Rattle.std.specs.Prelude.{◌≡◌, ◌⊎◌, ℕ, ◌+◌, ◌<◌, ◌≤◌, Bool, true, false, Some, List, ◌∷◌, ◌++◌, slice_get}
-use Rattle.tp_unit.specs.Box.{Written}
+-- What the flow controls of a reception ask for, and when one is owed (ISO 15765-2, flow control).
+use Rattle.std.specs.Prelude.{◌≡◌, ◌⊎◌, ℕ, ◌+◌, ◌<◌, ◌≤◌, if◌then◌else◌, Bool, true, false, Option, Some, None, List, [], ◌∷◌, length, slice_get}
 use Rattle.std.specs.List.{AllByRecursion}
 use Rattle.hub_core.specs.declared.record.SessionRecord.{SessionRecord}
-use Rattle.tp_attempts.specs.Attempts.{attempts_in}
 use Rattle.tp_attempts.specs.Cuts.{Cut}
 use Rattle.tp_attempts.specs.Seen.{Seen}
-use Rattle.tp_unit.specs.Reading.{unit_of}
-use Rattle.tp_unit.specs.Shape.{address_size}
+use Rattle.tp_attempts.specs.Walk.{Piece}
+use Rattle.tp_receiver.specs.Own.{IsBlock}
+use Rattle.tp_receiver.specs.declared.set.RxSet.{RxSet}
 use Rattle.tp_unit.specs.Unit.{Meaning, SingleFrame, FirstFrame, ConsecutiveFrame, FlowControl, NoUnit}
 use Rattle.receiver_law.specs.Channel.{SourceChannel}
-use Rattle.receiver_law.specs.Source.{is_overflow}
+use Rattle.receiver_law.specs.Receptions.{ControlKind, Continue, ControlLeft, Received, Refuse, Wait, counted, frames_of, last_by, waits_in}
+use Rattle.receiver_law.specs.Source.{is_overflow, is_run_end}
+
+-- the bus was full in each tick from one on and below another
+abbrev pub IsFullFrom : (full : ℕ → Bool) → (from to : ℕ) → Type 0
+IsFullFrom full from to = (tick : ℕ) → from ≤ tick → tick < to → full tick ≡ true
+
+-- a flow control of a session lets so many frames come as is configured, or asks to wait
+abbrev pub IsOfSession : RxSet → ControlKind → Type 0
+IsOfSession set (Continue frames) = IsBlock set frames
+IsOfSession set Wait = Unit {0}
+IsOfSession set Refuse = ⊥
+
+-- so many frames came by a tick since a flow control was put into its box: in that tick, or before it while the bus
+-- was full
+pub record HaveCome (full : ℕ → Bool) (frames : List Piece) (block left tick : ℕ) : Type 0 where
+  pub from : ℕ
+  pub by : from ≤ left
+  pub boxed : IsFullFrom full from left
+  pub enough : block ≤ counted from tick frames
+
+-- what a flow control that left asks for is over by a tick: its block came, or its pause was waited for; after one
+-- that lets all frames come no further one leaves
+abbrev pub IsOver : (full : ℕ → Bool) → RxSet → List Piece → (left : ℕ) → ControlKind → (tick : ℕ) → Type 0
+IsOver full set frames left (Continue block) tick = (0 < block) × HaveCome full frames block left tick
+IsOver full set frames left Wait tick = left + set.n_br ≤ tick
+IsOver full set frames left Refuse tick = ⊥
+
+-- a flow control that left lets no frame come any more: it asked to wait, or its block came by a tick
+abbrev pub IsSpent : (full : ℕ → Bool) → List Piece → (left : ℕ) → ControlKind → (tick : ℕ) → Type 0
+IsSpent full frames left (Continue block) tick = (0 < block) × HaveCome full frames block left tick
+IsSpent full frames left Wait tick = Unit {0}
+IsSpent full frames left Refuse tick = ⊥
+
+-- a further flow control may leave in that tick
+abbrev pub MayFollow : (full : ℕ → Bool) → RxSet → List Piece → List ControlLeft → (tick : ℕ) → Type 0
+MayFollow full set frames [] tick = Unit {0}
+MayFollow full set frames (control ∷ earlier) tick = IsOver full set frames control.tick control.kind tick
+
+-- none lets a frame come any more: none left yet, the newest one asked to wait, or its block came
+abbrev pub LetsNoneCome : (full : ℕ → Bool) → List Piece → List ControlLeft → (tick : ℕ) → Type 0
+LetsNoneCome full frames [] tick = Unit {0}
+LetsNoneCome full frames (control ∷ earlier) tick = IsSpent full frames control.tick control.kind tick
+
+-- each one leaves once what the one before it asks for is over
+abbrev pub FollowOneAnother : (full : ℕ → Bool) → RxSet → List Piece → List ControlLeft → Type 0
+FollowOneAnother full set frames [] = Unit {0}
+FollowOneAnother full set frames (control ∷ earlier) = MayFollow full set frames earlier control.tick ×
+    FollowOneAnother full set frames earlier
+
+-- no more than so many that ask to wait follow one another with no frame between
+abbrev pub WaitsAreFew : (most : ℕ) → List Piece → List ControlLeft → Type 0
+WaitsAreFew most frames [] = Unit {0}
+WaitsAreFew most frames (control ∷ earlier) = (waits_in control.tick frames (control ∷ earlier) ≤ most) ×
+    WaitsAreFew most frames earlier
+
+-- in that tick a further flow control is owed: none left yet, the block of the newest one is over, or so is its pause
+abbrev pub IsOwedAfter : RxSet → List Piece → (left : ℕ) → ControlKind → (tick : ℕ) → Type 0
+IsOwedAfter set frames left (Continue block) tick = (0 < block) × (block ≤ counted (left + 1) tick frames)
+IsOwedAfter set frames left Wait tick = left + set.n_br ≤ tick
+IsOwedAfter set frames left Refuse tick = ⊥
+
+abbrev pub IsOwed : RxSet → List Piece → Option ControlLeft → (tick : ℕ) → Type 0
+IsOwed set frames None tick = Unit {0}
+IsOwed set frames (Some control) tick = IsOwedAfter set frames control.tick control.kind tick
+
+-- each counted frame up to that tick came so long before it
+abbrev pub IsSilent : (limit tick : ℕ) → List Piece → Type 0
+IsSilent limit tick frames = AllByRecursion (λ (piece : Piece). piece.at ≤ tick → piece.at + limit ≤ tick) frames
+
+-- in that tick a consecutive frame that the newest flow control lets come is late, by the time limit N_Cr
+pub record IsLateAfter (set : RxSet) (frames : List Piece) (left block tick : ℕ) : Type 0 where
+  pub limit : left + set.n_cr ≤ tick
+  pub lets : (block ≡ 0) ⊎ (counted (left + 1) tick frames < block)
+  pub silent : IsSilent set.n_cr tick frames
+
+abbrev pub IsLateIn : RxSet → List Piece → (left : ℕ) → ControlKind → (tick : ℕ) → Type 0
+IsLateIn set frames left (Continue block) tick = IsLateAfter set frames left block tick
+IsLateIn set frames left Wait tick = ⊥
+IsLateIn set frames left Refuse tick = ⊥
+
+abbrev pub IsLate : RxSet → List Piece → Option ControlLeft → (tick : ℕ) → Type 0
+IsLate set frames None tick = ⊥
+IsLate set frames (Some control) tick = IsLateIn set frames control.tick control.kind tick
+
+-- the flow controls of a session that began in a tick, the newest first, and its frames, below another tick
+pub record AreAnswers (full : ℕ → Bool) (set : RxSet) (frames : List Piece) (begin end : ℕ) (controls : List ControlLeft) : Type 0 where
+  pub kinds : AllByRecursion (λ (control : ControlLeft). IsOfSession set control.kind) controls
+  pub within : AllByRecursion (λ (control : ControlLeft). (begin ≤ control.tick) × (control.tick < end)) controls
+  pub follow : FollowOneAnother full set frames controls
+  pub waits : WaitsAreFew (set.wft_max + 1) frames controls
+  -- where one is owed and doesn't leave, its bus is full for it
+  pub owed : (tick : ℕ) → begin ≤ tick → tick < end → IsOwed set frames (last_by tick controls) tick → full tick ≡ true
+  -- no frame is late, unless the bus is full for the flow control that asks for a further block
+  pub in_time : (tick : ℕ) → begin ≤ tick → tick < end → IsLate set frames (last_by tick controls) tick →
+      full tick ≡ true
 
 -- a first frame
 abbrev pub IsFirst : Meaning → Type 0
@@ -20,78 +114,30 @@ IsFirst (ConsecutiveFrame number bytes) = ⊥
 IsFirst (FlowControl status block_size separation) = ⊥
 IsFirst (NoUnit why) = ⊥
 
--- the record at that place is of an attempt that a first frame starts, and it tells of an overflow or of an opened session
-pub record IsSegmented (r : SourceChannel) (place : ℕ) (told : SessionRecord) (refused : Bool) : Type 0 where
-  pub attempt : Cut Seen
-  pub attempt_is : slice_get (attempts_in r.rx.functional r.seen) place ≡ Some attempt
-  pub told_is : slice_get r.sessions place ≡ Some told
-  pub first : IsFirst attempt.start.meaning
-  pub result : is_overflow told.result ≡ refused
+-- the tick below which the flow controls of a session left: its end, which they may leave in where the run ended it
+abbrev pub bound_of : SessionRecord → ℕ
+bound_of told = if is_run_end told.result then told.end.0 + 1 else told.end.0
 
--- what a frame of the source's channel says
-abbrev pub said_in : SourceChannel → Written → Meaning
-said_in r w = unit_of (address_size r.shape) w.frame
+-- the record of no later start of the channel begins up to that tick
+abbrev pub NoneBegins : List SessionRecord → (n tick : ℕ) → Type 0
+NoneBegins records n tick = (later : ℕ) (next : SessionRecord) → n < later → slice_get records later ≡ Some next →
+    tick < next.begin.0
 
--- a flow control with that status
-pub record HasStatus (r : SourceChannel) (status : ℕ) (w : Written) : Type 0 where
-  pub block_size : ℕ
-  pub separation : ℕ
-  pub says : said_in r w ≡ FlowControl status block_size separation
+-- the flow controls of a first frame that found no buffer: at most one leaves, and it refuses the message, within
+-- N_Ar; it is owed until the next start or the run's end
+pub record AreRefusals (full : ℕ → Bool) (set : RxSet) (records : List SessionRecord) (last : ℕ) (told : SessionRecord) (controls : List ControlLeft) : Type 0 where
+  pub kinds : AllByRecursion (λ (control : ControlLeft). control.kind ≡ Refuse) controls
+  pub within : AllByRecursion (λ (control : ControlLeft). (told.begin.0 ≤ control.tick) ×
+      (control.tick < told.begin.0 + set.n_ar)) controls
+  pub once : length controls ≤ 1
+  pub owed : (tick : ℕ) → told.begin.0 ≤ tick → tick < told.begin.0 + set.n_ar → tick ≤ last →
+      NoneBegins records told.n tick → last_by tick controls ≡ None → full tick ≡ true
 
--- a session that was opened begins in that tick, of a later start than the one at that place
-pub record LaterBegins (r : SourceChannel) (place tick : ℕ) : Type 0 where
-  pub later : ℕ
-  pub above : place < later
-  pub told : SessionRecord
-  pub told_is : slice_get r.sessions later ≡ Some told
-  pub opened : is_overflow told.result ≡ false
-  pub begins : told.begin.0 ≡ tick
-
--- a flow control of the session at that place: it lets frames come or asks for a pause, and leaves in one of the session's
--- ticks, of which the last one isn't the session's own where a later session begins in it
-pub record IsOfSession (r : SourceChannel) (place : ℕ) (told : SessionRecord) (w : Written) : Type 0 where
-  pub status : HasStatus r 0 w ⊎ HasStatus r 1 w
-  pub from : told.begin.0 ≤ w.tick
-  pub to : w.tick ≤ told.end.0
-  pub own : w.tick ≡ told.end.0 → LaterBegins r place w.tick → ⊥
-
--- a flow control that lets frames come is of a session that a first frame opened, sets no limit to the frames, and asks for
--- the configured separation time
-pub record LetsCome (r : SourceChannel) (w : Written) : Type 0 where
-  pub place : ℕ
-  pub told : SessionRecord
-  pub session : IsSegmented r place told false
-  pub of : IsOfSession r place told w
-  pub says : said_in r w ≡ FlowControl 0 0 r.rx.st
-
--- a flow control that tells of no room is of the overflow of a first frame, told at that place, and leaves within N_Ar
-pub record TellsNoRoom (r : SourceChannel) (place : ℕ) (w : Written) : Type 0 where
-  pub told : SessionRecord
-  pub overflow : IsSegmented r place told true
-  pub from : told.begin.0 ≤ w.tick
-  pub to : w.tick < told.begin.0 + r.rx.n_ar
-
--- the record of no later start begins up to that tick
-abbrev pub NoneBegins : SourceChannel → (place tick : ℕ) → Type 0
-NoneBegins r place tick = (later : ℕ) (next : SessionRecord) → place < later → slice_get r.sessions later ≡ Some next → tick < next.begin.0
-
--- each flow control that tells of no room is of an overflow, and each further one is of a later overflow: so none has two
-pub record AreOfOverflows (r : SourceChannel) : Type 0 where
-  -- the place of the overflow's record, by the place of the flow control
-  pub place_of : ℕ → ℕ
-  pub tells : (k : ℕ) (w : Written) → slice_get r.controls k ≡ Some w → HasStatus r 2 w → TellsNoRoom r (place_of k) w
-  pub rising : (k later : ℕ) (w next : Written) → k < later → slice_get r.controls k ≡ Some w → slice_get r.controls later ≡ Some next → HasStatus r 2 w → HasStatus r 2 next → place_of k < place_of later
-
--- which flow controls leave, and where one that is owed doesn't leave its bus is full for it in that tick
-pub record FlowControlLaw (full : ℕ → Bool) (r : SourceChannel) : Type 0 where
-  pub lets_come : AllByRecursion (λ (w : Written). HasStatus r 0 w → LetsCome r w) r.controls
-  pub no_room : AreOfOverflows r
-  -- after one that lets all frames come no further one of its session leaves
-  pub last : (place separation : ℕ) (told : SessionRecord) (before after : List Written) (w : Written) → slice_get r.sessions place ≡ Some told → r.controls ≡ before ++ w ∷ after →
-      IsOfSession r place told w → said_in r w ≡ FlowControl 0 0 separation → AllByRecursion (λ (next : Written). IsOfSession r place told next → ⊥) after
-  -- a session of a first frame owes one from its begin on
-  pub owes : (place tick : ℕ) (told : SessionRecord) → IsSegmented r place told false → told.begin.0 ≤ tick → tick < told.end.0 →
-      AllByRecursion (λ (w : Written). IsOfSession r place told w → tick < w.tick) r.controls → full tick ≡ true
-  -- an overflow of a first frame owes one for N_Ar, until the next start or the run's end
-  pub owes_no_room : (place tick : ℕ) (told : SessionRecord) → IsSegmented r place told true → told.begin.0 ≤ tick → tick < told.begin.0 + r.rx.n_ar → tick ≤ r.last → NoneBegins r place tick →
-      AllByRecursion (λ (w : Written). HasStatus r 2 w → told.begin.0 ≤ w.tick → tick < w.tick) r.controls → full tick ≡ true
+-- the flow controls of a reception: none of a single frame; those of a session; or those of an overflow
+pub record IsAnswered (full : ℕ → Bool) (r : SourceChannel) (attempt : Cut Seen) (one : Received) : Type 0 where
+  pub start : one.start ≡ attempt.start
+  pub none : (IsFirst one.start.meaning → ⊥) → one.controls ≡ []
+  pub session : IsFirst one.start.meaning → is_overflow one.told.result ≡ false →
+      AreAnswers full r.rx (frames_of r.rx.a attempt) one.told.begin.0 (bound_of one.told) one.controls
+  pub refusal : IsFirst one.start.meaning → is_overflow one.told.result ≡ true →
+      AreRefusals full r.rx r.sessions r.last one.told one.controls

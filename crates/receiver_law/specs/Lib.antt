@@ -3,6 +3,8 @@ pub mod FlowControls
 pub mod Laws
 pub mod Looks
 pub mod Parts
+pub mod PutCells
 pub mod ReceptionCauses
+pub mod Receptions
 pub mod RxRun
 pub mod Source

@@ -1,7 +1,6 @@
 -- What a receiver does in a tick: the frames that came, its timer, and its flow control that leaves.
 use Rattle.std.specs.Prelude.{◌≡◌, ℕ, ◌+◌, ◌≤◌, Option, Some, None, List, [], ◌∷◌, ◌++◌, length}
 use Rattle.std.specs.List.{AllByRecursion}
-use Rattle.hub_core.specs.Turns.{calls_by}
 use Rattle.hub_core.specs.View.{View, Event, Asked, Session, grows, session_at}
 use Rattle.tp_receiver.specs.Runs.{control_after}
 use Rattle.tp_receiver.specs.State.{RxEvent, Came, Timer, FcLeft, RunEnd, RxTurn}

@@ -10,13 +10,14 @@ use Rattle.tp_sender.proofs.Settles.{box-settles}
 use Rattle.tp_unit.specs.Box.{box_then}
 use Rattle.tp_unit.specs.Unit.{BoxMeaning, Keeps, Offers, Revokes, Meaning}
 use Rattle.sender_law.specs.Parts.{IsTxPart}
+use Rattle.sender_law.specs.Runs.{AreTxParts}
 
 -- a part's turns, after earlier ones
 pub turns-in : (full : ℕ → Bool) (earlier : List TxTurn) (part : Part TxTurn) → (is : IsTxPart full earlier part) → part.turns ++ earlier ≡ is.left ++ is.turn ∷ (is.answers ++ earlier)
 turns-in full earlier part is = ap (λ l. l ++ earlier) is.turns_are ∙ append_assoc is.left (is.turn ∷ is.answers) earlier
 
 -- where no session is sent nothing lies in the box
-abbrev Agrees : Option Meaning → Type 0 → Type 0
+abbrev pub Agrees : Option Meaning → Type 0 → Type 0
 Agrees None has = Unit {0}
 Agrees (Some meaning) has = has
 
@@ -32,7 +33,7 @@ agrees-once (Fc fs bs st) lies live agrees = agrees
 agrees-once Left lies live agrees = tt
 agrees-once RunEnd lies live agrees = agrees
 
-box-agrees : (set : TxSet) (turns : List TxTurn) → HasSent set turns → Agrees (box_after turns) (HasFrame (state_after tx_new turns).live)
+pub box-agrees : (set : TxSet) (turns : List TxTurn) → HasSent set turns → Agrees (box_after turns) (HasFrame (state_after tx_new turns).live)
 box-agrees set [] happened = tt
 box-agrees set (turn ∷ earlier) happened =
     agrees-then turn.did.act (box_once turn.event (box_after earlier)) (StillHasFrame turn.event (state_after tx_new earlier).live) turn.did.new.live (box-settles set (state_after tx_new earlier) turn.event turn.did happened.1.1)
@@ -44,3 +45,8 @@ none-lies (Some meaning) live is agrees = let P : Option Transmission → Type 0
 
 pub idle-box : (set : TxSet) (turns : List TxTurn) → HasSent set turns → (state_after tx_new turns).live ≡ None → box_after turns ≡ None
 idle-box set turns happened is = none-lies (box_after turns) (state_after tx_new turns).live is (box-agrees set turns happened)
+
+-- earlier parts of a run
+pub parts-front : (full : ℕ → Bool) (later earlier : List (Part TxTurn)) → AreTxParts full (later ++ earlier) → AreTxParts full earlier
+parts-front full [] earlier are = are
+parts-front full (part ∷ later) earlier are = parts-front full later earlier are.1

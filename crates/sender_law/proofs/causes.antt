@@ -1,5 +1,7 @@
 -- Why records end.
 pub mod RunEnds
+pub mod SourceEnds
+pub mod SourceSeen
 pub mod TransmissionCauses
 pub mod TxCausesEnd
 pub mod TxCausesFrames

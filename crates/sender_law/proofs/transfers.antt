@@ -1,7 +1,9 @@
 -- The transmissions.
 pub mod OtherFrames
 pub mod TxAnswers
+pub mod TxBegun
 pub mod TxBoxed
+pub mod TxEnds
 pub mod TxFrames
 pub mod TxLaw
 pub mod TxLeaves

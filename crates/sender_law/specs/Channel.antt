@@ -1,5 +1,5 @@
 -- A destination's channel: how it is configured, what came and what left on it, and what is told of its transmissions.
-use Rattle.std.specs.Prelude.{◌≡◌, ℕ, Bool, true, false, List}
+use Rattle.std.specs.Prelude.{◌≡◌, ℕ, true, List}
 use Rattle.hub_core.specs.declared.record.DestRecord.{DestRecord}
 use Rattle.tp_sender.specs.declared.set.TxSet.{TxSet}
 use Rattle.tp_unit.specs.Box.{Answer, IsNoData, Written}
@@ -18,10 +18,6 @@ pub record DestChannel : Type 0 where
   pub answers : List Answer
   pub frames : List Written
   pub dests : List DestRecord
-
--- a bus that is full in no tick
-abbrev pub never_full : ℕ → Bool
-never_full tick = false
 
 -- a data frame of the destination's channel, written in its shape
 pub record WritesData (shape : Shape) (w : Written) : Type 0 where

@@ -3,7 +3,7 @@
 use Rattle.std.specs.Prelude.{◌≡◌, ◌⊎◌, ℕ, ◌≤◌, true, false, Some, List, [], ◌∷◌, ◌++◌}
 use Rattle.hub_core.specs.Turns.{calls_by, state_after}
 use Rattle.hub_core.specs.View.{Event, Saw}
-use Rattle.hub_core.specs.declared.port.Seen.{Seen}
+use Rattle.hub_core.specs.declared.port.Seen.{Seen as Look}
 use Rattle.tp_sender.specs.State.{Transmission, TxTurn, tx_new}
 use Rattle.tp_sender.specs.declared.event.TxEvent.TheVariants.{Left, Turn}
 use Rattle.tp_sender.specs.declared.set.TxSet.{TxSet}
@@ -17,16 +17,16 @@ pub record IsAmong (call : Event) (calls : List Event) : Type 0 where
   pub are : calls ≡ before ++ call ∷ after
 
 -- a look of a session
-abbrev pub look_of : TxSet → (seq : ℕ) → Seen → Event
+abbrev pub look_of : TxSet → (seq : ℕ) → Look → Event
 look_of set seq look = Saw set.path.0 set.dest.0 seq look.cells look.bytes look.writer
 
 -- a look shows enough of a session of so many bytes: all of them or, unless whole units are stored, as many cells as the threshold
-abbrev pub ShowsEnough : TxSet → (len : ℕ) → Seen → Type 0
+abbrev pub ShowsEnough : TxSet → (len : ℕ) → Look → Type 0
 ShowsEnough set len look = (look.bytes ≡ len) ⊎ ((set.store ≡ false) × (set.threshold ≤ look.cells))
 
 -- among these calls is a look of the session that shows enough of it
 pub record HasLooked (set : TxSet) (calls : List Event) (seq len : ℕ) : Type 0 where
-  pub look : Seen
+  pub look : Look
   pub among : IsAmong (look_of set seq look) calls
   pub enough : ShowsEnough set len look
 
@@ -51,7 +51,7 @@ IsLacking (Gap until) = ⊥
 
 -- among these calls is a look of the session that shows that its source still writes
 pub record SawSource (set : TxSet) (calls : List Event) (seq : ℕ) : Type 0 where
-  pub look : Seen
+  pub look : Look
   pub among : IsAmong (look_of set seq look) calls
   pub writes : look.writer ≡ true
 

@@ -1,5 +1,7 @@
+pub mod Blocks
 pub mod CellByCell
 pub mod Composing
+pub mod Consistency
 pub mod Made
 pub mod OwnSteps
 pub mod Sizes

@@ -1,9 +1,10 @@
 -- The few kinds of effects that a receiver's steps are made of, whatever the row of the table: each leads from one stage of a step to the next.
 use Rattle.std.specs.Prelude.{◌≡◌, ◌≢◌, ◌⊎◌, ℕ, ◌+◌, ◌<◌, ◌≤◌, Bool, true, false, Option, Some, None, List, [], ◌∷◌, ◌++◌, length, take}
-use Rattle.std.specs.List.{AllByRecursion}
 use Rattle.cell_stream.specs.Packing.{IsPacked}
+use Rattle.flow_plan.specs.declared.block.Grant.{Grant}
+use Rattle.flow_plan.specs.declared.block.Grant.TheVariants.{Wait as NoFrames}
 use Rattle.hub_core.specs.Calls.{freed_by}
-use Rattle.hub_core.specs.View.{Event, Took, Refused, Entered, Asked, Put, Published, Joining, Missed, Saw, Read, Closed, Parted}
+use Rattle.hub_core.specs.View.{Event, Refused, Closed}
 use Rattle.hub_core.specs.declared.port.Left.{Left}
 use Rattle.hub_core.specs.declared.port.Room.{Room}
 use Rattle.hub_core.specs.declared.record.OpenedAt.{OpenedAt}
@@ -14,8 +15,10 @@ use Rattle.hub_core.specs.declared.record.SessionResult.{SessionResult}
 use Rattle.hub_core.specs.declared.record.SessionResult.TheVariants.{Whole, Overflow, WrongSn, RxTimeout, Restarted, NoRoom, WaitOver, NoReaders, Cancelled, RunEnd as EndOfRun}
 use Rattle.tp_attempts.specs.Seen.{bytes_of, is_start, len_of}
 use Rattle.tp_receiver.specs.declared.set.RxSet.{RxSet}
+pub use Rattle.tp_receiver.specs.Own.{OfWriter, IsBlock, IsControl, IsControlAct, IsMadeNow, IsOwnStep, Continues, AsksToWait, TellsOverflow}
+use Rattle.tp_receiver.specs.Grant.{MayGrant, control_of, grant_in, left_of, need_of, overflow, waits_of}
 use Rattle.tp_receiver.specs.State.{Reception, RxDid, RxEvent, RxState, Came, Timer, FcLeft, RunEnd, busy_with, idle}
-use Rattle.tp_receiver.specs.Table.{IsLookedAt, Opens as OpensSession, asks, begun, cells_of, continue_to_send, due, ended, gone_on, later_act, overflow, puts, refused, revoking}
+use Rattle.tp_receiver.specs.Table.{IsDue, IsLookedAt, Opens as OpensSession, after_opening, asks, awaited_after, begun, due, ended, gone_on, later_act, puts, refused, revoking}
 use Rattle.tp_unit.specs.Unit.{Meaning, SingleFrame, FirstFrame, ConsecutiveFrame, FlowControl, NoUnit, BoxMeaning, Keeps, Offers, Revokes}
 
 -- where a step stands between two of its effects
@@ -61,17 +64,25 @@ refusal_act (ConsecutiveFrame number bytes) = Keeps
 refusal_act (FlowControl status block_size separation) = Keeps
 refusal_act (NoUnit why) = Keeps
 
--- no free buffer fits the start's bytes
+-- and lies in the box since this tick, in place of what lay there
+abbrev pub refusing_since : Meaning → (tick : ℕ) → Option ℕ → Option ℕ
+refusing_since (SingleFrame bytes) tick before = before
+refusing_since (FirstFrame len bytes) tick before = Some tick
+refusing_since (ConsecutiveFrame number bytes) tick before = before
+refusing_since (FlowControl status block_size separation) tick before = before
+refusing_since (NoUnit why) tick before = before
+
+-- no free buffer has the cells that the start needs
 pub record IsRefusal (set : RxSet) (event : RxEvent) (tick : ℕ) (old : RxStage) (done : RxDone) : Type 0 where
   pub size : ℕ
   pub meaning : Meaning
   pub of : HasStart set event old size meaning
   pub number : ℕ
   pub free : ℕ
-  pub calls : done.calls ≡ Refused set.group.0 number free (cells_of (length (bytes_of meaning))) ∷ []
+  pub calls : done.calls ≡ Refused set.group.0 number free (need_of set size (len_of meaning) (length (bytes_of meaning))) ∷ []
   pub act : done.act ≡ refusal_act meaning
-  pub records : done.records ≡ refused set old.state.next (len_of meaning) tick number free (cells_of (length (bytes_of meaning))) ∷ []
-  pub new : done.new ≡ at_stage (idle (old.state.next + 1) old.state.seq) None true
+  pub records : done.records ≡ refused set old.state.next (len_of meaning) tick number free (need_of set size (len_of meaning) (length (bytes_of meaning))) ∷ []
+  pub new : done.new ≡ at_stage (record old.state { next = old.state.next + 1; refusing = refusing_since meaning tick old.state.refusing }) None true
 
 -- a session is opened for the start, and its bytes are put
 pub record IsOpening (set : RxSet) (event : RxEvent) (tick : ℕ) (old : RxStage) (done : RxDone) : Type 0 where
@@ -80,20 +91,21 @@ pub record IsOpening (set : RxSet) (event : RxEvent) (tick : ℕ) (old : RxStage
   pub of : HasStart set event old size meaning
   pub within : length (bytes_of meaning) ≤ len_of meaning
   pub opened : OpenedAt
-  pub opens : OpensSession set old.state.seq (len_of meaning) (bytes_of meaning) opened done.calls
+  pub opens : OpensSession set old.state.seq size (len_of meaning) (bytes_of meaning) opened done.calls
   pub act : done.act ≡ Keeps
   pub records : done.records ≡ []
-  pub new : done.new ≡ at_stage (busy_with (old.state.next + 1) (old.state.seq + 1) (begun old.state.next (len_of meaning) size (length (bytes_of meaning)) tick opened)) None true
+  pub new : done.new ≡ at_stage (busy_with (after_opening old.state) (begun old.state.next (len_of meaning) size (length (bytes_of meaning)) tick opened)) None true
 
--- a frame came
-pub record HasCame (event : RxEvent) : Type 0 where
-  pub size : ℕ
-  pub meaning : Meaning
-  pub came : event ≡ Came size meaning
+-- a frame came, or a tick is over
+abbrev pub MayLook : RxEvent → Type 0
+MayLook (Came size meaning) = Unit {0}
+MayLook Timer = Unit {0}
+MayLook FcLeft = ⊥
+MayLook RunEnd = ⊥
 
--- a look at the room, for a frame that came
+-- a look at the room
 pub record IsLook (set : RxSet) (event : RxEvent) (old : RxStage) (done : RxDone) : Type 0 where
-  pub of : HasCame event
+  pub of : MayLook event
   pub busy : Reception
   pub was : old.state.busy ≡ Some busy
   pub look : Room
@@ -118,36 +130,73 @@ pub record IsPut (set : RxSet) (event : RxEvent) (tick : ℕ) (old : RxStage) (d
   pub calls : done.calls ≡ puts set.path.0 busy.opened.seq cells
   pub act : done.act ≡ Keeps
   pub records : done.records ≡ []
-  pub new : done.new ≡ at_stage (busy_with old.state.next old.state.seq (gone_on busy (length (take (due set.a busy) bytes)) tick)) None true
+  pub new : done.new ≡ at_stage (busy_with old.state (gone_on busy (length (take (due set.a busy) bytes)) tick)) None true
 
--- the flow control of a first frame, whose session was opened in this step and has a destination
-pub record IsGranted (set : RxSet) (event : RxEvent) (old : RxStage) (busy : Reception) (act : BoxMeaning) : Type 0 where
-  pub act_is : act ≡ Offers (continue_to_send set)
-  pub size : ℕ
-  pub len : ℕ
-  pub bytes : List ℕ
-  pub came : event ≡ Came size (FirstFrame len bytes)
-  pub used : old.used ≡ true
-  pub begun : busy.wait ≡ Cf
+-- why a flow control is asked for: a first frame opened the session in this step, the last frame of a block was put in it, or room was
+-- waited for as long as is configured
+pub data IsAskedFor (set : RxSet) (event : RxEvent) (tick : ℕ) (old : RxStage) (busy : Reception) : Type 0 where
+  AfterStart : (size len : ℕ) (bytes : List ℕ) → event ≡ Came size (FirstFrame len bytes) → old.used ≡ true → busy.wait ≡ Cf → busy.left ≡ None → IsAskedFor set event tick old busy
+  AfterBlock : (size number : ℕ) (bytes : List ℕ) → event ≡ Came size (ConsecutiveFrame number bytes) → old.used ≡ true → busy.left ≡ Some 0 → IsAskedFor set event tick old busy
+  AfterPause : event ≡ Timer → IsDue set busy ForRoom tick → IsAskedFor set event tick old busy
+
+-- the last look at the room shows that destinations read, and what is granted
+pub record IsSeen (set : RxSet) (old : RxStage) (busy : Reception) (grant : Grant) : Type 0 where
   pub look : Room
   pub looked : old.look ≡ Some look
   pub some : 0 < look.readers
+  pub grant_is : grant_in set busy look.cells ≡ grant
+
+-- the flow control of what is granted is put into the box, in place of what lies there
+pub record IsGranted (set : RxSet) (event : RxEvent) (tick : ℕ) (old : RxStage) (busy : Reception) (act : BoxMeaning) (left : Option ℕ) (waits : ℕ) (refusing : Option ℕ) : Type 0 where
+  pub asked : IsAskedFor set event tick old busy
+  pub grant : Grant
+  pub seen : IsSeen set old busy grant
+  pub may : MayGrant set busy grant
+  pub act_is : act ≡ Offers (control_of set grant)
+  pub left_is : left ≡ left_of grant
+  pub waits_is : waits ≡ waits_of grant busy.waits
+  pub refusing_is : refusing ≡ None
+
+-- the flow control left the box, and what it asks for is awaited
+pub record IsGone (event : RxEvent) (old : RxStage) (busy : Reception) (act : BoxMeaning) (wait : RxWait) (left : Option ℕ) (waits : ℕ) (refusing : Option ℕ) : Type 0 where
+  pub act_is : act ≡ Keeps
+  pub was_boxed : busy.wait ≡ Box
+  pub told : event ≡ FcLeft
+  pub wait_is : wait ≡ awaited_after busy.left
+  pub left_is : left ≡ busy.left
+  pub waits_is : waits ≡ busy.waits
+  pub refusing_is : refusing ≡ old.state.refusing
 
 -- why a reception waits: its flow control is put into its box, or left from there
-abbrev pub Because : RxSet → RxEvent → RxStage → Reception → BoxMeaning → RxWait → Type 0
-Because set event old busy act Box = IsGranted set event old busy act
-Because set event old busy act ForRoom = ⊥
-Because set event old busy act Cf = (act ≡ Keeps) × (busy.wait ≡ Box) × (event ≡ FcLeft)
+abbrev pub Because : RxSet → RxEvent → (tick : ℕ) → RxStage → Reception → BoxMeaning → RxWait → (left : Option ℕ) → (waits : ℕ) → (refusing : Option ℕ) → Type 0
+Because set event tick old busy act Box left waits refusing = IsGranted set event tick old busy act left waits refusing
+Because set event tick old busy act ForRoom left waits refusing = IsGone event old busy act ForRoom left waits refusing
+Because set event tick old busy act Cf left waits refusing = IsGone event old busy act Cf left waits refusing
 
 -- from this tick on the reception waits for that
 pub record IsWait (set : RxSet) (event : RxEvent) (tick : ℕ) (old : RxStage) (done : RxDone) : Type 0 where
   pub busy : Reception
   pub was : old.state.busy ≡ Some busy
   pub wait : RxWait
-  pub because : Because set event old busy done.act wait
+  pub left : Option ℕ
+  pub waits : ℕ
+  pub refusing : Option ℕ
+  pub because : Because set event tick old busy done.act wait left waits refusing
   pub calls : done.calls ≡ []
   pub records : done.records ≡ []
-  pub new : done.new ≡ at_stage (busy_with old.state.next old.state.seq (record busy { wait = wait; since = tick })) None old.used
+  pub new : done.new ≡ at_stage (record old.state { busy = Some (record busy { wait = wait; since = tick; left = left; waits = waits }); refusing = refusing }) None old.used
+
+-- a flow control that refused a message isn't in the box any more: it left, or it lay there too long and is revoked
+pub data IsForgotten (set : RxSet) (event : RxEvent) (tick : ℕ) (old : RxStage) (act : BoxMeaning) : Type 0 where
+  HasLeft : event ≡ FcLeft → act ≡ Keeps → IsForgotten set event tick old act
+  LayTooLong : (since : ℕ) → event ≡ Timer → old.state.refusing ≡ Some since → since + set.n_ar ≤ tick → act ≡ Revokes → IsForgotten set event tick old act
+
+pub record IsForgetting (set : RxSet) (event : RxEvent) (tick : ℕ) (old : RxStage) (done : RxDone) : Type 0 where
+  pub idle : old.state.busy ≡ None
+  pub because : IsForgotten set event tick old done.act
+  pub calls : done.calls ≡ []
+  pub records : done.records ≡ []
+  pub new : done.new ≡ at_stage (record old.state { refusing = None }) old.look old.used
 
 -- what a result says of the stage in which the reception ends
 abbrev pub EndsAt : RxSet → RxEvent → RxStage → Reception → SessionResult → Type 0
@@ -157,7 +206,7 @@ EndsAt set event old busy (WrongSn want got) = (want ≡ busy.number) × (got �
 EndsAt set event old busy (RxTimeout limit) = event ≡ Timer
 EndsAt set event old busy Restarted = (size : ℕ) × (meaning : Meaning) × (event ≡ Came size meaning) × (is_start set.functional meaning ≡ true)
 EndsAt set event old busy (NoRoom room need) = (look : Room) × (old.look ≡ Some look) × (0 < look.readers) × (look.cells ≡ room) × (room < need)
-EndsAt set event old busy WaitOver = ⊥
+EndsAt set event old busy WaitOver = IsSeen set old busy NoFrames × (set.wft_max ≤ busy.waits) × (event ≡ RunEnd → ⊥)
 EndsAt set event old busy NoReaders = (look : Room) × (old.look ≡ Some look) × (look.readers ≡ 0) × (event ≡ RunEnd → ⊥)
 EndsAt set event old busy Cancelled = ⊥
 EndsAt set event old busy (EndOfRun wait since) = (event ≡ RunEnd) × (wait ≡ busy.wait) × (since.0 ≡ busy.since)
@@ -175,7 +224,7 @@ used_after NoReaders used = used
 used_after Cancelled used = used
 used_after (EndOfRun wait since) used = used
 
--- the reception ends so: its writer leaves, what lies in the box of it doesn't leave, the record is made
+-- the reception ends so: its writer leaves, its flow control that lies in the box doesn't leave, the record is made
 pub record IsEnd (set : RxSet) (event : RxEvent) (tick : ℕ) (old : RxStage) (done : RxDone) : Type 0 where
   pub busy : Reception
   pub was : old.state.busy ≡ Some busy
@@ -187,7 +236,7 @@ pub record IsEnd (set : RxSet) (event : RxEvent) (tick : ℕ) (old : RxStage) (d
   pub calls : done.calls ≡ Closed set.path.0 busy.opened.seq (freed_by left) ∷ []
   pub act : done.act ≡ revoking busy.wait
   pub records : done.records ≡ ended set busy result tick ∷ []
-  pub new : done.new ≡ at_stage (idle old.state.next old.state.seq) None (used_after result old.used)
+  pub new : done.new ≡ at_stage (idle old.state) None (used_after result old.used)
 
 -- an effect, in a step of a tick that is told an event
 pub data RxEffect (set : RxSet) (event : RxEvent) (tick : ℕ) (old : RxStage) (done : RxDone) : Type 0 where
@@ -196,6 +245,7 @@ pub data RxEffect (set : RxSet) (event : RxEvent) (tick : ℕ) (old : RxStage) (
   Looks : IsLook set event old done → RxEffect set event tick old done
   Puts : IsPut set event tick old done → RxEffect set event tick old done
   Waits : IsWait set event tick old done → RxEffect set event tick old done
+  Forgets : IsForgetting set event tick old done → RxEffect set event tick old done
   Ends : IsEnd set event tick old done → RxEffect set event tick old done
 
 -- effects one after another, from a stage to the last one
@@ -249,38 +299,3 @@ pub record IsMade (set : RxSet) (event : RxEvent) (old : RxStage) (m : RxDid) : 
   pub more : (busy : Reception) → last.used ≡ true → last.state.busy ≡ Some busy → busy.bytes < busy.len
   -- what was begun in this step and goes on waits for its flow control to leave
   pub asked : HasAsked set event last
-
--- a call of a path's writer, or its use of its group's buffers
-abbrev pub OfWriter : (path group : ℕ) → Event → Type 0
-OfWriter path its (Took group number buf size need) = group ≡ its
-OfWriter path its (Refused group number free need) = group ≡ its
-OfWriter path its (Entered p seq buf number size len readers) = p ≡ path
-OfWriter path its (Asked p seq cells readers) = p ≡ path
-OfWriter path its (Put p seq cell) = p ≡ path
-OfWriter path its (Published p seq bytes) = p ≡ path
-OfWriter path its (Joining p dest seq buf len) = ⊥
-OfWriter path its (Missed group p dest seq) = ⊥
-OfWriter path its (Saw p dest seq cells bytes writer) = ⊥
-OfWriter path its (Read p dest seq cell) = ⊥
-OfWriter path its (Closed p seq freed) = p ≡ path
-OfWriter path its (Parted p dest seq freed) = ⊥
-
--- one of the flow controls that a receiver sends
-abbrev pub IsControl : RxSet → Meaning → Type 0
-IsControl set meaning = (meaning ≡ continue_to_send set) ⊎ (meaning ≡ overflow)
-
--- an act offers no other
-abbrev pub IsControlAct : RxSet → BoxMeaning → Type 0
-IsControlAct set Keeps = Unit {0}
-IsControlAct set (Offers meaning) = IsControl set meaning
-IsControlAct set Revokes = Unit {0}
-
--- a record is of the receiver's channel, and its end is the tick of the step that made it
-abbrev pub IsMadeNow : RxSet → ℕ → SessionRecord → Type 0
-IsMadeNow set tick told = (told.chan ≡ set.chan) × (told.end.0 ≡ tick)
-
--- whatever a step does: its calls are the path's writer's own, over its group's buffers, its records are its channel's and end in its tick, and it offers its own flow controls alone
-pub record IsOwnStep (set : RxSet) (m : RxDid) : Type 0 where
-  pub writes : AllByRecursion (OfWriter set.path.0 set.group.0) m.calls
-  pub ends : AllByRecursion (IsMadeNow set m.tick) m.records
-  pub control : IsControlAct set m.act

@@ -1,5 +1,8 @@
 pub mod Effects
+pub mod Grant
+pub mod Own
 pub mod Port
+pub mod Receptions
 pub mod Runs
 pub mod Set
 pub mod State

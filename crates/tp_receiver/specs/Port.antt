@@ -15,8 +15,9 @@ use Rattle.tp_receiver.specs.declared.reception.State.TheVariants.{Idle, Busy}
 use Rattle.tp_receiver.specs.declared.receiver.Receiver.{Receiver}
 use Rattle.tp_receiver.specs.declared.set.RxSet.{RxSet}
 use Rattle.hub_core.specs.Turns.{Over}
+use Rattle.tp_receiver.specs.Grant.{need_of}
 use Rattle.tp_receiver.specs.State.{RxDid, RxEvent, RxState, Came, Timer, FcLeft, RunEnd, reception_of}
-use Rattle.tp_receiver.specs.Table.{Opens, begun, cells_of, refused}
+use Rattle.tp_receiver.specs.Table.{Opens, begun, refused}
 use Rattle.tp_unit.specs.Reading.{unit_of}
 use Rattle.tp_unit.specs.Unit.{Meaning, box_meaning_of}
 
@@ -33,10 +34,12 @@ pub record KnowsReception (view : View) (path : ℕ) (r : HeldReception) : Type 
   pub told : r.writer.told ≡ r.writer.given
   pub remains : r.writer.given < r.writer.len
   pub number : r.number < 16
+  -- a first frame has eight bytes
+  pub size : 8 ≤ r.size
 
 -- the session that is opened for a start: the calls that opened it, and what is known of it
 pub record HasOpened (set : RxSet) (next seq len size tick : ℕ) (bytes : List ℕ) (floors : Floors) (old new : View) (r : HeldReception) : Type 0 where
-  pub over : Over floors old new (record { change = r.change; took = true; buf = r.writer.buf } ∷ []) (Opens set seq len bytes (reception_of r).opened)
+  pub over : Over floors old new (record { change = r.change; took = true; buf = r.writer.buf } ∷ []) (Opens set seq size len bytes (reception_of r).opened)
   pub is : reception_of r ≡ begun next len size (length bytes) tick (reception_of r).opened
   pub path_is : r.writer.path.0 ≡ set.path.0
   pub writes : Writes new r.writer
@@ -86,22 +89,22 @@ takes_for Timer = 0
 takes_for FcLeft = 0
 takes_for RunEnd = 0
 
-abbrev pub cells_for : RxEvent → ℕ
-cells_for (Came size meaning) = 9
-cells_for Timer = 0
-cells_for FcLeft = 0
-cells_for RunEnd = 0
+abbrev pub spare_for : RxEvent → ℕ
+spare_for (Came size meaning) = 9
+spare_for Timer = 0
+spare_for FcLeft = 0
+spare_for RunEnd = 0
 
 -- the writer's token after cells were put and published
 abbrev pub carried : List ℕ → Opened → Opened
 carried cells t = record t { put = t.put + length cells; given = t.given + counted cells; told = t.given + counted cells; room = t.room - length cells }
 
 -- a take finds no free buffer, and this is its record
-pub record Refuses (set : RxSet) (next len tick : ℕ) (bytes : List ℕ) (told : SessionRecord) (calls : List Event) : Type 0 where
+pub record Refuses (set : RxSet) (next size len tick : ℕ) (bytes : List ℕ) (told : SessionRecord) (calls : List Event) : Type 0 where
   pub number : ℕ
   pub free : ℕ
   pub need : ℕ
-  pub need_is : need ≡ cells_of (length bytes)
+  pub need_is : need ≡ need_of set size len (length bytes)
   pub calls_are : calls ≡ Refused set.group.0 number free need ∷ []
   pub told_is : told ≡ refused set next len tick number free need
 

@@ -1,9 +1,11 @@
 -- What a receiver is at, and what it is told.
-use Rattle.std.specs.Prelude.{◌≤◌, ℕ, Option, Some, None}
+use Rattle.std.specs.Prelude.{◌≡◌, ◌≢◌, ◌≤◌, ℕ, Option, Some, None, option_map}
+use Rattle.gw_base.specs.declared.numbers.Tick.{Tick}
 use Rattle.hub_core.specs.Turns.{Did, Turn}
 use Rattle.hub_core.specs.View.{Event}
 use Rattle.hub_core.specs.declared.record.OpenedAt.{OpenedAt}
 use Rattle.hub_core.specs.declared.record.RxWait.{RxWait}
+use Rattle.hub_core.specs.declared.record.RxWait.TheVariants.{Room, Cf}
 use Rattle.hub_core.specs.declared.record.SessionRecord.{SessionRecord}
 use Rattle.tp_unit.specs.Unit.{BoxMeaning, Meaning, meaning_of}
 use Rattle.tp_receiver.specs.declared.reception.Reception.{Reception as HeldReception}
@@ -25,19 +27,26 @@ pub record Reception : Type 0 where
   pub number : ℕ
   pub wait : RxWait
   pub since : ℕ
+  -- how many frames its last flow control lets come yet: no limit, so many, or none where that asked to wait; and how many flow
+  -- controls that ask to wait followed one another
+  pub left : Option ℕ
+  pub waits : ℕ
   pub opened : OpenedAt
 
--- a receiver's state: the numbers of its next start and of its path's next session, and its reception where it isn't idle
+-- a receiver's state: the numbers of its next start and of its path's next session, its reception where it isn't idle, and since which
+-- tick a flow control lies in its box that refused a message
 pub record RxState : Type 0 where
   pub next : ℕ
   pub seq : ℕ
   pub busy : Option Reception
+  pub refusing : Option ℕ
 
-abbrev pub idle : ℕ → ℕ → RxState
-idle next seq = record { next = next; seq = seq; busy = None }
+-- the same, with no reception, and with that one
+abbrev pub idle : RxState → RxState
+idle state = record state { busy = None }
 
-abbrev pub busy_with : ℕ → ℕ → Reception → RxState
-busy_with next seq busy = record { next = next; seq = seq; busy = Some busy }
+abbrev pub busy_with : RxState → Reception → RxState
+busy_with state busy = record state { busy = Some busy }
 
 -- what the machine's fields say
 abbrev pub reception_of : HeldReception → Reception
@@ -50,6 +59,8 @@ reception_of r = record {
   number = r.number;
   wait = r.wait;
   since = r.since.0;
+  left = r.left;
+  waits = r.waits;
   opened = record { seq = r.writer.seq; buf = r.writer.buf; change = r.change };
 }
 
@@ -58,7 +69,7 @@ reception_in Idle = None
 reception_in (Busy r) = Some (reception_of r)
 
 abbrev pub state_of : Receiver → RxState
-state_of r = record { next = r.next_n; seq = r.next_seq; busy = reception_in r.state }
+state_of r = record { next = r.next_n; seq = r.next_seq; busy = reception_in r.state; refusing = option_map (λ (since : Tick). since.0) r.refusing }
 
 -- what a receiver is told
 pub data RxEvent : Type 0 where
@@ -76,7 +87,7 @@ event_of EndOfRun = RunEnd
 
 -- no start came yet
 abbrev pub rx_new : RxState
-rx_new = idle 0 0
+rx_new = record { next = 0; seq = 0; busy = None; refusing = None }
 
 -- what a step of a receiver comes to, and its turn
 abbrev pub RxDid : Type 0
@@ -86,6 +97,25 @@ abbrev pub RxTurn : Type 0
 RxTurn = Turn RxEvent Event BoxMeaning SessionRecord RxState
 
 -- what a reception waits for, it waits for since this tick or an earlier one
-abbrev pub WaitsBy : State → ℕ → Type 0
-WaitsBy Idle tick = Unit {0}
-WaitsBy (Busy r) tick = r.since.0 ≤ tick
+abbrev pub WaitsIn : State → ℕ → Type 0
+WaitsIn Idle tick = Unit {0}
+WaitsIn (Busy r) tick = r.since.0 ≤ tick
+
+-- a flow control that refused a message lies in the box since this tick or an earlier one
+abbrev pub LiesBy : Option Tick → ℕ → Type 0
+LiesBy None tick = Unit {0}
+LiesBy (Some since) tick = since.0 ≤ tick
+
+pub record WaitsBy (r : Receiver) (tick : ℕ) : Type 0 where
+  pub reception : WaitsIn r.state tick
+  pub refusing : LiesBy r.refusing tick
+
+-- a reception between two steps: where a consecutive frame is awaited its block isn't over, where room is awaited no block is granted, and
+-- no flow control of an earlier start lies in the box
+pub record IsGoingOn (busy : Reception) (refusing : Option ℕ) : Type 0 where
+  pub frames : busy.wait ≡ Cf → busy.left ≢ Some 0
+  pub pause : busy.wait ≡ Room → busy.left ≡ Some 0
+  pub alone : refusing ≡ None
+
+abbrev pub IsConsistent : RxState → Type 0
+IsConsistent state = (busy : Reception) → state.busy ≡ Some busy → IsGoingOn busy state.refusing

@@ -1,101 +1,22 @@
 -- One turn of a receiver, row by row (ISO 15765-2, segmentation and reassembly; the records and sessions are this project's own).
-use Rattle.std.specs.Prelude.{◌≡◌, ◌≢◌, ℕ, ◌+◌, ◌-◌, ◌/◌, ◌%◌, ◌<◌, ◌≤◌, Bool, true, false, min, Option, Some, None, List, [], ◌∷◌, ◌++◌, length, map, take}
+use Rattle.std.specs.Prelude.{◌≡◌, ◌≢◌, ℕ, ◌+◌, ◌<◌, ◌≤◌, Bool, true, false, Option, Some, None, List, [], ◌∷◌, ◌++◌, length, take}
 use Rattle.cell_stream.specs.Packing.{IsPacked}
-use Rattle.gw_base.specs.Cell.{counted}
+use Rattle.flow_plan.specs.Cells.{cells_for}
+use Rattle.flow_plan.specs.declared.block.Grant.TheVariants.{All as AllFrames, Block as BlockOf, Wait as NoFrames}
 use Rattle.hub_core.specs.Calls.{freed_by}
-use Rattle.hub_core.specs.View.{Event, Took, Refused, Entered, Asked, Put, Published, Closed}
+use Rattle.hub_core.specs.View.{Event, Took, Refused, Entered, Asked, Closed}
 use Rattle.hub_core.specs.declared.port.Left.{Left}
 use Rattle.hub_core.specs.declared.record.OpenedAt.{OpenedAt}
-use Rattle.hub_core.specs.declared.record.RxLimit.TheVariants.{Cf as CfLimit}
+use Rattle.hub_core.specs.declared.record.RxLimit.TheVariants.{Box as BoxLimit, Cf as CfLimit}
 use Rattle.hub_core.specs.declared.record.RxWait.{RxWait}
 use Rattle.hub_core.specs.declared.record.RxWait.TheVariants.{Box, Room, Cf}
-use Rattle.hub_core.specs.declared.record.SessionRecord.{SessionRecord}
 use Rattle.hub_core.specs.declared.record.SessionResult.{SessionResult}
-use Rattle.hub_core.specs.declared.record.SessionResult.TheVariants.{Whole, Overflow, WrongSn, RxTimeout, Restarted, NoRoom, NoReaders, RunEnd as EndOfRun}
-use Rattle.tp_receiver.specs.declared.set.RxSet.{RxSet}
+use Rattle.hub_core.specs.declared.record.SessionResult.TheVariants.{Whole, WrongSn, RxTimeout, Restarted, NoRoom, WaitOver, NoReaders, RunEnd as EndOfRun}
+pub use Rattle.tp_receiver.specs.Receptions.{later_act, revoking, due, ended, begun, awaited_since, one_less, gone_on, awaited_after, limit_of, refused, puts}
+use Rattle.tp_receiver.specs.Grant.{ask_to_wait, continue_to_send, grant_in, need_of, overflow}
 use Rattle.tp_receiver.specs.State.{Reception, RxDid, RxState, RxEvent, Came, Timer, FcLeft, RunEnd, idle, busy_with}
+use Rattle.tp_receiver.specs.declared.set.RxSet.{RxSet}
 use Rattle.tp_unit.specs.Unit.{Meaning, SingleFrame, FirstFrame, ConsecutiveFrame, FlowControl, NoUnit, BoxMeaning, Keeps, Offers, Revokes}
-
--- the later of two acts, where it does anything
-abbrev pub later_act : BoxMeaning → BoxMeaning → BoxMeaning
-later_act earlier Keeps = earlier
-later_act earlier (Offers meaning) = Offers meaning
-later_act earlier Revokes = Revokes
-
--- where a reception ends, its flow control that still lies in the box doesn't leave
-abbrev pub revoking : RxWait → BoxMeaning
-revoking Box = Revokes
-revoking Room = Keeps
-revoking Cf = Keeps
-
--- the bytes that the next consecutive frame must carry: a whole frame's, or what remains
-abbrev pub due : ℕ → Reception → ℕ
-due address busy = min (busy.size - 1 - address) (busy.len - busy.bytes)
-
--- the record of a reception that ends so in that tick
-abbrev pub ended : RxSet → Reception → SessionResult → ℕ → SessionRecord
-ended set busy result tick = record {
-  chan = set.chan;
-  n = busy.n;
-  len = busy.len;
-  begin = record { 0 = busy.begin };
-  bytes = busy.bytes;
-  end = record { 0 = tick };
-  opened = Some busy.opened;
-  result = result;
-}
-
--- a reception as its start begins it
-abbrev pub begun : (next len size bytes tick : ℕ) → OpenedAt → Reception
-begun next len size bytes tick opened = record {
-  n = next;
-  len = len;
-  size = size;
-  begin = tick;
-  bytes = bytes;
-  number = 1;
-  wait = Cf;
-  since = tick;
-  opened = opened;
-}
-
--- where a consecutive frame is awaited, it is awaited anew from this tick on
-abbrev pub awaited_since : RxWait → (before tick : ℕ) → ℕ
-awaited_since Cf before tick = tick
-awaited_since Box before tick = before
-awaited_since Room before tick = before
-
--- the reception with so many bytes more
-abbrev pub gone_on : Reception → (more tick : ℕ) → Reception
-gone_on busy more tick = record busy { bytes = busy.bytes + more; number = (busy.number + 1) % 16; since = awaited_since busy.wait busy.since tick }
-
--- the record of a start that finds no free buffer, by the pool word that it saw
-abbrev pub refused : RxSet → (next len tick number free need : ℕ) → SessionRecord
-refused set next len tick number free need = record {
-  chan = set.chan;
-  n = next;
-  len = len;
-  begin = record { 0 = tick };
-  bytes = 0;
-  end = record { 0 = tick };
-  opened = None;
-  result = Overflow number free need;
-}
-
--- the flow controls: go on with no block size, and no room for the message
-abbrev pub continue_to_send : RxSet → Meaning
-continue_to_send set = FlowControl 0 0 set.st
-
-abbrev pub overflow : Meaning
-overflow = FlowControl 2 0 0
-
--- the cells of so many bytes
-abbrev pub cells_of : ℕ → ℕ
-cells_of bytes = (bytes + 6) / 7
-
--- cells are put, one after another, and their bytes are published
-abbrev pub puts : ℕ → ℕ → List ℕ → List Event
-puts path seq cells = map (λ cell. Put path seq cell) cells ++ Published path seq (counted cells) ∷ []
 
 -- nothing is done or told, and the state stays
 pub record Quiet (old : RxState) (m : RxDid) : Type 0 where
@@ -110,83 +31,97 @@ pub record After (before : List Event) (m : RxDid) (Row : RxDid → Type 0) : Ty
   pub calls : m.calls ≡ before ++ rest
   pub row : Row (record m { calls = rest })
 
--- the reception ends so: the writer leaves, what lies in the box doesn't leave, the record is made
-pub record Ends (set : RxSet) (next seq : ℕ) (busy : Reception) (result : SessionResult) (m : RxDid) : Type 0 where
+-- rows of a reception that is in progress: `old` is the state without it
+
+-- the reception ends so: the writer leaves, its flow control that lies in the box doesn't leave, the record is made
+pub record Ends (set : RxSet) (old : RxState) (busy : Reception) (result : SessionResult) (m : RxDid) : Type 0 where
   pub left : Left
   pub calls : m.calls ≡ Closed set.path.0 busy.opened.seq (freed_by left) ∷ []
   pub act : m.act ≡ revoking busy.wait
   pub records : m.records ≡ ended set busy result m.tick ∷ []
-  pub new : m.new ≡ idle next seq
+  pub new : m.new ≡ idle old
 
 -- a busy receiver ends its reception before another start
-abbrev pub Interrupts : RxSet → (next seq : ℕ) → Option Reception → RxDid → Type 0
-Interrupts set next seq None m = Quiet (idle next seq) m
-Interrupts set next seq (Some busy) m = Ends set next seq busy Restarted m
+abbrev pub Interrupts : RxSet → RxState → Option Reception → RxDid → Type 0
+Interrupts set old None m = Quiet old m
+Interrupts set old (Some busy) m = Ends set (idle old) busy Restarted m
 
--- no free buffer fits the start's bytes: the record of the overflow
-pub record Overflows (set : RxSet) (next seq len : ℕ) (bytes : List ℕ) (act : BoxMeaning) (m : RxDid) : Type 0 where
+-- no free buffer has the cells that the start needs: the record of the overflow
+pub record Overflows (set : RxSet) (old : RxState) (size len : ℕ) (bytes : List ℕ) (act : BoxMeaning) (refusing : Option ℕ) (m : RxDid) : Type 0 where
   pub number : ℕ
   pub free : ℕ
   pub need : ℕ
-  pub need_is : need ≡ cells_of (length bytes)
+  pub need_is : need ≡ need_of set size len (length bytes)
   pub calls : m.calls ≡ Refused set.group.0 number free need ∷ []
   pub act_is : m.act ≡ act
-  pub records : m.records ≡ refused set next len m.tick number free need ∷ []
-  pub new : m.new ≡ idle (next + 1) seq
+  pub records : m.records ≡ refused set old.next len m.tick number free need ∷ []
+  pub new : m.new ≡ record old { next = old.next + 1; refusing = refusing }
 
 -- a buffer is taken, the path's next session is entered, and the start's bytes are put
-pub record Opens (set : RxSet) (seq len : ℕ) (bytes : List ℕ) (opened : OpenedAt) (calls : List Event) : Type 0 where
+pub record Opens (set : RxSet) (seq size len : ℕ) (bytes : List ℕ) (opened : OpenedAt) (calls : List Event) : Type 0 where
   pub need : ℕ
-  pub size : ℕ
+  pub buffer : ℕ
   pub cells : List ℕ
   pub seq_is : opened.seq ≡ seq
-  pub need_is : need ≡ cells_of (length bytes)
-  pub fits : need ≤ size
+  pub need_is : need ≡ need_of set size len (length bytes)
+  pub fits : need ≤ buffer
   pub packed : IsPacked bytes cells
-  pub calls_are : calls ≡ Took set.group.0 opened.change opened.buf.0 size need ∷ Entered set.path.0 seq opened.buf.0 opened.change size len set.readers ∷ puts set.path.0 seq cells
+  pub calls_are : calls ≡ Took set.group.0 opened.change opened.buf.0 buffer need ∷ Entered set.path.0 seq opened.buf.0 opened.change buffer len set.readers ∷ puts set.path.0 seq cells
+
+-- the numbers go on with a start that opens a session
+abbrev pub after_opening : RxState → RxState
+after_opening old = record old { next = old.next + 1; seq = old.seq + 1 }
 
 -- a look at the room: what the port answered
 abbrev pub asks : RxSet → Reception → (room readers : ℕ) → List Event
 asks set busy room readers = Asked set.path.0 busy.opened.seq room readers ∷ []
 
--- a flow control lets the sender go on
-pub record LetsGo (set : RxSet) (next seq : ℕ) (busy : Reception) (m : RxDid) : Type 0 where
+-- this flow control is put into the box, in place of what lies there
+pub record SendsControl (old : RxState) (busy : Reception) (control : Meaning) (left : Option ℕ) (waits : ℕ) (m : RxDid) : Type 0 where
   pub calls : m.calls ≡ []
-  pub act : m.act ≡ Offers (continue_to_send set)
+  pub act : m.act ≡ Offers control
   pub records : m.records ≡ []
-  pub new : m.new ≡ busy_with next seq (record busy { wait = Box; since = m.tick })
+  pub new : m.new ≡ record old { busy = Some (record busy { wait = Box; since = m.tick; left = left; waits = waits }); refusing = None }
 
--- what is granted: nothing where no destination reads any more, else all frames that remain
-pub data Grants (set : RxSet) (next seq : ℕ) (busy : Reception) (m : RxDid) : Type 0 where
-  NoneReads : (room readers : ℕ) → readers ≡ 0 → After (asks set busy room readers) m (Ends set next seq busy NoReaders) → Grants set next seq busy m
-  All : (room readers : ℕ) → 0 < readers → After (asks set busy room readers) m (LetsGo set next seq busy) → Grants set next seq busy m
+-- what is granted where so many cells have room: all frames that remain, a block of some, or none yet, unless as many waits as are
+-- configured followed one another
+pub data Answers (set : RxSet) (old : RxState) (busy : Reception) (room : ℕ) (m : RxDid) : Type 0 where
+  All : grant_in set busy room ≡ AllFrames → SendsControl old busy (continue_to_send set 0) None 0 m → Answers set old busy room m
+  Block : (frames : ℕ) → grant_in set busy room ≡ BlockOf frames → SendsControl old busy (continue_to_send set frames) (Some frames) 0 m → Answers set old busy room m
+  Wait : grant_in set busy room ≡ NoFrames → busy.waits < set.wft_max → SendsControl old busy ask_to_wait (Some 0) (busy.waits + 1) m → Answers set old busy room m
+  TooManyWaits : grant_in set busy room ≡ NoFrames → set.wft_max ≤ busy.waits → Ends set old busy WaitOver m → Answers set old busy room m
+
+-- a flow control is asked for: after a look at the room the reception ends where no destination reads any more, and else is answered
+pub data Grants (set : RxSet) (old : RxState) (busy : Reception) (m : RxDid) : Type 0 where
+  NoneReads : (room readers : ℕ) → readers ≡ 0 → After (asks set busy room readers) m (Ends set old busy NoReaders) → Grants set old busy m
+  SomeRead : (room readers : ℕ) → 0 < readers → After (asks set busy room readers) m (Answers set old busy room) → Grants set old busy m
 
 -- a single frame, for a receiver that is idle
-pub data BeginsSingle (set : RxSet) (next seq size : ℕ) (bytes : List ℕ) (m : RxDid) : Type 0 where
-  NoBuffer : Overflows set next seq (length bytes) bytes Keeps m → BeginsSingle set next seq size bytes m
-  Completes : (opened : OpenedAt) (opening : List Event) → Opens set seq (length bytes) bytes opened opening →
-      After opening m (Ends set (next + 1) (seq + 1) (begun next (length bytes) size (length bytes) m.tick opened) Whole) → BeginsSingle set next seq size bytes m
+pub data BeginsSingle (set : RxSet) (old : RxState) (size : ℕ) (bytes : List ℕ) (m : RxDid) : Type 0 where
+  NoBuffer : Overflows set old size (length bytes) bytes Keeps old.refusing m → BeginsSingle set old size bytes m
+  Completes : (opened : OpenedAt) (opening : List Event) → Opens set old.seq size (length bytes) bytes opened opening →
+      After opening m (Ends set (after_opening old) (begun old.next (length bytes) size (length bytes) m.tick opened) Whole) → BeginsSingle set old size bytes m
 
 -- a first frame, for a receiver that is idle
-pub data BeginsFirst (set : RxSet) (next seq size len : ℕ) (bytes : List ℕ) (m : RxDid) : Type 0 where
-  NoBufferFirst : length bytes < len → Overflows set next seq len bytes (Offers overflow) m → BeginsFirst set next seq size len bytes m
-  Opened : length bytes < len → (opened : OpenedAt) (opening : List Event) → Opens set seq len bytes opened opening →
-      After opening m (Grants set (next + 1) (seq + 1) (begun next len size (length bytes) m.tick opened)) → BeginsFirst set next seq size len bytes m
+pub data BeginsFirst (set : RxSet) (old : RxState) (size len : ℕ) (bytes : List ℕ) (m : RxDid) : Type 0 where
+  NoBufferFirst : length bytes < len → Overflows set old size len bytes (Offers overflow) (Some m.tick) m → BeginsFirst set old size len bytes m
+  Opened : length bytes < len → (opened : OpenedAt) (opening : List Event) → Opens set old.seq size len bytes opened opening →
+      After opening m (Grants set (after_opening old) (begun old.next len size (length bytes) m.tick opened)) → BeginsFirst set old size len bytes m
 
 -- a start, for a receiver that is idle
-abbrev pub Begins : RxSet → (next seq size : ℕ) → Meaning → RxDid → Type 0
-Begins set next seq size (SingleFrame bytes) m = BeginsSingle set next seq size bytes m
-Begins set next seq size (FirstFrame len bytes) m = BeginsFirst set next seq size len bytes m
-Begins set next seq size (ConsecutiveFrame number bytes) m = ⊥
-Begins set next seq size (FlowControl status block_size separation) m = ⊥
-Begins set next seq size (NoUnit why) m = ⊥
+abbrev pub Begins : RxSet → RxState → (size : ℕ) → Meaning → RxDid → Type 0
+Begins set old size (SingleFrame bytes) m = BeginsSingle set old size bytes m
+Begins set old size (FirstFrame len bytes) m = BeginsFirst set old size len bytes m
+Begins set old size (ConsecutiveFrame number bytes) m = ⊥
+Begins set old size (FlowControl status block_size separation) m = ⊥
+Begins set old size (NoUnit why) m = ⊥
 
 -- a start: what the receiver was at ends, and then the start begins, in the same tick
 pub record Starts (set : RxSet) (old : RxState) (size : ℕ) (meaning : Meaning) (m : RxDid) : Type 0 where
   pub earlier : RxDid
   pub later : RxDid
-  pub interrupts : Interrupts set old.next old.seq old.busy earlier
-  pub begins : Begins set old.next old.seq size meaning later
+  pub interrupts : Interrupts set old old.busy earlier
+  pub begins : Begins set (idle old) size meaning later
   pub earlier_tick : earlier.tick ≡ m.tick
   pub later_tick : later.tick ≡ m.tick
   pub calls : m.calls ≡ earlier.calls ++ later.calls
@@ -200,33 +135,40 @@ pub record IsLookedAt (set : RxSet) (busy : Reception) (size : ℕ) (bytes : Lis
   pub enough : due set.a busy ≤ length bytes
 
 -- more bytes are due
-pub record GoesOn (next seq : ℕ) (busy : Reception) (m : RxDid) : Type 0 where
+pub record GoesOn (old : RxState) (busy : Reception) (m : RxDid) : Type 0 where
   pub more_due : busy.bytes < busy.len
   pub calls : m.calls ≡ []
   pub act : m.act ≡ Keeps
   pub records : m.records ≡ []
-  pub new : m.new ≡ busy_with next seq busy
+  pub new : m.new ≡ busy_with old busy
 
--- the due bytes of a consecutive frame: after a look at the room they are put, and the message goes on or is whole
-pub data Carries (set : RxSet) (next seq : ℕ) (busy : Reception) (bytes : List ℕ) (m : RxDid) : Type 0 where
-  NoneReadsOn : (room readers : ℕ) → readers ≡ 0 → After (asks set busy room readers) m (Ends set next seq busy NoReaders) → Carries set next seq busy bytes m
-  TooLittleRoom : (room readers need : ℕ) → 0 < readers → need ≡ cells_of (length bytes) → room < need → After (asks set busy room readers) m (Ends set next seq busy (NoRoom room need)) → Carries set next seq busy bytes m
-  Adds : (room readers : ℕ) (cells : List ℕ) → 0 < readers → length cells ≤ room → IsPacked bytes cells →
-      After (asks set busy room readers) m (λ later. After (puts set.path.0 busy.opened.seq cells) later (GoesOn next seq (gone_on busy (length bytes) m.tick))) → Carries set next seq busy bytes m
+-- more bytes are due, and the block is over: a further flow control is asked for
+pub record GrantsAnew (set : RxSet) (old : RxState) (busy : Reception) (m : RxDid) : Type 0 where
+  pub more_due : busy.bytes < busy.len
+  pub grants : Grants set old busy m
+
+-- the due bytes of a consecutive frame: after a look at the room they are put, and the message goes on, its block is over, or it is whole
+pub data Carries (set : RxSet) (old : RxState) (busy : Reception) (bytes : List ℕ) (m : RxDid) : Type 0 where
+  NoneReadsOn : (room readers : ℕ) → readers ≡ 0 → After (asks set busy room readers) m (Ends set old busy NoReaders) → Carries set old busy bytes m
+  TooLittleRoom : (room readers need : ℕ) → 0 < readers → need ≡ cells_for (length bytes) → room < need → After (asks set busy room readers) m (Ends set old busy (NoRoom room need)) → Carries set old busy bytes m
+  Adds : (room readers : ℕ) (cells : List ℕ) → 0 < readers → length cells ≤ room → IsPacked bytes cells → busy.left ≢ Some 1 →
+      After (asks set busy room readers) m (λ later. After (puts set.path.0 busy.opened.seq cells) later (GoesOn old (gone_on busy (length bytes) m.tick))) → Carries set old busy bytes m
+  EndsBlock : (room readers : ℕ) (cells : List ℕ) → 0 < readers → length cells ≤ room → IsPacked bytes cells → busy.left ≡ Some 1 →
+      After (asks set busy room readers) m (λ later. After (puts set.path.0 busy.opened.seq cells) later (GrantsAnew set old (gone_on busy (length bytes) m.tick))) → Carries set old busy bytes m
   Fills : (room readers : ℕ) (cells : List ℕ) → 0 < readers → length cells ≤ room → IsPacked bytes cells → busy.bytes + length bytes ≡ busy.len →
-      After (asks set busy room readers) m (λ later. After (puts set.path.0 busy.opened.seq cells) later (Ends set next seq (gone_on busy (length bytes) m.tick) Whole)) → Carries set next seq busy bytes m
+      After (asks set busy room readers) m (λ later. After (puts set.path.0 busy.opened.seq cells) later (Ends set old (gone_on busy (length bytes) m.tick) Whole)) → Carries set old busy bytes m
 
 -- a consecutive frame, for a busy receiver: it is passed over, it ends the reception by its number, or its due bytes are put
-pub data Continues (set : RxSet) (next seq : ℕ) (busy : Reception) (size number : ℕ) (bytes : List ℕ) (m : RxDid) : Type 0 where
-  TooLong : busy.size < size → Quiet (busy_with next seq busy) m → Continues set next seq busy size number bytes m
-  TooShort : length bytes < due set.a busy → Quiet (busy_with next seq busy) m → Continues set next seq busy size number bytes m
-  WrongNumber : IsLookedAt set busy size bytes → number ≢ busy.number → Ends set next seq busy (WrongSn busy.number number) m → Continues set next seq busy size number bytes m
-  RightNumber : IsLookedAt set busy size bytes → number ≡ busy.number → Carries set next seq busy (take (due set.a busy) bytes) m → Continues set next seq busy size number bytes m
+pub data Continues (set : RxSet) (old : RxState) (busy : Reception) (size number : ℕ) (bytes : List ℕ) (m : RxDid) : Type 0 where
+  TooLong : busy.size < size → Quiet (busy_with old busy) m → Continues set old busy size number bytes m
+  TooShort : length bytes < due set.a busy → Quiet (busy_with old busy) m → Continues set old busy size number bytes m
+  WrongNumber : IsLookedAt set busy size bytes → number ≢ busy.number → Ends set old busy (WrongSn busy.number number) m → Continues set old busy size number bytes m
+  RightNumber : IsLookedAt set busy size bytes → number ≡ busy.number → Carries set old busy (take (due set.a busy) bytes) m → Continues set old busy size number bytes m
 
 -- a consecutive frame
 abbrev pub ConsecutiveRow : RxSet → RxState → (size number : ℕ) → List ℕ → Option Reception → RxDid → Type 0
 ConsecutiveRow set old size number bytes None m = Quiet old m
-ConsecutiveRow set old size number bytes (Some busy) m = Continues set old.next old.seq busy size number bytes m
+ConsecutiveRow set old size number bytes (Some busy) m = Continues set (idle old) busy size number bytes m
 
 -- a first frame is ignored where frames are for many receivers at once
 abbrev pub FirstRow : RxSet → RxState → (size : ℕ) → Meaning → (functional : Bool) → RxDid → Type 0
@@ -241,39 +183,55 @@ FrameRow set old size (ConsecutiveFrame number bytes) m = ConsecutiveRow set old
 FrameRow set old size (FlowControl status block_size separation) m = Quiet old m
 FrameRow set old size (NoUnit why) m = Quiet old m
 
--- a consecutive frame is awaited, and its time is over
-abbrev pub IsLate : RxSet → Reception → ℕ → Type 0
-IsLate set busy tick = (busy.wait ≡ Cf) × (busy.since + set.n_cr ≤ tick)
+-- so long it is waited for that
+pub record IsDue (set : RxSet) (busy : Reception) (wait : RxWait) (tick : ℕ) : Type 0 where
+  pub waits : busy.wait ≡ wait
+  pub over : busy.since + limit_of set wait ≤ tick
 
--- a tick is over, for a busy receiver
-pub data Times (set : RxSet) (next seq : ℕ) (busy : Reception) (m : RxDid) : Type 0 where
-  InTime : (IsLate set busy m.tick → ⊥) → Quiet (busy_with next seq busy) m → Times set next seq busy m
-  TooLate : IsLate set busy m.tick → Ends set next seq busy (RxTimeout CfLimit) m → Times set next seq busy m
+-- a tick is over, for a busy receiver: its flow control lay in the box for too long, room is looked for again, or the next frame is late
+pub data Times (set : RxSet) (old : RxState) (busy : Reception) (m : RxDid) : Type 0 where
+  InTime : m.tick < busy.since + limit_of set busy.wait → Quiet (busy_with old busy) m → Times set old busy m
+  LiesTooLong : IsDue set busy Box m.tick → Ends set old busy (RxTimeout BoxLimit) m → Times set old busy m
+  LooksAgain : IsDue set busy Room m.tick → Grants set old busy m → Times set old busy m
+  TooLate : IsDue set busy Cf m.tick → Ends set old busy (RxTimeout CfLimit) m → Times set old busy m
+
+-- a flow control that refused a message isn't in the box any more
+pub record Forgets (old : RxState) (act : BoxMeaning) (m : RxDid) : Type 0 where
+  pub calls : m.calls ≡ []
+  pub act_is : m.act ≡ act
+  pub records : m.records ≡ []
+  pub new : m.new ≡ record old { refusing = None }
+
+-- a tick is over, for an idle receiver: a flow control that refused a message is revoked once it lay in the box for too long
+pub data TimesRefusal (set : RxSet) (old : RxState) (refusing : Option ℕ) (m : RxDid) : Type 0 where
+  NoneLies : refusing ≡ None → Quiet old m → TimesRefusal set old refusing m
+  MayLie : (since : ℕ) → refusing ≡ Some since → m.tick < since + set.n_ar → Quiet old m → TimesRefusal set old refusing m
+  Revoked : (since : ℕ) → refusing ≡ Some since → since + set.n_ar ≤ m.tick → Forgets old Revokes m → TimesRefusal set old refusing m
 
 abbrev pub TimerRow : RxSet → RxState → Option Reception → RxDid → Type 0
-TimerRow set old None m = Quiet old m
-TimerRow set old (Some busy) m = Times set old.next old.seq busy m
+TimerRow set old None m = TimesRefusal set old old.refusing m
+TimerRow set old (Some busy) m = Times set (idle old) busy m
 
--- the flow control left: a consecutive frame is awaited from this tick on
-pub record Awaits (next seq : ℕ) (busy : Reception) (m : RxDid) : Type 0 where
+-- the flow control left: room or a consecutive frame is awaited from this tick on
+pub record Awaits (old : RxState) (busy : Reception) (m : RxDid) : Type 0 where
   pub calls : m.calls ≡ []
   pub act : m.act ≡ Keeps
   pub records : m.records ≡ []
-  pub new : m.new ≡ busy_with next seq (record busy { wait = Cf; since = m.tick })
+  pub new : m.new ≡ busy_with old (record busy { wait = awaited_after busy.left; since = m.tick })
 
 -- the flow control left, for a busy receiver
-pub data Leaves (next seq : ℕ) (busy : Reception) (m : RxDid) : Type 0 where
-  FromBox : busy.wait ≡ Box → Awaits next seq busy m → Leaves next seq busy m
-  NotAwaited : busy.wait ≢ Box → Quiet (busy_with next seq busy) m → Leaves next seq busy m
+pub data Leaves (old : RxState) (busy : Reception) (m : RxDid) : Type 0 where
+  FromBox : busy.wait ≡ Box → Awaits old busy m → Leaves old busy m
+  NotAwaited : busy.wait ≢ Box → Quiet (busy_with old busy) m → Leaves old busy m
 
 abbrev pub LeftRow : RxState → Option Reception → RxDid → Type 0
-LeftRow old None m = Quiet old m
-LeftRow old (Some busy) m = Leaves old.next old.seq busy m
+LeftRow old None m = Forgets old Keeps m
+LeftRow old (Some busy) m = Leaves (idle old) busy m
 
 -- the run ends
 abbrev pub EndRow : RxSet → RxState → Option Reception → RxDid → Type 0
 EndRow set old None m = Quiet old m
-EndRow set old (Some busy) m = Ends set old.next old.seq busy (EndOfRun busy.wait (record { 0 = busy.since })) m
+EndRow set old (Some busy) m = Ends set (idle old) busy (EndOfRun busy.wait (record { 0 = busy.since })) m
 
 -- one step, by what the receiver is told
 abbrev pub RxStep : RxSet → RxState → RxEvent → RxDid → Type 0

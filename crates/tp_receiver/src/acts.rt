@@ -1,3 +1,4 @@
+//! What a step of a receiver comes to: records, moves, and what becomes of its box.
 ghost use Rattle.std.specs.Prelude.{◌≡◌, ◌+◌, ◌≤◌, [], ◌∷◌, ◌++◌, length, map};
 ghost use Rattle.tp_receiver.specs.Table.{later_act};
 ghost use Rattle.hub_core.specs.Moves.{move_of};

@@ -10,7 +10,7 @@ use std::mem;
 impl Receiver {
     ghost use Rattle.std.specs.Prelude.{◌≡◌, ◌+◌, ◌<◌, ◌≤◌, length};
     ghost use Rattle.tp_receiver.specs.Port.{Kept, Knows, KnowsReception, did_by};
-    ghost use Rattle.tp_receiver.specs.State.{WaitsBy, reception_of, reception_in, state_of};
+    ghost use Rattle.tp_receiver.specs.State.{WaitsBy, idle, reception_of, reception_in, state_of};
     ghost use Rattle.hub_core.specs.Turns.{OverPort};
     ghost use Rattle.tp_receiver.specs.Table.{Continues, Carries, ConsecutiveRow};
     ghost use Rattle.hub_core.specs.Stays.{IsSamePort};
@@ -31,7 +31,7 @@ impl Receiver {
         ensures set { self.new.set ≡ self.old.set }
         ensures next_n { self.new.next_n ≡ self.old.next_n }
         ensures knows { Knows (P.state port.new).view self.new }
-        ensures tick { WaitsBy self.old.state tick.0 → WaitsBy self.new.state tick.0 }
+        ensures tick { WaitsBy self.old tick.0 → WaitsBy self.new tick.0 }
         ensures kept { Kept self.old.set.path.0 0 9 (P.state port.old).view (P.state port.new).view (P.state port.old).means (P.state port.new).means }
         ensures home { IsSamePort (P.state port.old) (P.state port.new) }
     {
@@ -56,11 +56,11 @@ impl Receiver {
         requires knows { KnowsReception (P.state port.old).view self.old.set.path.0 reception }
         requires spare { 9 ≤ (P.state port.old).means.spare }
         requires most { length bytes.now ≤ 63 }
-        ensures over { OverPort (P.state port.old) (P.state port.new) result.moves.items (λ calls. Continues self.old.set self.old.next_n self.old.next_seq (reception_of reception) size sn bytes.now (did_by tick.0 calls result (state_of self.new))) }
+        ensures over { OverPort (P.state port.old) (P.state port.new) result.moves.items (λ calls. Continues self.old.set (idle (state_of self.old)) (reception_of reception) size sn bytes.now (did_by tick.0 calls result (state_of self.new))) }
         ensures set { self.new.set ≡ self.old.set }
         ensures next_n { self.new.next_n ≡ self.old.next_n }
         ensures knows { Knows (P.state port.new).view self.new }
-        ensures tick { reception.since.0 ≤ tick.0 → WaitsBy self.new.state tick.0 }
+        ensures tick { WaitsBy self.old tick.0 → reception.since.0 ≤ tick.0 → WaitsBy self.new tick.0 }
         ensures kept { Kept self.old.set.path.0 0 9 (P.state port.old).view (P.state port.new).view (P.state port.old).means (P.state port.new).means }
         ensures home { IsSamePort (P.state port.old) (P.state port.new) }
     {
@@ -97,11 +97,11 @@ impl Receiver {
         requires spare { 9 ≤ (P.state port.old).means.spare }
         requires most { length bytes.now ≤ 63 }
         requires within { reception.writer.given + length bytes.now ≤ reception.writer.len }
-        ensures over { OverPort (P.state port.old) (P.state port.new) result.moves.items (λ calls. Carries self.old.set self.old.next_n self.old.next_seq (reception_of reception) bytes.now (did_by tick.0 calls result (state_of self.new))) }
+        ensures over { OverPort (P.state port.old) (P.state port.new) result.moves.items (λ calls. Carries self.old.set (idle (state_of self.old)) (reception_of reception) bytes.now (did_by tick.0 calls result (state_of self.new))) }
         ensures set { self.new.set ≡ self.old.set }
         ensures next_n { self.new.next_n ≡ self.old.next_n }
         ensures knows { Knows (P.state port.new).view self.new }
-        ensures tick { reception.since.0 ≤ tick.0 → WaitsBy self.new.state tick.0 }
+        ensures tick { WaitsBy self.old tick.0 → reception.since.0 ≤ tick.0 → WaitsBy self.new tick.0 }
         ensures kept { Kept self.old.set.path.0 0 9 (P.state port.old).view (P.state port.new).view (P.state port.old).means (P.state port.new).means }
         ensures home { IsSamePort (P.state port.old) (P.state port.new) }
     {
@@ -116,9 +116,13 @@ impl Receiver {
             return self.end(reception, SessionResult::NoRoom { room, need }, tick, port);
         }
         put_all(port, &mut reception.writer, cells.as_slice());
+        let ends_block = reception.ends_block();
         let reception = reception.gone_on(tick);
         if reception.writer.given == reception.writer.len {
             return self.end(reception, SessionResult::Whole, tick, port);
+        }
+        if ends_block {
+            return self.grant(reception, tick, port);
         }
         self.state = State::Busy(reception);
         RxActs::nothing()

@@ -35,7 +35,7 @@ impl Receiver {
         }
     }
 
-    /// Ends a reception: its writer leaves, and what lies in the box of it doesn't leave.
+    /// Ends a reception: its writer leaves, and its flow control that lies in the box doesn't leave.
     pub(crate) fn end<P: Port>(
         &self,
         reception: Reception,
@@ -45,7 +45,7 @@ impl Receiver {
     ) -> RxActs
         requires path { reception.writer.path.0 ≡ self.now.set.path.0 }
         requires writes { Writes (P.state port.old).view reception.writer }
-        ensures over { OverPort (P.state port.old) (P.state port.new) result.moves.items (λ calls. Ends self.now.set self.now.next_n self.now.next_seq (reception_of reception) how (did_by tick.0 calls result (idle self.now.next_n self.now.next_seq))) }
+        ensures over { OverPort (P.state port.old) (P.state port.new) result.moves.items (λ calls. Ends self.now.set (idle (state_of self.now)) (reception_of reception) how (did_by tick.0 calls result (idle (state_of self.now)))) }
         ensures number { length ((P.state port.new).view.sessions self.now.set.path.0) ≡ length ((P.state port.old).view.sessions self.now.set.path.0) }
         ensures records { length result.records.items ≡ 1 }
         ensures moves { length result.moves.items ≤ 1 }

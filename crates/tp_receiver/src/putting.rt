@@ -1,3 +1,4 @@
+//! Cells of a payload put into a session, and published.
 ghost use Rattle.std.specs.Prelude.{◌≡◌, ◌+◌, ◌≤◌, length, All};
 ghost use Rattle.tp_receiver.specs.Port.{Kept, carried};
 ghost use Rattle.tp_receiver.specs.Table.{puts};

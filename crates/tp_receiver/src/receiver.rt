@@ -1,3 +1,4 @@
+//! The receiver: how it is made, and which event takes it to which function.
 ghost use Rattle.std.specs.Prelude.{◌≤◌};
 ghost use Rattle.tp_receiver.specs.Set.{IsRxSet};
 
@@ -16,14 +17,16 @@ pub struct Receiver {
     /// The number of the path's next session.
     pub(crate) next_seq: u32,
     pub(crate) state: State,
+    /// Since when a flow control that refused a message lies in the box.
+    pub(crate) refusing: Option<Tick>,
     ghost set_in_range: { IsRxSet set },
     ghost sessions: { next_seq ≤ next_n },
 }
 
 impl Receiver {
     ghost use Rattle.std.specs.Prelude.{◌≡◌, ◌+◌, ◌<◌, ◌≤◌, is_some, take};
-    ghost use Rattle.tp_receiver.specs.Port.{ActsFor, CanTake, IsRead, IsServed, Kept, Knows, cells_for, did_by, takes_for};
-    ghost use Rattle.tp_receiver.specs.State.{WaitsBy, Came, idle, event_of, state_of};
+    ghost use Rattle.tp_receiver.specs.Port.{ActsFor, CanTake, IsRead, IsServed, Kept, Knows, did_by, spare_for, takes_for};
+    ghost use Rattle.tp_receiver.specs.State.{WaitsBy, Came, event_of, rx_new, state_of};
     ghost use Rattle.hub_core.specs.Turns.{OverPort};
     ghost use Rattle.tp_receiver.specs.Table.{RxStep};
     ghost use Rattle.hub_core.specs.Stays.{IsSamePort};
@@ -34,13 +37,14 @@ impl Receiver {
     pub fn new(set: RxSet) -> Receiver
         requires { IsRxSet set }
         ensures set { result.set ≡ set }
-        ensures state { state_of result ≡ idle 0 0 }
+        ensures state { state_of result ≡ rx_new }
     {
         Receiver {
             set,
             next_n: 0,
             next_seq: 0,
             state: State::Idle,
+            refusing: None,
         }
     }
 
@@ -59,14 +63,14 @@ impl Receiver {
     pub fn step<P: Port>(&mut self, event: RxEvent, tick: Tick, port: &mut P) -> RxActs
         requires acts { ActsFor self.old.set (P.state port.old).means }
         requires knows { Knows (P.state port.old).view self.old }
-        requires tick { WaitsBy self.old.state tick.0 }
+        requires tick { WaitsBy self.old tick.0 }
         requires unit { CanTake self.old.set (P.state port.old).means self.old.next_n (event_of event) }
         ensures over { OverPort (P.state port.old) (P.state port.new) result.moves.items (λ calls. RxStep self.old.set (state_of self.old) (event_of event) (did_by tick.0 calls result (state_of self.new))) }
         ensures set { self.new.set ≡ self.old.set }
         ensures knows { Knows (P.state port.new).view self.new }
-        ensures tick { WaitsBy self.new.state tick.0 }
+        ensures tick { WaitsBy self.new tick.0 }
         ensures count { self.new.next_n ≤ self.old.next_n + takes_for (event_of event) }
-        ensures kept { Kept self.old.set.path.0 (takes_for (event_of event)) (cells_for (event_of event)) (P.state port.old).view (P.state port.new).view (P.state port.old).means (P.state port.new).means }
+        ensures kept { Kept self.old.set.path.0 (takes_for (event_of event)) (spare_for (event_of event)) (P.state port.old).view (P.state port.new).view (P.state port.old).means (P.state port.new).means }
         ensures home { IsSamePort (P.state port.old) (P.state port.new) }
     {
         match event {
@@ -86,7 +90,7 @@ impl Receiver {
         ensures over { OverPort (P.state port.old) (P.state port.new) result.moves.items (λ calls. RxStep self.old.set (state_of self.old) (Came size (meaning_of unit)) (did_by tick.0 calls result (state_of self.new))) }
         ensures set { self.new.set ≡ self.old.set }
         ensures knows { Knows (P.state port.new).view self.new }
-        ensures tick { WaitsBy self.old.state tick.0 → WaitsBy self.new.state tick.0 }
+        ensures tick { WaitsBy self.old tick.0 → WaitsBy self.new tick.0 }
         ensures count { self.new.next_n ≤ self.old.next_n + 1 }
         ensures kept { Kept self.old.set.path.0 1 9 (P.state port.old).view (P.state port.new).view (P.state port.old).means (P.state port.new).means }
         ensures home { IsSamePort (P.state port.old) (P.state port.new) }

@@ -1,9 +1,12 @@
-ghost use Rattle.std.specs.Prelude.{◌≡◌, ◌+◌, ◌%◌, ◌<◌, ◌≤◌, true, IsTrue, ◌↔◌};
-ghost use Rattle.tp_receiver.specs.Table.{awaited_since, ended, due, revoking, IsLate};
+//! What a receiver is at: idle, or a reception with what it awaits.
+ghost use Rattle.std.specs.Prelude.{◌≡◌, ◌≢◌, ◌+◌, ◌-◌, ◌%◌, ◌<◌, ◌≤◌, true, IsTrue, Some, ◌↔◌};
+ghost use Rattle.tp_receiver.specs.Grant.{full_part, grant_in};
+ghost use Rattle.tp_receiver.specs.Table.{awaited_after, awaited_since, ended, due, limit_of, one_less, revoking};
 ghost use Rattle.tp_receiver.specs.State.{reception_of};
 ghost use Rattle.tp_unit.specs.Unit.{box_meaning_of};
 
 use crate::RxSet;
+use flow_plan::{Grant, cells_of, grant, whole_cells};
 use gw_base::Tick;
 use hub_core::{Move, Opened, OpenedAt, RxWait, SessionRecord, SessionResult};
 use tick_clock::Timer;
@@ -11,6 +14,26 @@ use tp_unit::BoxAct;
 
 /// The number of sequence numbers.
 const NUMBERS: u8 = 16;
+
+/// Whether so many ticks are over since then.
+pub(crate) fn is_over(since: Tick, limit: u32, tick: Tick) -> bool
+    requires { since.0 ≤ tick.0 }
+    ensures { IsTrue result ↔ (since.0 + limit ≤ tick.0) }
+{
+    let timer = Timer {
+        since,
+        limit: u64::from(limit),
+    };
+    timer.due(tick)
+}
+
+/// The bytes of a full consecutive frame, where the start's frame has `size` bytes and a frame `a` address bytes.
+pub(crate) fn full_part(a: u8, size: u8) -> u32
+    requires { a + 1 < size }
+    ensures { result ≡ full_part a size }
+{
+    u32::from(size) - 1 - u32::from(a)
+}
 
 /// A reception in progress.
 #[derive(Debug, Drop)]
@@ -25,6 +48,10 @@ pub(crate) struct Reception {
     /// What is waited for, and since when.
     pub(crate) wait: RxWait,
     pub(crate) since: Tick,
+    /// The frames that its last flow control lets come yet, where that sets a limit.
+    pub(crate) left: Option<u8>,
+    /// How many flow controls that ask to wait followed one another.
+    pub(crate) waits: u8,
     /// The change that took the session's buffer.
     pub(crate) change: u32,
     pub(crate) writer: Opened,
@@ -90,16 +117,62 @@ impl Reception {
         }
     }
 
-    /// Whether a consecutive frame is awaited, and its time is over.
-    pub(crate) fn is_late(&self, set: &RxSet, tick: Tick) -> bool
+    /// Whether what it waits for was waited for as long as is configured.
+    pub(crate) fn is_due(&self, set: &RxSet, tick: Tick) -> bool
         requires { self.now.since.0 ≤ tick.0 }
-        ensures { IsTrue result ↔ IsLate set.now (reception_of self.now) tick.0 }
+        ensures { IsTrue result ↔ (self.now.since.0 + limit_of set.now self.now.wait ≤ tick.0) }
     {
-        let timer = Timer {
-            since: self.since,
-            limit: u64::from(set.n_cr),
+        let limit = match self.wait {
+            RxWait::Box => set.n_ar,
+            RxWait::Room => set.n_br,
+            RxWait::Cf => set.n_cr,
         };
-        matches!(self.wait, RxWait::Cf) && timer.due(tick)
+        is_over(self.since, limit, tick)
+    }
+
+    /// What is granted of what remains, where so many cells have room.
+    pub(crate) fn granted(&self, set: &RxSet, room: u32) -> Grant
+        requires size { set.now.a + 1 < self.now.size }
+        requires len { self.now.writer.given ≤ self.now.writer.len }
+        ensures { result ≡ grant_in set.now (reception_of self.now) room }
+    {
+        let part = full_part(set.a, self.size);
+        let left = self.writer.len - self.writer.given;
+        grant(
+            set.bs,
+            room,
+            cells_of(part),
+            whole_cells(left, 0, part),
+            left.div_ceil(part),
+        )
+    }
+
+    /// Whether the next frame is the last one that its flow control lets come.
+    pub(crate) fn ends_block(&self) -> bool
+        ensures { IsTrue result ↔ (self.now.left ≡ Some 1) }
+    {
+        matches!(self.left, Some(1))
+    }
+
+    /// What is waited for once its flow control left.
+    pub(crate) fn awaited(&self) -> RxWait
+        ensures { result ≡ awaited_after self.now.left }
+    {
+        match self.left {
+            Some(0) => RxWait::Room,
+            Some(_) | None => RxWait::Cf,
+        }
+    }
+
+    /// Its flow control left in this tick, where it lay in the box.
+    pub(crate) fn leave_box(&mut self, tick: Tick)
+        ensures boxed { self.old.wait ≡ RxWait.Box → self.new ≡ record self.old { wait = awaited_after self.old.left; since = tick } }
+        ensures stays { self.old.wait ≢ RxWait.Box → self.new ≡ self.old }
+    {
+        if matches!(self.wait, RxWait::Box) {
+            self.wait = self.awaited();
+            self.since = tick;
+        }
     }
 
     /// The reception after a consecutive frame in this tick, whose bytes were put.
@@ -107,7 +180,8 @@ impl Reception {
         requires { self.number < 16 }
         ensures writer { result.writer ≡ self.writer }
         ensures number { result.number < 16 }
-        ensures busy { reception_of result ≡ record (reception_of self) { number = (self.number + 1) % 16; since = awaited_since self.wait self.since.0 tick.0 } }
+        ensures size { result.size ≡ self.size }
+        ensures busy { reception_of result ≡ record (reception_of self) { number = (self.number + 1) % 16; since = awaited_since self.wait self.since.0 tick.0; left = one_less self.left; waits = 0 } }
     {
         let since = match self.wait {
             RxWait::Cf => tick,
@@ -116,6 +190,8 @@ impl Reception {
         Reception {
             number: (self.number + 1) % NUMBERS,
             since,
+            left: self.left.map(|frames| frames.saturating_sub(1)),
+            waits: 0,
             ..self
         }
     }

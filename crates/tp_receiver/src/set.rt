@@ -1,3 +1,4 @@
+//! How a receiver is configured, and what can happen to it.
 use gw_base::{ChanNo, GroupNo, PathNo};
 use tp_unit::Unit;
 
@@ -15,21 +16,22 @@ pub struct RxSet {
     pub a: u8,
     /// Whether its frames are for many receivers at once, so that single frames alone are received.
     pub functional: bool,
-    /// The block size of its flow controls, in frames; 0 is no limit. Not read yet: each flow control lets all come.
+    /// The most frames that a flow control lets come before a further one is awaited; 0 is no limit.
     pub bs: u8,
     /// The separation time of its flow controls, in the standard's code.
     pub st: u8,
-    /// The most waits that follow one another (ISO 15765-2, N_WFTmax). Not read yet: no flow control asks to wait.
+    /// The most flow controls that ask to wait and follow one another (ISO 15765-2, N_WFTmax).
     pub wft_max: u8,
-    /// The most ticks that a flow control lies in its box (ISO 15765-2, N_Ar). Read by the laws alone yet.
+    /// The most ticks that a flow control lies in its box (ISO 15765-2, N_Ar).
     pub n_ar: u32,
-    /// The ticks between two waits (ISO 15765-2, N_Br). Not read yet.
+    /// The ticks after which room is looked for again, from the leaving of a flow control that asks to wait on (ISO 15765-2,
+    /// N_Br).
     pub n_br: u32,
     /// The most ticks between two frames of a message (ISO 15765-2, N_Cr).
     pub n_cr: u32,
-    /// The cells from which on a message is forwarded. Not read yet: a start asks for the cells of its own bytes.
+    /// The cells from which on a message is forwarded.
     pub threshold: u32,
-    /// Whether a message is forwarded only once it is whole. Not read yet.
+    /// Whether a message is forwarded only once it is whole, so that all of it must fit its buffer.
     pub store: bool,
 }
 

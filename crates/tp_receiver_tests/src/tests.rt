@@ -1,3 +1,4 @@
+//! Receptions in blocks over a plain hub, step by step.
 ghost use Rattle.std.specs.Prelude.{◌≡◌, ◌<◌, ◌≤◌, ℕ, true, [], IfOk, length};
 ghost use Rattle.tp_receiver.specs.Port.{CanTake, IsServed};
 ghost use Rattle.tp_receiver.specs.State.{event_of};
@@ -5,17 +6,17 @@ ghost use Rattle.hub_core.specs.Calls.{Means};
 ghost use Rattle.tp_receiver.specs.Set.{IsRxSet};
 ghost use Rattle.tp_receiver.specs.declared.set.RxSet.{RxSet};
 
+use tp_receiver::*;
 use can_frame::{CanId, Frame, FrameFault};
 use gw_base::{BufNo, ChanNo, GroupNo, PathNo, Tick};
 use hub_core::{OpenedAt, PlainHub, Port, RxLimit, RxWait, SessionRecord, SessionResult};
 use std::alloc::Global;
 use std::process::Abort;
 use std::test::Fail;
-use tp_receiver::*;
 use tp_unit::{BoxAct, Unit, read_unit};
 
 /// A channel with normal addressing, and a path to one destination.
-const SET: RxSet = RxSet {
+pub const SET: RxSet = RxSet {
     chan: ChanNo(0),
     path: PathNo(0),
     group: GroupNo(0),
@@ -33,13 +34,13 @@ const SET: RxSet = RxSet {
 };
 
 /// A first frame of 20 bytes, its two consecutive frames, and a single frame.
-const FIRST: [u8; 8] = [0x10, 0x14, 0, 1, 2, 3, 4, 5];
+pub const FIRST: [u8; 8] = [0x10, 0x14, 0, 1, 2, 3, 4, 5];
 
-const NEXT: [u8; 8] = [0x21, 6, 7, 8, 9, 10, 11, 12];
+pub const NEXT: [u8; 8] = [0x21, 6, 7, 8, 9, 10, 11, 12];
 
-const LAST: [u8; 8] = [0x22, 13, 14, 15, 16, 17, 18, 19];
+pub const LAST: [u8; 8] = [0x22, 13, 14, 15, 16, 17, 18, 19];
 
-const SINGLE: [u8; 4] = [3, 0xAA, 0xBB, 0xCC];
+pub const SINGLE: [u8; 4] = [3, 0xAA, 0xBB, 0xCC];
 
 /// The first session, in the one buffer.
 const OPENED: OpenedAt = OpenedAt {
@@ -50,7 +51,7 @@ const OPENED: OpenedAt = OpenedAt {
 
 /// What a receiver is told in a row.
 #[derive(Clone, Copy)]
-enum Told {
+pub enum Told {
     Frame(&'static [u8]),
     Timer,
     Left,
@@ -59,7 +60,7 @@ enum Told {
 
 /// What is done with its box.
 #[derive(Clone, Copy, Debug, PartialEq, Eq)]
-enum Boxed {
+pub enum Boxed {
     Keep,
     Offer { fs: u8, bs: u8, st: u8 },
     Other,
@@ -68,28 +69,28 @@ enum Boxed {
 
 /// A step: its tick, what is told, what is done with the box, and the records that it makes.
 #[derive(Clone, Copy)]
-struct Row {
-    tick: u64,
-    told: Told,
-    fc: Boxed,
-    records: [Option<SessionRecord>; 2],
+pub struct Row {
+    pub tick: u64,
+    pub told: Told,
+    pub fc: Boxed,
+    pub records: [Option<SessionRecord>; 2],
 }
 
 /// The flow control that lets the sender go on, and the one that refuses a message.
-const CONTINUE: Boxed = Boxed::Offer {
+pub const CONTINUE: Boxed = Boxed::Offer {
     fs: 0,
     bs: 0,
     st: 0,
 };
 
-const OVERFLOW: Boxed = Boxed::Offer {
+pub const OVERFLOW: Boxed = Boxed::Offer {
     fs: 2,
     bs: 0,
     st: 0,
 };
 
 /// A row that makes no record.
-fn silent(tick: u64, told: Told, fc: Boxed) -> Row {
+pub fn silent(tick: u64, told: Told, fc: Boxed) -> Row {
     Row {
         tick,
         told,
@@ -99,7 +100,7 @@ fn silent(tick: u64, told: Told, fc: Boxed) -> Row {
 }
 
 /// The record of the first start, of 20 bytes in tick 0, in the first session.
-fn first_ended(bytes: u32, end: u64, how: SessionResult) -> SessionRecord {
+pub fn first_ended(bytes: u32, end: u64, how: SessionResult) -> SessionRecord {
     SessionRecord {
         chan: ChanNo(0),
         n: 0,
@@ -113,7 +114,7 @@ fn first_ended(bytes: u32, end: u64, how: SessionResult) -> SessionRecord {
 }
 
 /// The record of a start that finds the one buffer taken.
-fn refused(n: u32, len: u32, tick: u64) -> SessionRecord {
+pub fn refused(n: u32, len: u32, tick: u64) -> SessionRecord {
     SessionRecord {
         chan: ChanNo(0),
         n,
@@ -130,18 +131,24 @@ fn refused(n: u32, len: u32, tick: u64) -> SessionRecord {
     }
 }
 
+/// The unit of a frame with these data.
+pub fn unit_of(a: u8, bytes: &[u8]) -> Result<RxEvent, FrameFault>
+    requires { a ≤ 1 }
+    ensures { IfOk result (λ event. (set : RxSet) (means : Means) (next : ℕ) → set.a ≡ a → IsServed means next → CanTake set means next (event_of event)) }
+{
+    let frame = Frame::new(CanId::Std(0x700), false, false, bytes)?;
+    let unit = read_unit(a, &frame);
+    let dl = frame.bytes().len() as u8;
+    Ok(RxEvent::Unit { unit, dl })
+}
+
 /// What is told, as the receiver takes it.
 fn event_of(a: u8, told: Told) -> Result<RxEvent, FrameFault>
     requires { a ≤ 1 }
     ensures { IfOk result (λ event. (set : RxSet) (means : Means) (next : ℕ) → set.a ≡ a → IsServed means next → CanTake set means next (event_of event)) }
 {
     match told {
-        Told::Frame(bytes) => {
-            let frame = Frame::new(CanId::Std(0x700), false, false, bytes)?;
-            let unit = read_unit(a, &frame);
-            let dl = frame.bytes().len() as u8;
-            Ok(RxEvent::Unit { unit, dl })
-        }
+        Told::Frame(bytes) => unit_of(a, bytes),
         Told::Timer => Ok(RxEvent::Timer),
         Told::Left => Ok(RxEvent::FcLeft),
         Told::End => Ok(RxEvent::RunEnd),
@@ -162,8 +169,10 @@ fn done_by(act: &BoxAct) -> Boxed {
     }
 }
 
-/// Plays the rows on a receiver and a port.
-fn play_on<P: Port>(rt: &impl Abort, port: &mut P, rows: &[Row]) -> Result<(), Fail>
+/// Plays the rows on a receiver, configured so, and a port.
+fn play_on<P: Port>(rt: &impl Abort, port: &mut P, set: RxSet, rows: &[Row]) -> Result<(), Fail>
+    requires path { (set.path.0 ≡ 0) × (set.group.0 ≡ 0) }
+    requires set { (set.readers ≡ 1) × (set.a ≡ 0) }
     requires rows { length rows.now ≤ 16 }
     requires group { 0 < length (P.state port.old).means.groups }
     requires takes { 16 ≤ (P.state port.old).means.takes }
@@ -172,7 +181,7 @@ fn play_on<P: Port>(rt: &impl Abort, port: &mut P, rows: &[Row]) -> Result<(), F
     requires most { 1 ≤ (P.state port.old).means.most }
     requires sessions { (P.state port.old).view.sessions 0 ≡ [] }
 {
-    let mut receiver = Receiver::new(SET);
+    let mut receiver = Receiver::new(set);
     let mut now = 0;
     for row in rows {
         let Row {
@@ -193,11 +202,19 @@ fn play_on<P: Port>(rt: &impl Abort, port: &mut P, rows: &[Row]) -> Result<(), F
 }
 
 /// Plays the rows on a hub of one buffer of four cells, whose destination never joins.
-fn play(rt: &impl Abort, alloc: Global, rows: &[Row]) -> Result<(), Fail>
+pub fn play(rt: &impl Abort, alloc: Global, rows: &[Row]) -> Result<(), Fail>
     requires { length rows.now ≤ 16 }
 {
     let mut hub = PlainHub::new(alloc, &[4], &[1])?;
-    play_on(rt, &mut hub, rows)
+    play_on(rt, &mut hub, SET, rows)
+}
+
+/// The same with a flow control that lies in its box for five ticks at most.
+pub fn play_boxed(rt: &impl Abort, alloc: Global, rows: &[Row]) -> Result<(), Fail>
+    requires { length rows.now ≤ 16 }
+{
+    let mut hub = PlainHub::new(alloc, &[4], &[1])?;
+    play_on(rt, &mut hub, RxSet { n_ar: 5, ..SET }, rows)
 }
 
 #[test]

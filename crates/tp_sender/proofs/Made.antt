@@ -4,7 +4,7 @@ use Rattle.std.specs.Prelude.{map}
 use Rattle.flow_plan.specs.Gap.{gap_in}
 use Rattle.gw_base.specs.declared.numbers.Tick.{Tick}
 use Rattle.hub_core.specs.View.{Event, Read}
-use Rattle.hub_core.specs.declared.port.Seen.{Seen}
+use Rattle.hub_core.specs.declared.port.Seen.{Seen as Look}
 use Rattle.hub_core.specs.declared.record.DestResult.{DestResult}
 use Rattle.hub_core.specs.declared.record.DestResult.TheVariants.{Sent, SourceEnded, BsTimeout, FcOverflow, InvalidFs, CsTimeout, AsTimeout, RunEnd as EndOfRun}
 use Rattle.hub_core.specs.declared.record.TxWait.TheVariants.{Turn as ForTurn}
@@ -32,11 +32,11 @@ record IsMadeOf (set : TxSet) (p : TxStage) (calls : List Event) (did : TxDid) :
   settled : IsSettled (done_by_all set did.tick p effects).new.event did.new.live
 
 -- in the midst of a step that was told of an event
-abbrev pub amid : TxEvent → Option Seen → (next : ℕ) → Option Transmission → TxStage
+abbrev pub amid : TxEvent → Option Look → (next : ℕ) → Option Transmission → TxStage
 amid event look next live = record { event = Some event; look = look; next = next; live = live }
 
 -- nothing more is done
-stays : (set : TxSet) (event : TxEvent) (look : Option Seen) (next : ℕ) (s : Transmission) (calls : List Event) (did : TxDid) → IsSettled (Some event) (Some s) → GoesOn s calls did → IsMadeOf set (amid event look next (Some s)) calls did
+stays : (set : TxSet) (event : TxEvent) (look : Option Look) (next : ℕ) (s : Transmission) (calls : List Event) (did : TxDid) → IsSettled (Some event) (Some s) → GoesOn s calls did → IsMadeOf set (amid event look next (Some s)) calls did
 stays set event look next s calls did settled row = record {
   effects = [];
   are = tt;
@@ -63,7 +63,7 @@ first-then set p effect calls more did is keeps none next are rest = record {
 }
 
 -- the session goes on after one effect
-goes-on : (set : TxSet) (event : TxEvent) (look : Option Seen) (next : ℕ) (s t : Transmission) (effect : TxEffect) (calls : List Event) (did : TxDid) → IsEffect set did.tick (amid event look next (Some s)) effect →
+goes-on : (set : TxSet) (event : TxEvent) (look : Option Look) (next : ℕ) (s t : Transmission) (effect : TxEffect) (calls : List Event) (did : TxDid) → IsEffect set did.tick (amid event look next (Some s)) effect →
     done_by set did.tick (amid event look next (Some s)) effect ≡ nothing_at did.tick (record { event = None; look = look; next = next; live = Some t }) → GoesOn t calls did → IsMadeOf set (amid event look next (Some s)) calls did
 goes-on set event look next s t effect calls did is same row =
     let D : TxDone → Type 0 = λ d. IsMadeOf set d.new [] did in
@@ -77,7 +77,7 @@ act-alone (OffersUnit unit) = refl
 act-alone Revokes = refl
 
 -- the session ends
-ends : (set : TxSet) (event : TxEvent) (look : Option Seen) (next : ℕ) (s : Transmission) (sent : ℕ) (act : BoxMeaning) (result : DestResult) (calls : List Event) (did : TxDid) → MayEnd set event look s sent act result →
+ends : (set : TxSet) (event : TxEvent) (look : Option Look) (next : ℕ) (s : Transmission) (sent : ℕ) (act : BoxMeaning) (result : DestResult) (calls : List Event) (did : TxDid) → MayEnd set event look s sent act result →
     EndsRow set (record s { sent = sent }) act result calls did → IsMadeOf set (amid event look next (Some s)) calls did
 ends set event look next s sent act result calls did may row = record {
   effects = Ends s sent act result row.left ∷ [];
@@ -91,7 +91,7 @@ ends set event look next s sent act result calls did may row = record {
 }
 
 -- before its last frame left
-cut : (set : TxSet) (event : TxEvent) (look : Option Seen) (next : ℕ) (s : Transmission) (result : DestResult) (calls : List Event) (did : TxDid) → (event ≡ Left → ⊥) → (result ≡ Sent → ⊥) → ShowsEnd set event look s result →
+cut : (set : TxSet) (event : TxEvent) (look : Option Look) (next : ℕ) (s : Transmission) (result : DestResult) (calls : List Event) (did : TxDid) → (event ≡ Left → ⊥) → (result ≡ Sent → ⊥) → ShowsEnd set event look s result →
     EndsRow set s (revoked s.phase) result calls did → IsMadeOf set (amid event look next (Some s)) calls did
 cut set event look next s result calls did told other shows row = ends set event look next s s.sent (revoked s.phase) result calls did (IsCut told other refl refl shows) row
 
@@ -100,12 +100,12 @@ keeps-at : (set : TxSet) (s : Transmission) (phase : Phase) (result : DestResult
 keeps-at set s phase result calls did at row = let P : Phase → Type 0 = λ p. EndsRow set s (revoked p) result calls did in subst P (sym at) row
 
 -- the rows of a turn
-of-lacks : (set : TxSet) (look : Seen) (next : ℕ) (s : Transmission) (calls : List Event) (did : TxDid) → IsShort set s look → Lacks set s look calls did → IsMadeOf set (amid Turn (Some look) next (Some s)) calls did
+of-lacks : (set : TxSet) (look : Look) (next : ℕ) (s : Transmission) (calls : List Event) (did : TxDid) → IsShort set s look → Lacks set s look calls did → IsMadeOf set (amid Turn (Some look) next (Some s)) calls did
 of-lacks set look next s calls did short (WriterGone gone row) = cut set Turn (Some look) next s SourceEnded calls did (λ e. cc) (λ e. cc) (gone, NoNext short) (keeps-at set s Bytes SourceEnded calls did short.phase row)
 of-lacks set look next s calls did short (TooLate there late row) = cut set Turn (Some look) next s (CsTimeout look.bytes) calls did (λ e. cc) (λ e. cc) (refl, short) (keeps-at set s Bytes (CsTimeout look.bytes) calls did short.phase row)
 of-lacks set look next s calls did short (MayCome there early row) = stays set Turn (Some look) next s calls did tt row
 
-of-bytes : (set : TxSet) (look : Option Seen) (next : ℕ) (s : Transmission) (calls : List Event) (did : TxDid) → s.phase ≡ Bytes → InBytes set s calls did → IsMadeOf set (amid Turn look next (Some s)) calls did
+of-bytes : (set : TxSet) (look : Option Look) (next : ℕ) (s : Transmission) (calls : List Event) (did : TxDid) → s.phase ≡ Bytes → InBytes set s calls did → IsMadeOf set (amid Turn look next (Some s)) calls did
 of-bytes set look next s calls did phase (Enough seen cells fetches row) =
     let more : List Event = map (Read set.path.0 set.dest.0 s.seq) cells ++ [] in
     first-then set (amid Turn look next (Some s)) (Looks s seen) calls more did (record { event = Turn; told = refl; finds = refl; may = refl }) refl refl refl fetches.calls_are
@@ -125,7 +125,7 @@ of-bytes set look next s calls did phase (Short seen cells more fetches short ro
     (first-then set (amid Turn (Some seen) next (Some s)) (Reads s cells) (map (Read set.path.0 set.dest.0 s.seq) cells ++ more) more did (record { event = Turn; told = refl; finds = refl; may = (refl, fetches.cells_only) }) refl refl refl refl
     (of-lacks set seen next (fetched cells s) more did (record { phase = phase; all = short.all; few = short.few }) row))
 
-of-start : (set : TxSet) (look : Option Seen) (next : ℕ) (s : Transmission) (calls : List Event) (did : TxDid) → s.phase ≡ Start → InStart set s calls did → IsMadeOf set (amid Turn look next (Some s)) calls did
+of-start : (set : TxSet) (look : Option Look) (next : ℕ) (s : Transmission) (calls : List Event) (did : TxDid) → s.phase ≡ Start → InStart set s calls did → IsMadeOf set (amid Turn look next (Some s)) calls did
 of-start set look next s calls did phase (Reached seen more are reached row) =
     first-then set (amid Turn look next (Some s)) (Looks s seen) calls more did (record { event = Turn; told = refl; finds = refl; may = refl }) refl refl refl are
     (first-then set (amid Turn (Some seen) next (Some s)) (Waits s Bytes s.block s.gap) more more did (record { event = Turn; told = refl; finds = refl; may = IsReached refl phase refl (refl, refl) }) refl refl refl refl

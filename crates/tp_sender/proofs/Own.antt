@@ -4,7 +4,7 @@ use Rattle.std.specs.Prelude.{◌==◌, map}
 use Rattle.hub_core.specs.View.{Read}
 use Rattle.std.specs.List.{AllByRecursion}
 use Rattle.gw_base.proofs.Lists.{all-join}
-use Rattle.hub_core.specs.declared.port.Seen.{Seen}
+use Rattle.hub_core.specs.declared.port.Seen.{Seen as Look}
 use Rattle.hub_core.specs.declared.record.DestResult.{DestResult}
 use Rattle.tp_unit.specs.Shape.{part_of_start}
 use Rattle.tp_unit.specs.Unit.{BoxMeaning, Keeps, Offers as OffersUnit, Revokes, SingleFrame, FirstFrame, ConsecutiveFrame}
@@ -69,7 +69,7 @@ act-revoked set Box = tt
 act-revoked set Fc = tt
 act-revoked set (Gap until) = tt
 
-act-ends : (set : TxSet) (event : TxEvent) (look : Option Seen) (s : Transmission) (sent : ℕ) (act : BoxMeaning) (result : DestResult) → MayEnd set event look s sent act result → IsFittingAct set act
+act-ends : (set : TxSet) (event : TxEvent) (look : Option Look) (s : Transmission) (sent : ℕ) (act : BoxMeaning) (result : DestResult) → MayEnd set event look s sent act result → IsFittingAct set act
 act-ends set event look s sent act result (IsWhole left box whole all keeps is) = rw keeps tt
 act-ends set event look s sent act result (IsCut told other all is shows) = rw is (act-revoked set s.phase)
 
@@ -77,7 +77,7 @@ reads : (set : TxSet) (seq : ℕ) (cells : List ℕ) → AllByRecursion (OfDest 
 reads set seq [] = tt
 reads set seq (cell ∷ cells) = ((refl, refl), reads set seq cells)
 
-each : (set : TxSet) (tick : ℕ) (event : TxEvent) (look : Option Seen) (next : ℕ) (effect : TxEffect) → MayBe set tick event look effect → IsOwn set tick (amid event look next (found_by effect)) (done_by set tick (amid event look next (found_by effect)) effect)
+each : (set : TxSet) (tick : ℕ) (event : TxEvent) (look : Option Look) (next : ℕ) (effect : TxEffect) → MayBe set tick event look effect → IsOwn set tick (amid event look next (found_by effect)) (done_by set tick (amid event look next (found_by effect)) effect)
 each set tick event look next Misses may = record { calls = ((refl, refl), tt); act = tt; records = tt; last = inl refl; idle = λ none. cc; next = omega arith }
 each set tick event look next (Joins buf len) may = record { calls = ((refl, refl), tt); act = tt; records = tt; last = inl refl; idle = λ none. cc; next = omega arith }
 each set tick event look next (Looks s seen) may = record { calls = ((refl, refl), tt); act = tt; records = tt; last = inl refl; idle = λ none. cc; next = omega arith }
@@ -132,7 +132,7 @@ pub record HasBoxed (live : Option Transmission) : Type 0 where
   pub is : live ≡ Some s
   pub box : s.phase ≡ Box
 
-boxed-by : (set : TxSet) (tick : ℕ) (look : Option Seen) (effect : TxEffect) → MayBe set tick Left look effect → HasBoxed (found_by effect)
+boxed-by : (set : TxSet) (tick : ℕ) (look : Option Look) (effect : TxEffect) → MayBe set tick Left look effect → HasBoxed (found_by effect)
 boxed-by set tick look Misses may = absurd may
 boxed-by set tick look (Joins buf len) may = absurd may.0
 boxed-by set tick look (Looks s seen) may = cc

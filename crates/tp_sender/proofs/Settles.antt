@@ -7,7 +7,7 @@ use Rattle.tp_sender.specs.Port.{StepOver, did_by}
 use Rattle.std.specs.Prelude.{option_map}
 use Rattle.hub_core.specs.Floors.{Floors}
 use Rattle.hub_core.specs.View.{View}
-use Rattle.hub_core.specs.declared.port.Seen.{Seen}
+use Rattle.hub_core.specs.declared.port.Seen.{Seen as Look}
 use Rattle.hub_core.specs.declared.record.DestResult.{DestResult}
 use Rattle.tp_unit.specs.Unit.{BoxMeaning, Keeps, Offers as OffersUnit, Revokes}
 use Rattle.tp_sender.specs.declared.event.TxActs.{TxActs}
@@ -74,11 +74,11 @@ awaits-out phase (AfterFirst none more same kept is) = out-of phase Fc is (λ b.
 awaits-out phase (AfterBlock more one is) = out-of phase Fc is (λ b. b)
 awaits-out phase (AfterNext more out is) = out-of phase (Gap _) is (λ b. b)
 
-ends-tells : (set : TxSet) (event : TxEvent) (look : Option Seen) (s : Transmission) (sent : ℕ) (act : BoxMeaning) (result : DestResult) (now : Type 0) → MayEnd set event look s sent act result → (now → ⊥) → Tells act ((Some event ≡ Some Left → ⊥) × in_box s.phase) now
+ends-tells : (set : TxSet) (event : TxEvent) (look : Option Look) (s : Transmission) (sent : ℕ) (act : BoxMeaning) (result : DestResult) (now : Type 0) → MayEnd set event look s sent act result → (now → ⊥) → Tells act ((Some event ≡ Some Left → ⊥) × in_box s.phase) now
 ends-tells set event look s sent act result now (IsWhole left box whole all keeps is) gone = rw keeps (λ was. absurd (was.0 (ap (λ e. Some e) left)), λ n. absurd (gone n))
 ends-tells set event look s sent act result now (IsCut told other all is shows) gone = rw is (tells-revoked s.phase ((Some event ≡ Some Left → ⊥) × in_box s.phase) now (λ was. was.1) gone)
 
-each : (set : TxSet) (tick : ℕ) (event : TxEvent) (look : Option Seen) (next : ℕ) (effect : TxEffect) → MayBe set tick event look effect → Settling tick (amid event look next (found_by effect)) (done_by set tick (amid event look next (found_by effect)) effect)
+each : (set : TxSet) (tick : ℕ) (event : TxEvent) (look : Option Look) (next : ℕ) (effect : TxEffect) → MayBe set tick event look effect → Settling tick (amid event look next (found_by effect)) (done_by set tick (amid event look next (found_by effect)) effect)
 each set tick event look next Misses may = record { time = λ le. le; box = (λ was. absurd was.1, λ now. absurd now.1) }
 each set tick event look next (Joins buf len) may = record { time = λ le. omega arith; box = (λ was. absurd was.1, λ now. absurd now.1) }
 each set tick event look next (Looks s seen) may = record { time = λ le. le; box = (λ was. was, λ now. now) }

@@ -14,7 +14,7 @@ use Rattle.hub_core.specs.Calls.{Means, SameMeans, ByReader}
 use Rattle.hub_core.specs.Floors.{Floors, Rise, IsFresh, AreFresh}
 use Rattle.hub_core.specs.Tokens.{Reads, SameJoined, saw}
 use Rattle.hub_core.specs.View.{View, Event, Read, Saw, grow, grows}
-use Rattle.hub_core.specs.declared.port.Seen.{Seen}
+use Rattle.hub_core.specs.declared.port.Seen.{Seen as Look}
 use Rattle.hub_core.specs.declared.token.Joined.{Joined}
 use Rattle.hub_core.proofs.Fresh.{are-fresh-append, rise-same}
 use Rattle.hub_core.specs.declared.record.DestResult.TheVariants.{SourceEnded}
@@ -27,7 +27,7 @@ use Rattle.tp_sender.proofs.Reading.{sending-with}
 use Rattle.hub_core.proofs.Growing.{grows-append}
 
 -- the session after a look
-pub record Looks (live next : HeldTransmission) (look : Seen) : Type 0 where
+pub record Looks (live next : HeldTransmission) (look : Look) : Type 0 where
   pub token : SameJoined next.at (saw look live.at)
   pub carry : next.carry ≡ live.carry
   pub begin : next.begin ≡ live.begin
@@ -38,24 +38,24 @@ pub record Looks (live next : HeldTransmission) (look : Seen) : Type 0 where
   pub phase : next.phase ≡ live.phase
   pub since : next.since ≡ live.since
 
-looked : (live next : HeldTransmission) (look : Seen) → Looks live next look → transmission_of next ≡ transmission_of live
+looked : (live next : HeldTransmission) (look : Look) → Looks live next look → transmission_of next ≡ transmission_of live
 looked live next look is =
     sending-with (transmission_of live) live.at.at live.carry (transmission_of next) is.token.seq is.token.len is.token.at is.carry (ap (λ (t : Tick). t.0) is.begin) is.sent is.number is.block is.gap is.phase (ap (λ (t : Tick). t.0) is.since)
 
 -- a look of the session, by the destination's own numbers
-look-of : (set : TxSet) (live : HeldTransmission) (look : Seen) (u v : View) → live.at.path ≡ set.path → live.at.dest ≡ set.dest → v ≡ grow (Saw live.at.path.0 live.at.dest.0 live.at.seq look.cells look.bytes look.writer) u →
+look-of : (set : TxSet) (live : HeldTransmission) (look : Look) (u v : View) → live.at.path ≡ set.path → live.at.dest ≡ set.dest → v ≡ grow (Saw live.at.path.0 live.at.dest.0 live.at.seq look.cells look.bytes look.writer) u →
     v ≡ grow (look_at set (transmission_of live) look) u
 look-of set live look u v path dest grown = rw (← path, ← dest) grown
 
 -- and it is as fresh
-fresh-of : (low : Floors) (set : TxSet) (live : HeldTransmission) (look : Seen) (u : View) → live.at.path ≡ set.path → IsFresh u low (Saw live.at.path.0 live.at.dest.0 live.at.seq look.cells look.bytes look.writer) → IsFresh u low (look_at set (transmission_of live) look)
-fresh-of low set live look u path fresh = rw (← path) fresh
+fresh-of : (low : Floors) (set : TxSet) (live : HeldTransmission) (look : Look) (u : View) → live.at.path ≡ set.path → live.at.dest ≡ set.dest → IsFresh u low (Saw live.at.path.0 live.at.dest.0 live.at.seq look.cells look.bytes look.writer) → IsFresh u low (look_at set (transmission_of live) look)
+fresh-of low set live look u path dest fresh = rw (← path, ← dest) fresh
 
 -- the session with another token
 abbrev pub with_token : Joined → HeldTransmission → Transmission
 with_token at live = record (transmission_of live) { seq = at.seq; len = at.len; at = at.at }
 
-pub looked-at : (live : HeldTransmission) (at : Joined) (look : Seen) → SameJoined at (saw look live.at) → with_token at live ≡ transmission_of live
+pub looked-at : (live : HeldTransmission) (at : Joined) (look : Look) → SameJoined at (saw look live.at) → with_token at live ≡ transmission_of live
 looked-at live at look is = sending-with (transmission_of live) live.at.at live.carry (with_token at live) is.seq is.len is.at refl refl refl refl refl refl refl refl
 
 not-there : (b : Bool) → not b ≡ true → b ≡ false
@@ -70,7 +70,7 @@ there false is = sym is
 counts-as : {f : Floors} (Row : List Event → TxDid → Type 0) (u w : View) (tick before count : ℕ) (outcome : Outcome) → before ≡ count → OverRow Row f u w tick before outcome → OverRow Row f u w tick count outcome
 counts-as {f = f} Row u w tick before count outcome same over = subst (λ n. OverRow Row f u w tick n outcome) same over
 
-pub begins-reached : {low high : Floors} (set : TxSet) (live : HeldTransmission) (next : Transmission) (look : Seen) (u v w : View) (tick : ℕ) (outcome : Outcome) → live.at.path ≡ set.path → live.at.dest ≡ set.dest →
+pub begins-reached : {low high : Floors} (set : TxSet) (live : HeldTransmission) (next : Transmission) (look : Look) (u v w : View) (tick : ℕ) (outcome : Outcome) → live.at.path ≡ set.path → live.at.dest ≡ set.dest →
     v ≡ grow (Saw live.at.path.0 live.at.dest.0 live.at.seq look.cells look.bytes look.writer) u → Rise low high → IsFresh u low (Saw live.at.path.0 live.at.dest.0 live.at.seq look.cells look.bytes look.writer) → next ≡ transmission_of live → true ≡ is_reached set next look →
     OverRow (InBytes set (in_phase Bytes tick next)) high v w tick (next.seq + 1) outcome → OverRow (InStart set (transmission_of live)) low u w tick (live.at.seq + 1) outcome
 begins-reached {low = low} set live next look u v w tick outcome path dest grown rise fresh same reached over =
@@ -78,11 +78,11 @@ begins-reached {low = low} set live next look u v w tick outcome path dest grown
     let P : Transmission → List Event → List Event → Type 0 = λ s calls all. InBytes set (in_phase Bytes tick s) calls (did_of tick count all outcome) in
     let Q : Transmission → Type 0 = λ s. is_reached set s look ≡ true in
     over-after (look_at set (transmission_of live) look ∷ []) [] (option_to_list outcome.acts.moved) (λ calls. (all : List Event) → P next calls all)
-    (λ calls. (all : List Event) → InStart set (transmission_of live) calls (did_of tick count all outcome)) (look-of set live look u v path dest grown) rise (fresh-of low set live look u path fresh, tt) refl
+    (λ calls. (all : List Event) → InStart set (transmission_of live) calls (did_of tick count all outcome)) (look-of set live look u v path dest grown) rise (fresh-of low set live look u path dest fresh, tt) refl
     (counts-as (InBytes set (in_phase Bytes tick next)) v w tick (next.seq + 1) count outcome (ap (λ (s : Transmission). s.seq + 1) same) over)
     (λ calls row all. Reached look calls refl (subst Q same (sym reached)) (subst (λ (s : Transmission). P s calls all) same (row all)))
 
-pub begins-gone : {low high : Floors} (set : TxSet) (live : HeldTransmission) (next : Transmission) (look : Seen) (u v w : View) (tick : ℕ) (outcome : Outcome) → live.at.path ≡ set.path → live.at.dest ≡ set.dest →
+pub begins-gone : {low high : Floors} (set : TxSet) (live : HeldTransmission) (next : Transmission) (look : Look) (u v w : View) (tick : ℕ) (outcome : Outcome) → live.at.path ≡ set.path → live.at.dest ≡ set.dest →
     v ≡ grow (Saw live.at.path.0 live.at.dest.0 live.at.seq look.cells look.bytes look.writer) u → Rise low high → IsFresh u low (Saw live.at.path.0 live.at.dest.0 live.at.seq look.cells look.bytes look.writer) → next ≡ transmission_of live → false ≡ is_reached set next look → not look.writer ≡ true →
     OverRow (Ends set next Keeps SourceEnded) high v w tick (next.seq + 1) outcome → OverRow (InStart set (transmission_of live)) low u w tick (live.at.seq + 1) outcome
 begins-gone {low = low} set live next look u v w tick outcome path dest grown rise fresh same reached gone over =
@@ -90,11 +90,11 @@ begins-gone {low = low} set live next look u v w tick outcome path dest grown ri
     let P : Transmission → List Event → List Event → Type 0 = λ s calls all. Ends set s Keeps SourceEnded calls (did_of tick count all outcome) in
     let Q : Transmission → Type 0 = λ s. is_reached set s look ≡ false in
     over-after (look_at set (transmission_of live) look ∷ []) [] (option_to_list outcome.acts.moved) (λ calls. (all : List Event) → P next calls all)
-    (λ calls. (all : List Event) → InStart set (transmission_of live) calls (did_of tick count all outcome)) (look-of set live look u v path dest grown) rise (fresh-of low set live look u path fresh, tt) refl
+    (λ calls. (all : List Event) → InStart set (transmission_of live) calls (did_of tick count all outcome)) (look-of set live look u v path dest grown) rise (fresh-of low set live look u path dest fresh, tt) refl
     (counts-as (Ends set next Keeps SourceEnded) v w tick (next.seq + 1) count outcome (ap (λ (s : Transmission). s.seq + 1) same) over)
     (λ calls row all. NeverReached look calls refl (subst Q same (sym reached)) (not-there look.writer gone) (subst (λ (s : Transmission). P s calls all) same (row all)))
 
-pub begins-later : {low : Floors} (set : TxSet) (live : HeldTransmission) (next : Transmission) (look : Seen) (u v : View) (tick count : ℕ) (outcome : Outcome) → live.at.path ≡ set.path → live.at.dest ≡ set.dest →
+pub begins-later : {low : Floors} (set : TxSet) (live : HeldTransmission) (next : Transmission) (look : Look) (u v : View) (tick count : ℕ) (outcome : Outcome) → live.at.path ≡ set.path → live.at.dest ≡ set.dest →
     v ≡ grow (Saw live.at.path.0 live.at.dest.0 live.at.seq look.cells look.bytes look.writer) u → IsFresh u low (Saw live.at.path.0 live.at.dest.0 live.at.seq look.cells look.bytes look.writer) → next ≡ transmission_of live → false ≡ is_reached set next look → not look.writer ≡ false →
     outcome.acts.moved ≡ None → ((all : List Event) → GoesOn next [] (did_of tick count all outcome)) → OverRow (InStart set (transmission_of live)) low u v tick count outcome
 begins-later {low = low} set live next look u v tick count outcome path dest grown fresh same reached stands moved on =
@@ -102,7 +102,7 @@ begins-later {low = low} set live next look u v tick count outcome path dest gro
     record {
       calls = look_at set (transmission_of live) look ∷ [];
       grown = look-of set live look u v path dest grown;
-      fresh = (fresh-of low set live look u path fresh, tt);
+      fresh = (fresh-of low set live look u path dest fresh, tt);
       moves_are = ap option_to_list moved;
       row = λ all. NotReached look [] refl (subst Q same (sym reached)) (there look.writer stands) (subst (λ (s : Transmission). GoesOn s [] (did_of tick count all outcome)) same (on all));
     }
@@ -113,7 +113,7 @@ moves_in-reads path dest seq [] more = refl
 moves_in-reads path dest seq (cell ∷ cells) more = moves_in-reads path dest seq cells more
 
 -- the look and the cells of a turn in phase Bytes
-reads-of : {low : Floors} (set : TxSet) (live next full : HeldTransmission) (look : Seen) (u v w : View) (l m : Means) → live.at.path ≡ set.path → live.at.dest ≡ set.dest →
+reads-of : {low : Floors} (set : TxSet) (live next full : HeldTransmission) (look : Look) (u v w : View) (l m : Means) → live.at.path ≡ set.path → live.at.dest ≡ set.dest →
     v ≡ grow (Saw live.at.path.0 live.at.dest.0 live.at.seq look.cells look.bytes look.writer) u → IsFresh u low (Saw live.at.path.0 live.at.dest.0 live.at.seq look.cells look.bytes look.writer) → Looks live next look → (wanted : ℕ) → wanted ≡ next_part set (transmission_of live) → (read : ReadsEnough wanted next full v w l m) →
     (transmission_of full ≡ fetched read.some.cells (transmission_of live)) ×
     ((more : List Event) → (grows (look_at set (transmission_of live) look ∷ (map (Read set.path.0 set.dest.0 live.at.seq) read.some.cells ++ more)) u ≡ grows more w) ×
@@ -136,14 +136,14 @@ reads-of {low = low} set live next full look u v w l m path dest grown fresh loo
           left = left;
         },
         λ high rise later. (
-          fresh-of low set live look u path fresh,
+          fresh-of low set live look u path dest fresh,
           are-fresh-append low high (grow (look_at set (transmission_of live) look) u) w e more
               (own ∙ ap (grows e) (look-of set live look u v path dest grown)) rise (reads-fresh low _ set.path.0 set.dest.0 live.at.seq cells) later,
         ),
       ),
     )
 
-pub fills-enough : {low : Floors} (set : TxSet) (live next full : HeldTransmission) (look : Seen) (u v w : View) (l m : Means) (tick : ℕ) (outcome : Outcome) → live.at.path ≡ set.path → live.at.dest ≡ set.dest →
+pub fills-enough : {low : Floors} (set : TxSet) (live next full : HeldTransmission) (look : Look) (u v w : View) (l m : Means) (tick : ℕ) (outcome : Outcome) → live.at.path ≡ set.path → live.at.dest ≡ set.dest →
     v ≡ grow (Saw live.at.path.0 live.at.dest.0 live.at.seq look.cells look.bytes look.writer) u → IsFresh u low (Saw live.at.path.0 live.at.dest.0 live.at.seq look.cells look.bytes look.writer) → Looks live next look → (wanted : ℕ) → wanted ≡ next_part set (transmission_of live) → ReadsEnough wanted next full v w l m →
     outcome.acts.moved ≡ None → ((all : List Event) → OffersNext set (transmission_of full) (did_of tick (full.at.seq + 1) all outcome)) → OverRow (InBytes set (transmission_of live)) low u w tick (live.at.seq + 1) outcome
 fills-enough {low = low} set live next full look u v w l m tick outcome path dest grown fresh looks wanted part read moved offers =
@@ -156,7 +156,7 @@ fills-enough {low = low} set live next full look u v w l m tick outcome path des
       row = λ whole. Enough look read.some.cells (all.1 []).1 (subst (λ (s : Transmission). OffersNext set s (did_of tick (s.seq + 1) whole outcome)) all.0 (offers whole));
     }
 
-pub fills-short : {low high : Floors} (set : TxSet) (live next full : HeldTransmission) (look : Seen) (u v w x : View) (l m : Means) (tick : ℕ) (outcome : Outcome) → live.at.path ≡ set.path → live.at.dest ≡ set.dest →
+pub fills-short : {low high : Floors} (set : TxSet) (live next full : HeldTransmission) (look : Look) (u v w x : View) (l m : Means) (tick : ℕ) (outcome : Outcome) → live.at.path ≡ set.path → live.at.dest ≡ set.dest →
     v ≡ grow (Saw live.at.path.0 live.at.dest.0 live.at.seq look.cells look.bytes look.writer) u → Rise low high → IsFresh u low (Saw live.at.path.0 live.at.dest.0 live.at.seq look.cells look.bytes look.writer) → Looks live next look → (wanted : ℕ) → wanted ≡ next_part set (transmission_of live) → ReadsEnough wanted next full v w l m →
     length full.carry < wanted → OverRow (Lacks set (transmission_of full) look) high w x tick (full.at.seq + 1) outcome → OverRow (InBytes set (transmission_of live)) low u x tick (live.at.seq + 1) outcome
 fills-short {high = high} set live next full look u v w x l m tick outcome path dest grown rise fresh looks wanted part read few over =
@@ -187,7 +187,7 @@ knows-at v set next (Some live) at same path dest seq reads = record {
 }
 
 -- the port after a look and the cells, where the session's token is the offered one's
-pub port-offered : (set : TxSet) (live next full : HeldTransmission) (after : Option HeldTransmission) (look : Seen) (u v w : View) (k l m : Means) (wanted : ℕ) → KnowsToken u set (live.at.seq + 1) live → Looks live next look →
+pub port-offered : (set : TxSet) (live next full : HeldTransmission) (after : Option HeldTransmission) (look : Look) (u v w : View) (k l m : Means) (wanted : ℕ) → KnowsToken u set (live.at.seq + 1) live → Looks live next look →
     ByReader live.at.path.0 live.at.dest.0 0 u v → SameMeans k l → ReadsEnough wanted next full v w l m → IfSome after (λ offered. offered.at ≡ full.at) → KeepsPort set (live.at.seq + 1) after u w k m
 port-offered set live next full after look u v w k l m wanted knows looks by means read offered =
     let later : ByReader set.path.0 set.dest.0 0 v w = rw (← knows.path, ← knows.dest, ← looks.token.path, ← looks.token.dest) read.some.on.by in

@@ -8,7 +8,7 @@ use Rattle.hub_core.specs.Calls.{freed_by}
 use Rattle.hub_core.specs.Turns.{Did}
 use Rattle.hub_core.specs.View.{Event, Joining, Missed, Read, Parted}
 use Rattle.hub_core.specs.declared.port.Left.{Left as LeftOver}
-use Rattle.hub_core.specs.declared.port.Seen.{Seen}
+use Rattle.hub_core.specs.declared.port.Seen.{Seen as Look}
 use Rattle.hub_core.specs.declared.record.DestRecord.{DestRecord}
 use Rattle.hub_core.specs.declared.record.DestResult.{DestResult}
 use Rattle.hub_core.specs.declared.record.DestResult.TheVariants.{Sent, SourceEnded, BsTimeout, FcOverflow, InvalidFs, CsTimeout, AsTimeout, Cancelled, RunEnd as EndOfRun}
@@ -27,7 +27,7 @@ use Rattle.tp_sender.specs.Table.{fetched, in_phase, is_reached, joined_in, look
 -- is joined next, and the one that is sent
 pub record TxStage : Type 0 where
   pub event : Option TxEvent
-  pub look : Option Seen
+  pub look : Option Look
   pub next : ℕ
   pub live : Option Transmission
 
@@ -37,7 +37,7 @@ pub data TxEffect : Type 0 where
   Misses : TxEffect
   Joins : (buf len : ℕ) → TxEffect
   -- the session looks at what is published of it, and reads cells
-  Looks : (s : Transmission) → (look : Seen) → TxEffect
+  Looks : (s : Transmission) → (look : Look) → TxEffect
   Reads : (s : Transmission) → (cells : List ℕ) → TxEffect
   -- its next frame is offered into the box, or has left, which makes so many sent bytes and leaves so many frames of the block
   Offers : (s : Transmission) → TxEffect
@@ -160,23 +160,23 @@ pub data MayWait (set : TxSet) (tick : ℕ) (event : TxEvent) (s : Transmission)
   IsPaused : (bs st : ℕ) → event ≡ CameFc 1 bs st → s.phase ≡ Fc → phase ≡ Fc → KeepsBlock s block gap → MayWait set tick event s phase block gap
 
 -- all that was seen is read, and it is fewer bytes than the next frame takes
-pub record IsShort (set : TxSet) (s : Transmission) (look : Seen) : Type 0 where
+pub record IsShort (set : TxSet) (s : Transmission) (look : Look) : Type 0 where
   pub phase : s.phase ≡ Bytes
   pub all : s.at ≡ look.cells
   pub few : length s.carried < next_part set s
 
 -- by what was seen the next frame's bytes will never be there
-pub data NeverComes (set : TxSet) (s : Transmission) (look : Seen) : Type 0 where
+pub data NeverComes (set : TxSet) (s : Transmission) (look : Look) : Type 0 where
   NoNext : IsShort set s look → NeverComes set s look
   NoStart : s.phase ≡ Start → is_reached set s look ≡ false → NeverComes set s look
 
 -- what was seen last, where there was a look
-abbrev pub WasSeen : (Seen → Type 0) → Option Seen → Type 0
+abbrev pub WasSeen : (Look → Type 0) → Option Look → Type 0
 WasSeen P None = ⊥
 WasSeen P (Some look) = P look
 
 -- what an unfinished session shows of the result that it ends with
-abbrev pub ShowsEnd : TxSet → (event : TxEvent) → Option Seen → Transmission → DestResult → Type 0
+abbrev pub ShowsEnd : TxSet → (event : TxEvent) → Option Look → Transmission → DestResult → Type 0
 ShowsEnd set event look s Sent = ⊥
 ShowsEnd set event look s SourceEnded = WasSeen (λ seen. (seen.writer ≡ false) × NeverComes set s seen) look
 ShowsEnd set event look s BsTimeout = s.phase ≡ Fc
@@ -188,7 +188,7 @@ ShowsEnd set event look s Cancelled = ⊥
 ShowsEnd set event look s (EndOfRun wait since) = event ≡ RunEnd
 
 -- how a session ends: its last frame has left, or it is cut short, and a frame of it that lies in the box is revoked
-pub data MayEnd (set : TxSet) (event : TxEvent) (look : Option Seen) (s : Transmission) (sent : ℕ) (act : BoxMeaning) (result : DestResult) : Type 0 where
+pub data MayEnd (set : TxSet) (event : TxEvent) (look : Option Look) (s : Transmission) (sent : ℕ) (act : BoxMeaning) (result : DestResult) : Type 0 where
   IsWhole : event ≡ Left → s.phase ≡ Box → s.sent + next_part set s ≡ s.len → sent ≡ s.len → act ≡ Keeps → result ≡ Sent → MayEnd set event look s sent act result
   IsCut : (event ≡ Left → ⊥) → (result ≡ Sent → ⊥) → sent ≡ s.sent → act ≡ revoked s.phase → ShowsEnd set event look s result → MayEnd set event look s sent act result
 
@@ -207,7 +207,7 @@ pub record MayLeave (set : TxSet) (tick : ℕ) (event : TxEvent) (s : Transmissi
   pub next : AwaitsNext set tick s sent number block phase
 
 -- when an effect may be, by the event and what was seen last
-abbrev pub MayBe : TxSet → (tick : ℕ) → TxEvent → Option Seen → TxEffect → Type 0
+abbrev pub MayBe : TxSet → (tick : ℕ) → TxEvent → Option Look → TxEffect → Type 0
 MayBe set tick event look Misses = AsksForOne event
 MayBe set tick event look (Joins buf len) = AsksForOne event × (0 < len)
 MayBe set tick event look (Looks s seen) = event ≡ Turn

@@ -5,7 +5,7 @@ use Rattle.gw_base.specs.Cell.{IsCell, bytes_of, count_of}
 use Rattle.hub_core.specs.Calls.{freed_by}
 use Rattle.hub_core.specs.View.{Event, Joining, Missed, Saw, Read, Parted}
 use Rattle.hub_core.specs.declared.port.Left.{Left as LeftOver}
-use Rattle.hub_core.specs.declared.port.Seen.{Seen}
+use Rattle.hub_core.specs.declared.port.Seen.{Seen as Look}
 use Rattle.hub_core.specs.declared.record.DestResult.{DestResult}
 use Rattle.hub_core.specs.declared.record.DestResult.TheVariants.{Sent, SourceEnded, BsTimeout, FcOverflow, InvalidFs, CsTimeout, AsTimeout, RunEnd as EndOfRun}
 use Rattle.hub_core.specs.declared.record.TxWait.{TxWait}
@@ -48,7 +48,7 @@ abbrev pub in_phase : Phase → ℕ → Transmission → Transmission
 in_phase phase tick s = record s { phase = phase; since = tick }
 
 -- the destination looks at what is published of the session
-abbrev pub look_at : TxSet → Transmission → Seen → Event
+abbrev pub look_at : TxSet → Transmission → Look → Event
 look_at set s look = Saw set.path.0 set.dest.0 s.seq look.cells look.bytes look.writer
 
 -- the bytes that the session's next frame carries
@@ -61,7 +61,7 @@ AreWanted wanted carried [] = Unit {0}
 AreWanted wanted carried (cell ∷ cells) = (carried < wanted) × AreWanted wanted (carried + count_of cell) cells
 
 -- the session looks, and cells are read while fewer bytes are carried than the next frame takes, and cells are left
-pub record Fetches (set : TxSet) (s : Transmission) (look : Seen) (cells : List ℕ) (calls more : List Event) : Type 0 where
+pub record Fetches (set : TxSet) (s : Transmission) (look : Look) (cells : List ℕ) (calls more : List Event) : Type 0 where
   pub calls_are : calls ≡ look_at set s look ∷ (map (Read set.path.0 set.dest.0 s.seq) cells ++ more)
   pub cells_only : All IsCell cells
   pub wanted : AreWanted (next_part set s) (length s.carried) cells
@@ -72,7 +72,7 @@ abbrev pub fetched : List ℕ → Transmission → Transmission
 fetched cells s = record s { at = s.at + length cells; carried = s.carried ++ bytes_of cells }
 
 -- all cells are read, and the bytes carried are fewer than the next frame takes
-pub record FallsShort (set : TxSet) (s : Transmission) (look : Seen) (cells : List ℕ) : Type 0 where
+pub record FallsShort (set : TxSet) (s : Transmission) (look : Look) (cells : List ℕ) : Type 0 where
   pub all : s.at + length cells ≡ look.cells
   pub few : length (s.carried ++ bytes_of cells) < next_part set s
 
@@ -85,25 +85,25 @@ pub record OffersNext (set : TxSet) (s : Transmission) (did : TxDid) : Type 0 wh
   pub live : did.new.live ≡ Some (in_phase Box did.tick (record s { carried = drop (next_part set s) s.carried }))
 
 -- what comes of that: the session ends with its writer or with the limit, or goes on
-pub data Lacks (set : TxSet) (s : Transmission) (look : Seen) (calls : List Event) (did : TxDid) : Type 0 where
+pub data Lacks (set : TxSet) (s : Transmission) (look : Look) (calls : List Event) (did : TxDid) : Type 0 where
   WriterGone : look.writer ≡ false → Ends set s Keeps SourceEnded calls did → Lacks set s look calls did
   TooLate : look.writer ≡ true → s.since + set.n_cs ≤ did.tick → Ends set s Keeps (CsTimeout look.bytes) calls did → Lacks set s look calls did
   MayCome : look.writer ≡ true → did.tick < s.since + set.n_cs → GoesOn s calls did → Lacks set s look calls did
 
 -- a turn in phase Bytes
 pub data InBytes (set : TxSet) (s : Transmission) (calls : List Event) (did : TxDid) : Type 0 where
-  Enough : (look : Seen) (cells : List ℕ) → Fetches set s look cells calls [] → OffersNext set (fetched cells s) did → InBytes set s calls did
-  Short : (look : Seen) (cells : List ℕ) (more : List Event) → Fetches set s look cells calls more → FallsShort set s look cells → Lacks set (fetched cells s) look more did → InBytes set s calls did
+  Enough : (look : Look) (cells : List ℕ) → Fetches set s look cells calls [] → OffersNext set (fetched cells s) did → InBytes set s calls did
+  Short : (look : Look) (cells : List ℕ) (more : List Event) → Fetches set s look cells calls more → FallsShort set s look cells → Lacks set (fetched cells s) look more did → InBytes set s calls did
 
 -- enough is published to begin with: all bytes or, unless whole units are stored, as many cells as the threshold
-abbrev pub is_reached : TxSet → Transmission → Seen → Bool
+abbrev pub is_reached : TxSet → Transmission → Look → Bool
 is_reached set s look = look.bytes == s.len || not set.store && nat_le set.threshold look.cells
 
 -- a turn in phase Start
 pub data InStart (set : TxSet) (s : Transmission) (calls : List Event) (did : TxDid) : Type 0 where
-  Reached : (look : Seen) (more : List Event) → calls ≡ look_at set s look ∷ more → is_reached set s look ≡ true → InBytes set (in_phase Bytes did.tick s) more did → InStart set s calls did
-  NeverReached : (look : Seen) (more : List Event) → calls ≡ look_at set s look ∷ more → is_reached set s look ≡ false → look.writer ≡ false → Ends set s Keeps SourceEnded more did → InStart set s calls did
-  NotReached : (look : Seen) (more : List Event) → calls ≡ look_at set s look ∷ more → is_reached set s look ≡ false → look.writer ≡ true → GoesOn s more did → InStart set s calls did
+  Reached : (look : Look) (more : List Event) → calls ≡ look_at set s look ∷ more → is_reached set s look ≡ true → InBytes set (in_phase Bytes did.tick s) more did → InStart set s calls did
+  NeverReached : (look : Look) (more : List Event) → calls ≡ look_at set s look ∷ more → is_reached set s look ≡ false → look.writer ≡ false → Ends set s Keeps SourceEnded more did → InStart set s calls did
+  NotReached : (look : Look) (more : List Event) → calls ≡ look_at set s look ∷ more → is_reached set s look ≡ false → look.writer ≡ true → GoesOn s more did → InStart set s calls did
 
 -- a turn in a phase that waits for something else, up to a limit
 pub data InWait (set : TxSet) (s : Transmission) (limit : ℕ) (result : DestResult) (calls : List Event) (did : TxDid) : Type 0 where

@@ -5,6 +5,7 @@ use Rattle.std.specs.List.{AllByRecursion}
 use Rattle.std.proofs.lemmas.Bool.Decides.{nat_tests}
 use Rattle.std.proofs.lemmas.List.Sums.{sum_by-take-le}
 use Rattle.std.proofs.lemmas.Option.{slice_get-get_or, slice_get_within}
+use Rattle.flow_plan.specs.Cells.{cells_for}
 use Rattle.gw_base.specs.Cell.{count_of, counted}
 use Rattle.gw_base.proofs.Lists.{all-at, same-some, zip-back}
 use Rattle.hub_core.proofs.Changed.{Has, InFirst, InNext, Joined, all-by, joined}
@@ -29,7 +30,7 @@ use Rattle.tp_attempts.specs.Cuts.{Cut}
 use Rattle.tp_attempts.specs.Seen.{Seen}
 use Rattle.tp_receiver.specs.Runs.{HasReceived}
 use Rattle.tp_receiver.specs.State.{RxTurn, rx_new}
-use Rattle.tp_receiver.specs.Table.{RxStep, cells_of}
+use Rattle.tp_receiver.specs.Table.{RxStep}
 use Rattle.tp_receiver.specs.declared.set.RxSet.{RxSet}
 use Rattle.tp_sender.specs.Frame.{part_after}
 use Rattle.tp_sender.specs.State.{TxTurn, tx_new}
@@ -91,7 +92,7 @@ meets rx tx turns moments v p k session opened told far is opened_is told_is seq
 part-most : (shape : Shape) (len sent : ℕ) → IsShape shape → sent ≤ len → sent + part_after shape len sent ≤ len
 part-most shape len sent sound le = grind (arith, nat_tests, size_of shape sound, length-address shape.address)
 
-cells-most : (bytes cells : ℕ) → bytes ≤ 7 * cells → cells_of bytes ≤ cells
+cells-most : (bytes cells : ℕ) → bytes ≤ 7 * cells → cells_for bytes ≤ cells
 cells-most bytes cells le = omega (arith, le)
 
 -- a session is opened by no overflow
@@ -198,7 +199,7 @@ all-short o r known =
     all-by (λ (told : DestRecord). IsShortBy r told told.result) r.leg.dests (λ k told is. short-by o r k told told.result known (ap (λ l. slice_get l k) (sym known.dests) ∙ is) refl)
 
 -- a record stands in the place of its session's number
-numbered-at : (first : ℕ) (records : List DestRecord) (p : ℕ) (told : DestRecord) → NumberedFrom first records → slice_get records p ≡ Some told → told.seq ≡ first + p
+pub numbered-at : (first : ℕ) (records : List DestRecord) (p : ℕ) (told : DestRecord) → NumberedFrom first records → slice_get records p ≡ Some told → told.seq ≡ first + p
 numbered-at first [] p told numbered is = cc
 numbered-at first (one ∷ records) zero told numbered is = let same : one ≡ told = cc in omega (arith, ap (λ (t : DestRecord). t.seq) (sym same), numbered.0)
 numbered-at first (one ∷ records) (suc p) told numbered is = omega (arith, numbered-at (first + 1) records p told numbered.1 is)

@@ -18,6 +18,7 @@ use Rattle.receiver_law.proofs.records.JointSessions.{IsLeft, IsOpenedAs}
 use Rattle.receiver_law.proofs.records.SoFars.{IsOver}
 use Rattle.receiver_law.proofs.records.SourceLaws.{HoldsBy, holds}
 use Rattle.receiver_law.specs.Source.{CountsFrom, sessions_in}
+use Rattle.sender_law.proofs.TxParts.{parts-front}
 use Rattle.sender_law.proofs.records.JointReadings.{IsParted, ShowsBy}
 use Rattle.sender_law.proofs.records.JointSenders.{has_ended, known-readings}
 use Rattle.sender_law.proofs.records.Origins.{InTicks}
@@ -35,7 +36,7 @@ use Rattle.gw_law.proofs.runs.Before.{Cut, cut, timed-front, turns-append, turns
 use Rattle.gw_law.proofs.runs.Fronts.{TurnIn}
 use Rattle.gw_law.proofs.runs.Meetings.{AsFar}
 use Rattle.gw_law.proofs.runs.Moments.{Moment, Whole, moment, received, sent}
-use Rattle.gw_law.proofs.runs.Parts.{parts-front, parts-go, rx-rising, rx-timed, tx-rising, tx-timed}
+use Rattle.gw_law.proofs.runs.Parts.{parts-go, rx-rising, rx-timed, tx-rising, tx-timed}
 
 -- numbers that count up stand once
 counts-none : (first : ℕ) (opened : Option OpenedAt) (rest : List ℕ) (o : OpenedAt) → opened ≡ Some o → CountsFrom first (option_to_list (option_map (λ (x : OpenedAt). x.seq) opened) ++ rest) → (o.seq ≡ first) × CountsFrom (first + 1) rest

@@ -6,7 +6,7 @@ use Rattle.hub_core.specs.declared.record.DestRecord.{DestRecord}
 use Rattle.hub_core.specs.declared.record.SessionRecord.{SessionRecord}
 use Rattle.hub_core.specs.declared.record.SessionResult.TheVariants.{NoReaders}
 use Rattle.tp_receiver.specs.declared.set.RxSet.{RxSet}
-use Rattle.tp_receiver.specs.Effects.{Ends, EndsAt, IsMadeNow, Looks, Opens, Puts, Refuses, RxDone, RxEffect, RxStage, Waits}
+use Rattle.tp_receiver.specs.Effects.{Ends, EndsAt, Forgets, IsMadeNow, Looks, Opens, Puts, Refuses, RxDone, RxEffect, RxStage, Waits}
 use Rattle.tp_receiver.specs.Runs.{HasReceived}
 use Rattle.tp_receiver.specs.State.{RxState, RxEvent, RxDid, RunEnd as RunEnded, RxTurn, rx_new}
 use Rattle.tp_receiver.specs.Table.{RxStep}
@@ -26,6 +26,7 @@ no-readers set event tick old done end (Opens e) = rw e.records tt
 no-readers set event tick old done end (Looks e) = rw e.records tt
 no-readers set event tick old done end (Puts e) = rw e.records tt
 no-readers set event tick old done end (Waits e) = rw e.records tt
+no-readers set event tick old done end (Forgets e) = rw e.records tt
 no-readers set event tick old done end (Ends e) = rw e.records ((λ is. (subst (EndsAt set event old e.busy) is e.at).3 end), tt)
 
 pub end-tells : (set : RxSet) (old : RxState) (m : RxDid) → RxStep set old RunEnded m → AllByRecursion (λ (told : SessionRecord). told.result ≡ NoReaders → ⊥) m.records

@@ -1,15 +1,11 @@
 -- No destination waits longer for the next frame's bytes than its limit.
-use Rattle.std.proofs.Common.{◌≡◌, ℕ, ◌+◌, ◌-◌, ◌<◌, ◌≤◌, Bool, true, false, ◌==◌, nat_le, Some, List, [], ◌∷◌, ◌++◌, length, map, min, inl, inr, refl, ap, sym, ◌∙◌, subst, arith, append-nil}
-use Rattle.flow_plan.proofs.Paces.{AreInOrder, in-order}
-use Rattle.flow_plan.specs.Pace.{Control}
+use Rattle.std.proofs.Common.{◌≡◌, ℕ, ◌+◌, ◌-◌, ◌<◌, ◌≤◌, Bool, true, false, ◌==◌, Some, List, [], ◌∷◌, ◌++◌, length, map, min, inl, inr, refl, ap, sym, ◌∙◌, subst, arith}
 use Rattle.tp_unit.specs.Box.{Written}
-use Rattle.std.specs.Prelude.{filter, nat_lt, slice_get}
-use Rattle.std.specs.List.{AllByRecursion}
+use Rattle.std.specs.Prelude.{filter, slice_get}
+use Rattle.std.specs.List.{AllByRecursion, AllZip}
 use Rattle.std.proofs.lemmas.Bool.{cases_lt}
 use Rattle.std.proofs.lemmas.Bool.Decides.{nat_tests}
-use Rattle.std.proofs.lemmas.List.{length-append, length-map, length-take, map-append}
-use Rattle.std.proofs.lemmas.List.Elements.{filter-append}
-use Rattle.std.proofs.lemmas.Grind.{flat_map-append}
+use Rattle.std.proofs.lemmas.List.{length-append, length-map, length-take}
 use Rattle.can_frame.specs.Frame.{CanFrame}
 use Rattle.hub_core.specs.declared.record.DestRecord.{DestRecord}
 use Rattle.hub_core.specs.declared.record.SessionRecord.{SessionRecord}
@@ -25,18 +21,17 @@ use Rattle.tp_unit.specs.Unit.{Meaning, SingleFrame, FirstFrame, ConsecutiveFram
 use Rattle.tp_unit.specs.Writing.{frame_of, read_back}
 use Rattle.tp_unit.specs.declared.shape.Shape.{Shape}
 use Rattle.gw_law.specs.Delivery.{Delivers, DeliveryLaw, IsNamed}
-use Rattle.gw_law.specs.JointCauses.{EndsInTime, NoneWaitsTooLong, WaitsTooLong, came_by, left_before}
+use Rattle.gw_law.specs.JointCauses.{EndsInTime, NoneWaitsTooLong, WaitsTooLong, left_before}
 use Rattle.gw_law.specs.Account.{Route}
 use Rattle.receiver_law.specs.Source.{SourceLaw, Tells}
 use Rattle.sender_law.specs.Channel.{IsOfChannel}
-use Rattle.gw_law.specs.Timely.{IsTimely, TimelyLaw, bytes_below, bytes_to, delivery_of_route}
+use Rattle.gw_law.specs.Timely.{IsTimely, TimelyLaw, bytes_below, bytes_to, came_by, delivery_of_route}
 use Rattle.sender_law.specs.Transfer.{has_sent, seen_of}
-use Rattle.sender_law.specs.Pacing.{Paced, controls_of}
-use Rattle.sender_law.specs.Channel.{never_full}
+use Rattle.sender_law.specs.Pacing.{controls_of}
 use Rattle.sender_law.specs.TransmissionCauses.{IsCausedWith, IsLate, TransmissionCauses, left_in, left_up_to}
 use Rattle.gw_law.proofs.causes.JointEnds.{once}
+use Rattle.gw_law.proofs.causes.OrderedPieces.{IsBegun, Ordered, SplitAt, before-is, begins-below, begun-by, bytes-none-now, later-all, none-now, one-now, paced-ordered, split-at}
 use Rattle.gw_law.proofs.times.Pieces.{CutIn, bytes-most, cuts-in}
-use Rattle.sender_law.proofs.causes.TxCausesLists.{left-all}
 use Rattle.gw_base.proofs.Lists.{all-at, all-map, all-weaker, zip-index, zip-pair}
 use Rattle.tp_attempts.proofs.Cuts.{cuts-starts}
 use Rattle.gw_law.proofs.causes.SizedPieces.{IsSized, SizedFrom, sized-at, sized-walk}
@@ -58,96 +53,6 @@ start-of : (shape : Shape) (w : Written) → IsShape shape → IsOfChannel shape
 start-of shape w sound own start =
     start-by shape own.unit (seen_of (address_size shape) w).meaning (seen_of (address_size shape) w).size sound own.fits
     (ap (λ f. (seen_frame (address_size shape) w.tick f).meaning) own.frame ∙ reads_back shape own.unit sound own.fits) (ap (λ (f : CanFrame). length f.bytes) own.frame) start
-
--- pieces in the order of their ticks
-abbrev Ordered : List Piece → Type 0
-Ordered [] = Unit {0}
-Ordered (piece ∷ []) = Unit {0}
-Ordered (piece ∷ next ∷ later) = (piece.at ≤ next.at) × Ordered (next ∷ later)
-
-ordered-from : (piece : Piece) (pieces : List Piece) → AreInOrder piece.at (map (λ (p : Piece). p.at) pieces) → Ordered (piece ∷ pieces)
-ordered-from piece [] is = tt
-ordered-from piece (next ∷ pieces) is = (is.0, ordered-from next pieces is.1)
-
-paced-ordered : (controls : List Control) (pieces : List Piece) → Paced controls pieces → Ordered pieces
-paced-ordered controls [] paced = tt
-paced-ordered controls (first ∷ later) paced = ordered-from first later (in-order controls first.at (map (λ (p : Piece). p.at) later) paced)
-
-later-all : (tick : ℕ) (piece : Piece) (pieces : List Piece) → tick ≤ piece.at → Ordered (piece ∷ pieces) → AllByRecursion (λ (p : Piece). tick ≤ p.at) (piece ∷ pieces)
-later-all tick piece [] le ordered = (le, tt)
-later-all tick piece (next ∷ pieces) le ordered = (le, later-all tick next pieces (omega (arith, le, ordered.0)) ordered.1)
-
-ordered-rest : (piece : Piece) (pieces : List Piece) → Ordered (piece ∷ pieces) → Ordered pieces
-ordered-rest piece [] ordered = tt
-ordered-rest piece (next ∷ pieces) ordered = ordered.1
-
--- the pieces below a tick, and from it on
-record SplitAt (tick : ℕ) (pieces : List Piece) : Type 0 where
-  early : List Piece
-  later : List Piece
-  is : pieces ≡ early ++ later
-  below : AllByRecursion (λ (p : Piece). p.at < tick) early
-  from : AllByRecursion (λ (p : Piece). tick ≤ p.at) later
-  ordered : Ordered later
-
-split-at : (tick : ℕ) (pieces : List Piece) → Ordered pieces → SplitAt tick pieces
-split-at tick [] ordered = record { early = []; later = []; is = refl; below = tt; from = tt; ordered = tt }
-split-at tick (piece ∷ pieces) ordered = elim (cases_lt piece.at tick) [
-  | inl below ↦
-      let so : SplitAt tick pieces = split-at tick pieces (ordered-rest piece pieces ordered) in
-      record { early = piece ∷ so.early; later = so.later; is = ap (λ l. piece ∷ l) so.is; below = (below, so.below); from = so.from; ordered = so.ordered }
-  | inr from ↦ record { early = []; later = piece ∷ pieces; is = refl; below = tt; from = later-all tick piece pieces from ordered; ordered = ordered }
-]
-
--- what is kept of them
-kept : {A : Type 0} (keeps : A → Bool) (xs : List A) → AllByRecursion (λ x. keeps x ≡ true) xs → filter keeps xs ≡ xs
-kept keeps [] all = refl
-kept keeps (x ∷ xs) all = rw all.0 (ap (λ l. x ∷ l) (kept keeps xs all.1))
-
-dropped : {A : Type 0} (keeps : A → Bool) (xs : List A) → AllByRecursion (λ x. keeps x ≡ false) xs → filter keeps xs ≡ []
-dropped keeps [] all = refl
-dropped keeps (x ∷ xs) all = rw all.0 (dropped keeps xs all.1)
-
-lt-true : (a b : ℕ) → a < b → nat_lt a b ≡ true
-lt-true a b lt = grind (arith, nat_tests)
-
-lt-false : (a b : ℕ) → b ≤ a → nat_lt a b ≡ false
-lt-false a b le = grind (arith, nat_tests)
-
-le-true : (a b : ℕ) → a ≤ b → nat_le a b ≡ true
-le-true a b le = grind (arith, nat_tests)
-
-le-false : (a b : ℕ) → b < a → nat_le a b ≡ false
-le-false a b lt = grind (arith, nat_tests)
-
-before-is : (tick : ℕ) (pieces : List Piece) (split : SplitAt tick pieces) → left_before tick pieces ≡ split.early
-before-is tick pieces split =
-    let keeps : Piece → Bool = λ p. nat_lt p.at tick in
-    let early = kept keeps split.early (all-weaker (λ (p : Piece). p.at < tick) (λ (p : Piece). keeps p ≡ true) split.early (λ p lt. lt-true p.at tick lt) split.below) in
-    let none = dropped keeps split.later (all-weaker (λ (p : Piece). tick ≤ p.at) (λ (p : Piece). keeps p ≡ false) split.later (λ p le. lt-false p.at tick le) split.from) in
-    ap (filter keeps) split.is ∙ filter-append keeps split.early split.later ∙ rw (early, none) (append-nil split.early)
-
--- where no frame leaves in the tick, those that left up to it left before
-none-now : (tick : ℕ) (pieces early later : List Piece) → pieces ≡ early ++ later → AllByRecursion (λ (p : Piece). p.at < tick) early → AllByRecursion (λ (p : Piece). tick < p.at) later → left_up_to tick (map (λ (p : Piece). p.at) pieces) ≡ map (λ (p : Piece). p.at) early
-none-now tick pieces early later is below above =
-    let at : Piece → ℕ = λ p. p.at in
-    let keeps : ℕ → Bool = λ t. nat_le t tick in
-    let first = left-all tick (map at early) (all-map (λ (t : ℕ). t ≤ tick) at early (all-weaker (λ (p : Piece). p.at < tick) (λ (p : Piece). p.at ≤ tick) early (λ p lt. omega (arith, lt)) below)) in
-    let none = dropped keeps (map at later) (all-map (λ (t : ℕ). keeps t ≡ false) at later (all-weaker (λ (p : Piece). tick < p.at) (λ (p : Piece). keeps p.at ≡ false) later (λ p lt. le-false p.at tick lt) above)) in
-    ap (λ l. left_up_to tick (map at l)) is ∙ ap (filter keeps) (map-append at early later) ∙ filter-append keeps (map at early) (map at later) ∙ rw (first, none) (append-nil (map at early))
-
--- where one does, its bytes are among those up to the tick
-one-now : (tick : ℕ) (early : List Piece) (piece : Piece) (rest : List Piece) → AllByRecursion (λ (p : Piece). p.at < tick) early → piece.at ≤ tick → length (joined early) + length piece.bytes ≤ bytes_to tick (early ++ piece ∷ rest)
-one-now tick early piece rest below now =
-    let keeps : Piece → Bool = λ p. nat_le p.at tick in
-    let first = kept keeps early (all-weaker (λ (p : Piece). p.at < tick) (λ (p : Piece). keeps p ≡ true) early (λ p lt. le-true p.at tick (omega (arith, lt))) below) in
-    let all : filter keeps (early ++ piece ∷ rest) ≡ early ++ piece ∷ filter keeps rest = filter-append keeps early (piece ∷ rest) ∙ rw (first, le-true piece.at tick now) refl in
-    let more : List Piece = filter keeps rest in
-    omega (arith, ap (λ l. length (joined l)) all, ap length (flat_map-append (λ (p : Piece). p.bytes) early (piece ∷ more)), length-append (joined early) (joined (piece ∷ more)), length-append piece.bytes (joined more))
-
-begins-below : (begin tick : ℕ) (early later : List Piece) → 0 < length early → AllByRecursion (λ (p : Piece). p.at < tick) early → AllByRecursion (λ (p : Piece). begin ≤ p.at) (early ++ later) → begin ≤ tick
-begins-below begin tick [] later some below all = absurd (omega (arith, some))
-begins-below begin tick (piece ∷ early) later some below all = omega (arith, below.0, all.0)
 
 -- the frame after some that left carries the next part
 next-part : (address size len : ℕ) (start : List ℕ) (w : Walk) (early : List Piece) (piece : Piece) (rest : List Piece) → IsSized address size len start w → w.pieces ≡ early ++ piece ∷ rest → 0 < length early →
@@ -171,10 +76,17 @@ part-same cap other len start sent part bytes part_is bytes_are le same = elim (
   | inr none ↦ omega (arith, part_is, bytes_are, le, none)
 ]
 
+-- in ticks in which its next frame waits for the bus, a transmission's bytes and those of that frame had come
+abbrev pub HoldsNext : (r : Route) (full : ℕ → Bool) → Cut Seen → DestRecord → Type 0
+HoldsNext r full cut told = (unit : Cut Seen) (session : SessionRecord) → IsNamed (delivery_of_route r) told.seq unit session → (tick : ℕ) → tick < told.end.0 → full tick ≡ true → IsBegun tick (walk_of (address_size r.leg.tx.shape) cut).pieces →
+    bytes_to tick (walk_of (address_size r.leg.tx.shape) cut).pieces + part_after r.leg.tx.shape (len_of cut.start.meaning) (bytes_to tick (walk_of (address_size r.leg.tx.shape) cut).pieces) ≤ came_by r unit session tick
+
 -- what is known of a transmission and of the unit that its record names
-record Sending (r : Route) (unit cut : Cut Seen) (session : SessionRecord) (told : DestRecord) : Type 0 where
+record Sending (r : Route) (full : ℕ → Bool) (unit cut : Cut Seen) (session : SessionRecord) (told : DestRecord) : Type 0 where
   sound : IsShape r.leg.tx.shape
-  caused : IsCausedWith never_full r.leg cut told
+  caused : IsCausedWith full r.leg cut told
+  holds : (tick : ℕ) → tick < told.end.0 → full tick ≡ true → IsBegun tick (walk_of (address_size r.leg.tx.shape) cut).pieces →
+      bytes_to tick (walk_of (address_size r.leg.tx.shape) cut).pieces + part_after r.leg.tx.shape (len_of cut.start.meaning) (bytes_to tick (walk_of (address_size r.leg.tx.shape) cut).pieces) ≤ came_by r unit session tick
   timely : (tick : ℕ) → bytes_to tick (walk_of (address_size r.leg.tx.shape) cut).pieces ≤ bytes_below (tick + r.window) (walk_of r.source.rx.a unit).pieces
   start : (0 < length (bytes_of cut.start.meaning)) × (length (bytes_of cut.start.meaning) < len_of cut.start.meaning → cut.start.size ≡ r.leg.tx.shape.dl)
   len : len_of cut.start.meaning ≡ session.len
@@ -182,10 +94,10 @@ record Sending (r : Route) (unit cut : Cut Seen) (session : SessionRecord) (told
   ordered : Ordered (walk_of (address_size r.leg.tx.shape) cut).pieces
   begins : AllByRecursion (λ (p : Piece). told.begin.0 ≤ p.at) (walk_of (address_size r.leg.tx.shape) cut).pieces
 
--- no frame leaves in the tick
-late-none : (r : Route) (unit cut : Cut Seen) (session : SessionRecord) (told : DestRecord) (tick : ℕ) (split : SplitAt tick (walk_of (address_size r.leg.tx.shape) cut).pieces) → Sending r unit cut session told → AllByRecursion (λ (p : Piece). tick < p.at) split.later → tick < told.end.0 →
-    WaitsTooLong r unit session told.begin.0 (walk_of (address_size r.leg.tx.shape) cut).pieces tick → ⊥
-late-none r unit cut session told tick split so above below waits =
+-- no frame leaves in the tick: where the bus has a place, none is late, and where it has none, the next one's bytes had come
+none-late : (r : Route) (full : ℕ → Bool) (unit cut : Cut Seen) (session : SessionRecord) (told : DestRecord) (tick : ℕ) (split : SplitAt tick (walk_of (address_size r.leg.tx.shape) cut).pieces) (busy : Bool) → full tick ≡ busy → Sending r full unit cut session told →
+    AllByRecursion (λ (p : Piece). tick < p.at) split.later → tick < told.end.0 → WaitsTooLong r unit session told.begin.0 (walk_of (address_size r.leg.tx.shape) cut).pieces tick → ⊥
+none-late r full unit cut session told tick split false free so above below waits =
     let pieces : List Piece = (walk_of (address_size r.leg.tx.shape) cut).pieces in
     let before : left_before tick pieces ≡ split.early = before-is tick pieces split in
     let some : 0 < length split.early = omega (arith, waits.started, ap length before) in
@@ -193,12 +105,26 @@ late-none r unit cut session told tick split so above below waits =
     let P : List Piece → Type 0 = λ l. AllByRecursion (λ (p : Piece). told.begin.0 ≤ p.at) l in
     let begun : told.begin.0 ≤ tick = begins-below told.begin.0 tick split.early split.later some split.below (subst P split.is so.begins) in
     let Q : List ℕ → Type 0 = λ l. IsLate r.leg.tx.n_cs (controls_of r.leg.tx.period r.leg.answers) told.begin.0 l tick in
-    (so.caused.in_time tick begun below).leaves refl (omega (arith, some, ap length (sym same), length-map (left_before tick pieces) (λ (p : Piece). p.at), ap length before)) (subst Q same waits.late)
+    (so.caused.in_time tick begun below).leaves free (omega (arith, some, ap length (sym same), length-map (left_before tick pieces) (λ (p : Piece). p.at), ap length before)) (subst Q same waits.late)
+none-late r full unit cut session told tick split true busy so above below waits =
+    let pieces : List Piece = (walk_of (address_size r.leg.tx.shape) cut).pieces in
+    let before : left_before tick pieces ≡ split.early = before-is tick pieces split in
+    let some : 0 < length split.early = omega (arith, waits.started, ap length before) in
+    let sent : bytes_to tick pieces ≡ length (joined (left_before tick pieces)) = bytes-none-now tick pieces split.early split.later split.is split.below above ∙ ap (λ l. length (joined l)) (sym before) in
+    let L : ℕ → Type 0 = λ len. length (joined (left_before tick pieces)) + part_after r.leg.tx.shape len (length (joined (left_before tick pieces))) ≤ came_by r unit session tick in
+    let B : ℕ → Type 0 = λ n. n + part_after r.leg.tx.shape (len_of cut.start.meaning) n ≤ came_by r unit session tick in
+    let all : length (joined (left_before tick pieces)) + part_after r.leg.tx.shape session.len (length (joined (left_before tick pieces))) ≤ came_by r unit session tick =
+    subst L so.len (subst B sent (so.holds tick below busy (begun-by tick pieces split.early split.later split.is some split.below))) in
+    omega (arith, all, waits.lacks)
+
+late-none : (r : Route) (full : ℕ → Bool) (unit cut : Cut Seen) (session : SessionRecord) (told : DestRecord) (tick : ℕ) (split : SplitAt tick (walk_of (address_size r.leg.tx.shape) cut).pieces) → Sending r full unit cut session told →
+    AllByRecursion (λ (p : Piece). tick < p.at) split.later → tick < told.end.0 → WaitsTooLong r unit session told.begin.0 (walk_of (address_size r.leg.tx.shape) cut).pieces tick → ⊥
+late-none r full unit cut session told tick split so above below waits = none-late r full unit cut session told tick split (full tick) refl so above below waits
 
 -- a frame leaves in the tick
-late-one : (r : Route) (unit cut : Cut Seen) (session : SessionRecord) (told : DestRecord) (tick : ℕ) (split : SplitAt tick (walk_of (address_size r.leg.tx.shape) cut).pieces) (piece : Piece) (rest : List Piece) → Sending r unit cut session told → split.later ≡ piece ∷ rest → piece.at ≤ tick →
+late-one : (r : Route) (full : ℕ → Bool) (unit cut : Cut Seen) (session : SessionRecord) (told : DestRecord) (tick : ℕ) (split : SplitAt tick (walk_of (address_size r.leg.tx.shape) cut).pieces) (piece : Piece) (rest : List Piece) → Sending r full unit cut session told → split.later ≡ piece ∷ rest → piece.at ≤ tick →
     WaitsTooLong r unit session told.begin.0 (walk_of (address_size r.leg.tx.shape) cut).pieces tick → ⊥
-late-one r unit cut session told tick split piece rest so later now waits =
+late-one r full unit cut session told tick split piece rest so later now waits =
     let address : ℕ = address_size r.leg.tx.shape in
     let w : Walk = walk_of address cut in
     let before : left_before tick w.pieces ≡ split.early = before-is tick w.pieces split in
@@ -215,46 +141,48 @@ late-one r unit cut session told tick split piece rest so later now waits =
     (subst (λ l. came_by r unit session tick < length (joined l) + part_after r.leg.tx.shape session.len (length (joined l))) before waits.lacks)) in
     omega (arith, few, so.timely tick, ap (bytes_to tick) is, one-now tick split.early piece rest split.below now, bytes-most tick w.pieces, so.put)
 
-late-by : (r : Route) (unit cut : Cut Seen) (session : SessionRecord) (told : DestRecord) (tick : ℕ) (split : SplitAt tick (walk_of (address_size r.leg.tx.shape) cut).pieces) (later : List Piece) → Sending r unit cut session told → split.later ≡ later → tick < told.end.0 →
+late-by : (r : Route) (full : ℕ → Bool) (unit cut : Cut Seen) (session : SessionRecord) (told : DestRecord) (tick : ℕ) (split : SplitAt tick (walk_of (address_size r.leg.tx.shape) cut).pieces) (later : List Piece) → Sending r full unit cut session told → split.later ≡ later → tick < told.end.0 →
     WaitsTooLong r unit session told.begin.0 (walk_of (address_size r.leg.tx.shape) cut).pieces tick → ⊥
-late-by r unit cut session told tick split [] so is below waits =
+late-by r full unit cut session told tick split [] so is below waits =
     let P : List Piece → Type 0 = λ l. AllByRecursion (λ (p : Piece). tick < p.at) l in
-    late-none r unit cut session told tick split so (subst P (sym is) tt) below waits
-late-by r unit cut session told tick split (piece ∷ rest) so is below waits = elim (cases_lt tick piece.at) [
+    late-none r full unit cut session told tick split so (subst P (sym is) tt) below waits
+late-by r full unit cut session told tick split (piece ∷ rest) so is below waits = elim (cases_lt tick piece.at) [
   | inl after ↦
       let P : List Piece → Type 0 = λ l. AllByRecursion (λ (p : Piece). tick < p.at) l in
       let O : List Piece → Type 0 = λ l. Ordered l in
-      late-none r unit cut session told tick split so (subst P (sym is) (all-weaker (λ (p : Piece). tick + 1 ≤ p.at) (λ (p : Piece). tick < p.at) (piece ∷ rest) (λ p le. omega (arith, le)) (later-all (tick + 1) piece rest (omega (arith, after)) (subst O is split.ordered)))) below waits
-  | inr now ↦ late-one r unit cut session told tick split piece rest so is now waits
+      late-none r full unit cut session told tick split so (subst P (sym is) (all-weaker (λ (p : Piece). tick + 1 ≤ p.at) (λ (p : Piece). tick < p.at) (piece ∷ rest) (λ p le. omega (arith, le)) (later-all (tick + 1) piece rest (omega (arith, after)) (subst O is split.ordered)))) below waits
+  | inr now ↦ late-one r full unit cut session told tick split piece rest so is now waits
 ]
 
 -- a unit and a session that a number names are the only ones, of one length
-named-once : (r : Route) (seq : ℕ) (unit other : Cut Seen) (session also : SessionRecord) → DeliveryLaw (delivery_of_route r) → IsNamed (delivery_of_route r) seq unit session → IsNamed (delivery_of_route r) seq other also → (unit ≡ other) × (session ≡ also)
+pub named-once : (r : Route) (seq : ℕ) (unit other : Cut Seen) (session also : SessionRecord) → DeliveryLaw (delivery_of_route r) → IsNamed (delivery_of_route r) seq unit session → IsNamed (delivery_of_route r) seq other also → (unit ≡ other) × (session ≡ also)
 named-once r seq unit other session also law one two =
     let same : one.place ≡ two.place = once 0 r.source.sessions one.place two.place session also one.opened two.opened law.sessions one.session_is two.session_is one.opened_is two.opened_is (one.seq_is ∙ sym two.seq_is) in
     let units : Some unit ≡ Some other = sym one.unit_is ∙ ap (slice_get (attempts_in r.source.rx.functional r.source.seen)) same ∙ two.unit_is in
     let sessions : Some session ≡ Some also = sym one.session_is ∙ ap (slice_get r.source.sessions) same ∙ two.session_is in
     (cc, cc)
 
-len-named : (r : Route) (seq : ℕ) (unit : Cut Seen) (session : SessionRecord) → SourceLaw r.source.rx.chan.0 r.source.rx.a r.source.rx.functional r.source.seen r.source.sessions → IsNamed (delivery_of_route r) seq unit session → session.len ≡ len_of unit.start.meaning
+pub len-named : (r : Route) (seq : ℕ) (unit : Cut Seen) (session : SessionRecord) → SourceLaw r.source.rx.chan.0 r.source.rx.a r.source.rx.functional r.source.seen r.source.sessions → IsNamed (delivery_of_route r) seq unit session → session.len ≡ len_of unit.start.meaning
 len-named r seq unit session law named = (zip-pair (Tells r.source.rx.chan.0 r.source.rx.a) (attempts_in r.source.rx.functional r.source.seen) r.source.sessions named.place unit session law.tells named.unit_is named.session_is).len
 
 -- by the laws of the source, of a destination's ends, of time and of delivery
-pub none-waits : (r : Route) → IsShape r.leg.tx.shape → SourceLaw r.source.rx.chan.0 r.source.rx.a r.source.rx.functional r.source.seen r.source.sessions → TransmissionCauses never_full r.leg → TimelyLaw r → DeliveryLaw (delivery_of_route r) → NoneWaitsTooLong r
-none-waits r sound source causes timely law =
+pub none-waits : (r : Route) (full : ℕ → Bool) → IsShape r.leg.tx.shape → SourceLaw r.source.rx.chan.0 r.source.rx.a r.source.rx.functional r.source.seen r.source.sessions → TransmissionCauses full r.leg → AllZip (HoldsNext r full) (attempts_in false (delivery_of_route r).frames) (filter has_sent r.leg.dests) → TimelyLaw r → DeliveryLaw (delivery_of_route r) → NoneWaitsTooLong r
+none-waits r full sound source causes holds timely law =
     let frames : List Seen = (delivery_of_route r).frames in
     let starts = cuts-in (IsStartOf r.leg.tx.shape) (λ (s : Seen). is_start false s.meaning) frames (all-map (IsStartOf r.leg.tx.shape) (seen_of (address_size r.leg.tx.shape)) r.leg.frames (all-weaker (IsOfChannel r.leg.tx.shape) (λ w. IsStartOf r.leg.tx.shape (seen_of (address_size r.leg.tx.shape) w)) r.leg.frames (λ w own. start-of r.leg.tx.shape w sound own) timely.own)) in
     let begin = cuts-starts (λ (s : Seen). is_start false s.meaning) frames in
     zip-index (Delivers (delivery_of_route r)) (EndsInTime r) (attempts_in false frames) (filter has_sent r.leg.dests) (λ k cut told cut_is told_is delivers unit session named tick below waits.
-    let caused = zip-pair (IsCausedWith never_full r.leg) (attempts_in false frames) (filter has_sent r.leg.dests) k cut told causes.sent cut_is told_is in
+    let caused = zip-pair (IsCausedWith full r.leg) (attempts_in false frames) (filter has_sent r.leg.dests) k cut told causes.sent cut_is told_is in
+    let held = zip-pair (HoldsNext r full) (attempts_in false frames) (filter has_sent r.leg.dests) k cut told holds cut_is told_is in
     let time = zip-pair (IsTimely r.window (delivery_of_route r)) (attempts_in false frames) (filter has_sent r.leg.dests) k cut told timely.timely cut_is told_is in
     let start = all-at (CutIn (IsStartOf r.leg.tx.shape)) (attempts_in false frames) k cut starts cut_is in
     let is_so = all-at (λ (c : Cut Seen). is_start false c.start.meaning ≡ true) (attempts_in false frames) k cut begin cut_is in
     let same : (delivers.names.unit ≡ unit) × (delivers.names.session ≡ session) = named-once r told.seq delivers.names.unit unit delivers.names.session session law delivers.names.named named in
     let ordered : Ordered (walk_of (address_size r.leg.tx.shape) cut).pieces = paced-ordered (controls_of r.leg.tx.period r.leg.answers) (walk_of (address_size r.leg.tx.shape) cut).pieces delivers.paced in
-    let so : Sending r unit cut session told = record {
+    let so : Sending r full unit cut session told = record {
       sound = sound;
       caused = caused;
+      holds = held unit session named;
       timely = time unit session named;
       start = start.0 is_so;
       len = delivers.len ∙ ap (λ (c : Cut Seen). len_of c.start.meaning) same.0 ∙ sym (len-named r told.seq unit session source named);
@@ -263,4 +191,4 @@ none-waits r sound source causes timely law =
       begins = all-weaker (λ (p : Piece). (told.begin.0 ≤ p.at) × (p.at ≤ told.end.0)) (λ (p : Piece). told.begin.0 ≤ p.at) (walk_of (address_size r.leg.tx.shape) cut).pieces (λ p both. both.0) delivers.ticks;
     } in
     let split : SplitAt tick (walk_of (address_size r.leg.tx.shape) cut).pieces = split-at tick (walk_of (address_size r.leg.tx.shape) cut).pieces ordered in
-    late-by r unit cut session told tick split split.later so refl below waits) law.delivers
+    late-by r full unit cut session told tick split split.later so refl below waits) law.delivers

@@ -11,7 +11,7 @@ use Rattle.gw_law.specs.Examples.{lawful_run, leaves, long_session, sending, sen
 use Rattle.gw_law.specs.Lawful.{IsLawfulDest, IsLawfulRoute, Lawful}
 use Rattle.gw_law.specs.Plan.{Receiving, Sending}
 use Rattle.gw_law.specs.Delivery.{Names}
-use Rattle.gw_law.specs.Timely.{bytes_below, bytes_to, delivery_of_route}
+use Rattle.gw_law.specs.Timely.{bytes_below, bytes_to, cells_below, delivery_of_route, first_pieces}
 use Rattle.tp_attempts.specs.Cuts.{Cut}
 use Rattle.tp_attempts.specs.Seen.{Seen}
 use Rattle.tp_attempts.specs.Walk.{walk_of}
@@ -89,8 +89,8 @@ long_route = record {
     delivers = tt;
   };
   each = refl;
-  timely = record { begins = (λ unit session named. begin-of long_session session named.place 3 named.session_is (omega arith), tt); timely = tt; own = tt; counted = refl };
-  joint = record { unread = (λ told. absurd (cc), tt); short = (tt, tt); in_time = tt };
+  timely = record { begins = (λ unit session named. begin-of long_session session named.place 3 named.session_is (omega arith), tt); starts = tt; timely = tt; own = tt; counted = refl };
+  joint = record { unread = (λ told. absurd (cc), tt); short = (tt, tt); soon = record { sent = tt; unsent = ((λ none unit session named how. absurd (cc)), tt) }; in_time = tt };
 }
 
 short_route : IsLawfulRoute (route_in lawful_run short_receiving short_sending)
@@ -105,11 +105,17 @@ short_route = record {
   each = refl;
   timely = record {
     begins = (λ unit session named. begin-of (short_session 2) session named.place 3 named.session_is (omega arith), tt);
+    starts = (λ unit session named. inr (refl, starts-of session unit (alone _ _ named.place named.session_is) (alone _ _ named.place named.unit_is)), tt);
     timely = (λ unit session named tick. in-time tick unit (alone _ _ named.place named.unit_is), tt);
     own = (record { unit = SingleFrame (7 ∷ 8 ∷ 9 ∷ []); fits = refl; frame = refl; id = refl; fd = refl }, tt);
     counted = refl;
   };
-  joint = record { unread = (λ told. absurd (cc), tt); short = (tt, tt); in_time = (λ unit session named tick below. absurd (omega (arith, below)), tt) };
+  joint = record {
+    unread = (λ told. absurd (cc), tt);
+    short = (tt, tt);
+    soon = record { sent = ((λ unit session named how. absurd (cc)), tt); unsent = ((λ none. absurd (omega (arith, none))), tt) };
+    in_time = (λ unit session named tick below. absurd (omega (arith, below)), tt);
+  };
 }
   where
     names : Names (delivery_of_route (route_in lawful_run short_receiving short_sending)) (sent_on 1)
@@ -121,6 +127,12 @@ short_route = record {
       whole = (λ sent. refl, λ bytes. refl);
       ticks = omega arith;
     }
+
+    starts : (unit : Cut Seen) → single ≡ unit → 1 ≤ cells_below 3 (first_pieces 3 (walk_of 0 unit).pieces)
+    starts unit same = subst (λ (u : Cut Seen). 1 ≤ cells_below 3 (first_pieces 3 (walk_of 0 u).pieces)) same (omega arith)
+
+    starts-of : (session : SessionRecord) (unit : Cut Seen) → short_session 2 ≡ session → single ≡ unit → 1 ≤ cells_below 3 (first_pieces session.bytes (walk_of 0 unit).pieces)
+    starts-of session unit same is = subst (λ (s : SessionRecord). 1 ≤ cells_below 3 (first_pieces s.bytes (walk_of 0 unit).pieces)) same (starts unit is)
 
     in-time : (tick : ℕ) (unit : Cut Seen) → single ≡ unit → bytes_to tick (record { at = 0; bytes = 7 ∷ 8 ∷ 9 ∷ [] } ∷ []) ≤ bytes_below (tick + 3) (walk_of 0 unit).pieces
     in-time tick unit same = subst (λ (u : Cut Seen). bytes_to tick (record { at = 0; bytes = 7 ∷ 8 ∷ 9 ∷ [] } ∷ []) ≤ bytes_below (tick + 3) (walk_of 0 u).pieces) same

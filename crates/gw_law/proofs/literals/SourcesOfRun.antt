@@ -1,21 +1,22 @@
 -- The laws of the source channels of the run of two paths.
-use Rattle.std.proofs.Common.{◌≡◌, ℕ, zero, suc, ◌<◌, ◌≤◌, true, false, inl, inr, true≢false, [], ◌∷◌, length, Some, None, refl, ap, sym, ◌∙◌, subst, arith}
-use Rattle.std.specs.Prelude.{slice_get}
+use Rattle.std.proofs.Common.{◌≡◌, ℕ, zero, suc, ◌<◌, ◌≤◌, true, false, inl, inr, true≢false, [], ◌∷◌, length, Option, Some, refl, sym, subst, arith}
 use Rattle.std.proofs.lemmas.Bool.Decides.{eqb_tells}
-use Rattle.std.specs.List.{AllByRecursion}
-use Rattle.hub_core.specs.declared.record.SessionRecord.{SessionRecord}
 use Rattle.receiver_law.specs.Channel.{SourceChannel}
-use Rattle.receiver_law.specs.FlowControls.{FlowControlLaw, HasStatus, IsOfSession, IsSegmented}
-use Rattle.receiver_law.specs.Source.{SourceLaw, is_overflow}
+use Rattle.receiver_law.proofs.receptions.Counting.{last-newest}
+use Rattle.receiver_law.specs.FlowControls.{AreAnswers, IsLate, IsOwed}
+use Rattle.receiver_law.specs.ReceptionCauses.{ReceptionLaw}
+use Rattle.receiver_law.specs.Receptions.{Continue, ControlLeft, Received, last_by}
+use Rattle.receiver_law.specs.Source.{SourceLaw}
 use Rattle.tp_unit.specs.Box.{Written, left_in}
 use Rattle.tp_unit.specs.Reading.{unit_in}
-use Rattle.tp_unit.specs.Unit.{FlowControl}
+use Rattle.tp_receiver.specs.Own.{Continues}
+use Rattle.tp_unit.specs.Unit.{FirstFrame, FlowControl, SingleFrame}
 use Rattle.gw_law.specs.Account.{source_in}
 use Rattle.gw_law.specs.Emission.{ControlEmission}
 use Rattle.gw_law.specs.Examples.{control_frame, lawful_run, leaves, long_session, receiving, short_session}
 use Rattle.gw_law.specs.Lawful.{IsLawfulSource, is_full_at}
 use Rattle.gw_law.specs.Plan.{Receiving}
-use Rattle.gw_law.proofs.literals.Items.{alone, no-second, none-after, nothing-among}
+use Rattle.gw_law.proofs.literals.Items.{no-second}
 
 abbrev pub long_receiving : Receiving
 long_receiving = receiving 0 0x700 0x708 0
@@ -92,88 +93,58 @@ long_emission = record {
   order = (omega arith, tt);
   once = λ tick. once control tick;
   end = (omega arith, tt);
-  are_controls = (record { meaning = FlowControl 0 0 0; either = inl refl; fits = refl; frame = refl }, tt);
+  are_controls = (record { meaning = FlowControl 0 0 0; control = Continues 0 (record { most = omega arith; some = λ limit. omega (arith, limit) }) refl; fits = refl; frame = refl }, tt);
 }
 
--- the flow control says that all frames may come
-says-go : (status : ℕ) → HasStatus long_source status control → status ≡ 0
-unfolding unit_in
-says-go status has = let says : FlowControl 0 0 0 ≡ FlowControl status has.block_size has.separation = has.says in cc
+-- the flow control that left: it lets all frames come
+abbrev pub lets_all : ControlLeft
+lets_all = record { tick = 1; kind = Continue 0 }
 
-segmented : IsSegmented long_source 0 long_session false
-unfolding unit_in
-segmented = record { attempt = _; attempt_is = refl; told_is = refl; first = tt; result = refl }
+-- the reception of the long message
+abbrev long_reception : Received
+long_reception = record { start = record { at = 0; size = 8; meaning = FirstFrame 10 (1 ∷ 2 ∷ 3 ∷ 4 ∷ 5 ∷ 6 ∷ []) }; told = long_session; controls = lets_all ∷ [] }
 
-of-session : IsOfSession long_source 0 long_session control
-unfolding unit_in
-of-session = record {
-  status = inl (record { block_size = 0; separation = 0; says = refl });
-  from = omega arith;
-  to = omega arith;
-  own = λ last later. absurd (omega (arith, last));
+long_answers : AreAnswers (is_full_at lawful_run long_receiving) long_receiving.set [] 0 5 (lets_all ∷ [])
+long_answers = record {
+  kinds = (record { most = omega arith; some = λ limit. omega (arith, limit) }, tt);
+  within = ((omega arith, omega arith), tt);
+  follow = (tt, tt);
+  waits = (omega arith, tt);
+  owed = owed;
+  in_time = in-time;
 }
+  where
+    owed : (tick : ℕ) → 0 ≤ tick → tick < 5 → IsOwed long_receiving.set [] (last_by tick (lets_all ∷ [])) tick → is_full_at lawful_run long_receiving tick ≡ true
+    owed zero from to is = refl
+    owed (suc tick) from to is = let newest : last_by (suc tick) (lets_all ∷ []) ≡ Some lets_all = last-newest (suc tick) lets_all [] (omega arith) in absurd (omega (arith, (subst (λ (c : Option ControlLeft). IsOwed long_receiving.set [] c (suc tick)) newest is).0))
 
--- nothing is told to be refused
-never-refused : (place : ℕ) (told : SessionRecord) → slice_get long_source.sessions place ≡ Some told → is_overflow told.result ≡ true → ⊥
-never-refused place told there gone = absurd (true≢false (sym (ap (λ (s : SessionRecord). is_overflow s.result) (alone _ _ place there) ∙ gone)))
+    in-time : (tick : ℕ) → 0 ≤ tick → tick < 5 → IsLate long_receiving.set [] (last_by tick (lets_all ∷ [])) tick → is_full_at lawful_run long_receiving tick ≡ true
+    in-time zero from to is = refl
+    in-time (suc tick) from to is = let newest : last_by (suc tick) (lets_all ∷ []) ≡ Some lets_all = last-newest (suc tick) lets_all [] (omega arith) in absurd (omega (arith, to, (subst (λ (c : Option ControlLeft). IsLate long_receiving.set [] c (suc tick)) newest is).limit))
 
-long_controls : FlowControlLaw (is_full_at lawful_run long_receiving) long_source
+long_receptions : ReceptionLaw (is_full_at lawful_run long_receiving) long_source
 unfolding unit_in
-long_controls = record {
-  lets_come = (
-    λ status. record {
-      place = 0;
-      told = long_session;
-      session = segmented;
-      of = of-session;
-      says = refl;
+long_receptions = record {
+  receptions = long_reception ∷ [];
+  are = (
+    record {
+      answered = record { start = refl; none = λ other. absurd (other tt); session = λ first opened. long_answers; refusal = λ first refused. absurd (true≢false (sym refused)) };
+      caused = (refl, omega arith, record { left = 1; block = 0; earlier = []; newest = refl; lets = inl refl; since_is = refl; in_time = omega arith });
     },
     tt,
   );
-  no_room = record {
-    place_of = λ k. 0;
-    tells = λ k w there refuses. absurd (refused k w there refuses);
-    rising = λ k later w next below there other refuses again. absurd (refused k w there refuses);
-  };
-  last = λ place separation told before after w there among of says. subst (AllByRecursion (λ (next : Written). IsOfSession long_source place told next → ⊥)) (sym (none-after control before w after among)) tt;
-  owes = λ place tick told segmented from to left. owed place tick told segmented.told_is to left;
-  owes_no_room = λ place tick told segmented from limit end none left. absurd (never-refused place told segmented.told_is segmented.result);
+  sessions = refl;
+  controls = refl;
 }
-  where
-    refused : (k : ℕ) (w : Written) → slice_get long_source.controls k ≡ Some w → HasStatus long_source 2 w → ⊥
-    refused k w there refuses = let two : 2 ≡ 0 = says-go 2 (subst (HasStatus long_source 2) (sym (alone _ _ k there)) refuses) in omega (arith, two)
 
-    owed : (place tick : ℕ) (told : SessionRecord) → slice_get long_source.sessions place ≡ Some told → tick < told.end.0 →
-        AllByRecursion (λ (w : Written). IsOfSession long_source place told w → tick < w.tick) long_source.controls → is_full_at lawful_run long_receiving tick ≡ true
-    owed place zero told there to left = refl
-    owed zero (suc tick) told there to left =
-        let same : long_session ≡ told = alone _ _ 0 there in
-        absurd (omega (arith, left.0 (subst (λ (t : SessionRecord). IsOfSession long_source 0 t control) same of-session)))
-    owed (suc place) (suc tick) told there to left = absurd (let none : None ≡ Some told = there in cc)
-
-short_controls : FlowControlLaw (is_full_at lawful_run short_receiving) short_source
+short_receptions : ReceptionLaw (is_full_at lawful_run short_receiving) short_source
 unfolding unit_in
-short_controls = record {
-  lets_come = tt;
-  no_room = record {
-    place_of = λ k. 0;
-    tells = λ k w there refuses. absurd (let none : None ≡ Some w = there in cc);
-    rising = λ k later w next below there other refuses again. absurd (let none : None ≡ Some w = there in cc);
-  };
-  last = λ place separation told before after w there among of says. absurd (nothing-among before w after among);
-  owes = λ place tick told segmented from to left. absurd (at-once place told tick segmented.told_is from to);
-  owes_no_room = λ place tick told segmented from limit end none left. absurd (kept place told segmented.told_is segmented.result);
+short_receptions = record {
+  receptions = record { start = record { at = 2; size = 4; meaning = SingleFrame (7 ∷ 8 ∷ 9 ∷ []) }; told = short_session 2; controls = [] } ∷ [];
+  are = (record { answered = record { start = refl; none = λ other. refl; session = λ first. absurd first; refusal = λ first. absurd first }; caused = refl }, tt);
+  sessions = refl;
+  controls = refl;
 }
-  where
-    at-once : (place : ℕ) (told : SessionRecord) (tick : ℕ) → slice_get short_source.sessions place ≡ Some told → told.begin.0 ≤ tick → tick < told.end.0 → ⊥
-    at-once place told tick there from to =
-        let same : short_session 2 ≡ told = alone _ _ place there in
-        let begin : 2 ≡ told.begin.0 = ap (λ (s : SessionRecord). s.begin.0) same in
-        let end : 2 ≡ told.end.0 = ap (λ (s : SessionRecord). s.end.0) same in
-        omega (arith, begin, end, from, to)
-
-    kept : (place : ℕ) (told : SessionRecord) → slice_get short_source.sessions place ≡ Some told → is_overflow told.result ≡ true → ⊥
-    kept place told there gone = true≢false (sym (ap (λ (s : SessionRecord). is_overflow s.result) (alone _ _ place there) ∙ gone))
 
 pub long_lawful : IsLawfulSource lawful_run long_receiving
 unfolding unit_in
@@ -181,15 +152,9 @@ long_lawful = record {
   source = long_told;
   records = record { own = (record { chan = refl; end = omega arith }, tt); follow = λ place told next there after. absurd (no-second _ _ place after) };
   emission = long_emission;
-  controls = long_controls;
-  receptions = (
-    record {
-      cause = (refl, omega arith, record { at = 1; from = omega arith; left = record { earlier = []; control = control; later = []; separation = 0; among = refl; tick_is = refl; says = refl }; since_is = refl; in_time = omega arith });
-      none_passed = λ tick from to late. omega (arith, to, late.limit);
-    },
-    tt,
-  );
-  never_boxed = (refl, tt);
+  receptions = long_receptions;
+  rooms = ((λ room need is. cc), tt);
+  readers = ((λ opened is. record { put = record { at = 0; bytes = 1 ∷ 2 ∷ 3 ∷ 4 ∷ 5 ∷ 6 ∷ [] } ∷ []; are_put = record { rest = []; are = refl; sum = refl }; read = tt }), tt);
 }
 
 pub short_lawful : IsLawfulSource lawful_run short_receiving
@@ -198,7 +163,7 @@ short_lawful = record {
   source = short_told;
   records = record { own = (record { chan = refl; end = omega arith }, tt); follow = λ place told next there after. absurd (no-second _ _ place after) };
   emission = record { order = tt; once = λ tick. omega arith; end = tt; are_controls = tt };
-  controls = short_controls;
-  receptions = (record { cause = refl; none_passed = λ tick from to late. omega (arith, from, to) }, tt);
-  never_boxed = (tt, tt);
+  receptions = short_receptions;
+  rooms = ((λ room need is. cc), tt);
+  readers = ((λ opened is. record { put = record { at = 2; bytes = 7 ∷ 8 ∷ 9 ∷ [] } ∷ []; are_put = record { rest = []; are = refl; sum = refl }; read = tt }), tt);
 }

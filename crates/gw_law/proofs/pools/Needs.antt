@@ -4,6 +4,7 @@ use Rattle.tp_receiver.specs.State.{Came, Timer, FcLeft, RunEnd, RxEvent, RxTurn
 use Rattle.hub_core.specs.Moves.{move_of}
 use Rattle.hub_core.specs.Turns.{came_by}
 use Rattle.tp_receiver.specs.Runs.{frames_in}
+use Rattle.tp_receiver.specs.declared.set.RxSet.{RxSet}
 use Rattle.std.specs.Prelude.{slice_get}
 use Rattle.std.specs.List.{AllByRecursion, AllZip, flat_map}
 use Rattle.std.proofs.lemmas.List.{length-map, map-append}
@@ -24,35 +25,40 @@ use Rattle.tp_attempts.specs.Attempts.{attempts_in}
 use Rattle.tp_attempts.specs.Cuts.{Cut}
 use Rattle.tp_attempts.specs.Seen.{Seen, is_start}
 use Rattle.tp_attempts.proofs.Cuts.{cuts-begin, cuts-grow, grow, grow_after}
-use Rattle.gw_law.specs.Pool.{Asks, IsIn, IsRefused, IsServed, need_of}
+use Rattle.gw_law.specs.Pool.{Asks, IsIn, IsRefused, IsServed, start_need}
 use Rattle.receiver_law.specs.Source.{Tells, is_overflow}
 use Rattle.receiver_law.proofs.sessions.Entries.{Denied, Granted, Outcome, need_by, need_in, needs_by, outcome_by, outcome_of, outcome_told}
 use Rattle.gw_law.proofs.pools.Changes.{free-is, number-at, numbered-at, numbered-map}
 
 -- the needs of the starts are those of the attempts
-need_of-grow_after : (frame : Seen) (cut : Cut Seen) (later : List (Cut Seen)) → map need_of (grow_after frame cut later) ≡ map need_of (cut ∷ later)
-need_of-grow_after frame cut [] = refl
-need_of-grow_after frame cut (next ∷ later) = ap (λ l. need_of cut ∷ l) (need_of-grow_after frame next later)
+module _ (set : RxSet) where
+  need-grow_after : (frame : Seen) (cut : Cut Seen) (later : List (Cut Seen)) → map (start_need set) (grow_after frame cut later) ≡ map (start_need set) (cut ∷ later)
+  need-grow_after frame cut [] = refl
+  need-grow_after frame cut (next ∷ later) = ap (λ l. start_need set cut ∷ l) (need-grow_after frame next later)
 
-need_of-grow : (frame : Seen) (cuts : List (Cut Seen)) → map need_of (grow frame cuts) ≡ map need_of cuts
-need_of-grow frame [] = refl
-need_of-grow frame (cut ∷ later) = need_of-grow_after frame cut later
+  need-grow : (frame : Seen) (cuts : List (Cut Seen)) → map (start_need set) (grow frame cuts) ≡ map (start_need set) cuts
+  need-grow frame [] = refl
+  need-grow frame (cut ∷ later) = need-grow_after frame cut later
 
-need-more : (functional : Bool) (seen : List Seen) (frame : Seen) (starts : Bool) → is_start functional frame.meaning ≡ starts → map need_of (attempts_in functional (seen ++ frame ∷ [])) ≡ map need_of (attempts_in functional seen) ++ need_in functional (Came frame.size frame.meaning)
-need-more functional seen frame true is =
-    rw (cuts-begin (λ (s : Seen). is_start functional s.meaning) seen frame is, is) (map-append need_of (attempts_in functional seen) (record { start = frame; after = [] } ∷ []))
-need-more functional seen frame false is =
-    rw (cuts-grow (λ (s : Seen). is_start functional s.meaning) seen frame is, is) (need_of-grow frame (attempts_in functional seen) ∙ sym (append-nil (map need_of (attempts_in functional seen))))
+  -- what the starts among some frames need
+  abbrev needs_in : List Seen → List ℕ
+  needs_in seen = map (start_need set) (attempts_in set.functional seen)
 
-need-by : (functional : Bool) (seen : List Seen) (tick : ℕ) (event : RxEvent) → map need_of (attempts_in functional (seen ++ frames_in tick event)) ≡ map need_of (attempts_in functional seen) ++ need_in functional event
-need-by functional seen tick (Came size meaning) = need-more functional seen (record { at = tick; size = size; meaning = meaning }) (is_start functional meaning) refl
-need-by functional seen tick Timer = rw (append-nil seen) (sym (append-nil (map need_of (attempts_in functional seen))))
-need-by functional seen tick FcLeft = rw (append-nil seen) (sym (append-nil (map need_of (attempts_in functional seen))))
-need-by functional seen tick RunEnd = rw (append-nil seen) (sym (append-nil (map need_of (attempts_in functional seen))))
+  need-more : (seen : List Seen) (frame : Seen) (starts : Bool) → is_start set.functional frame.meaning ≡ starts → needs_in (seen ++ frame ∷ []) ≡ needs_in seen ++ need_in set (Came frame.size frame.meaning)
+  need-more seen frame true is =
+      rw (cuts-begin (λ (s : Seen). is_start set.functional s.meaning) seen frame is, is) (map-append (start_need set) (attempts_in set.functional seen) (record { start = frame; after = [] } ∷ []))
+  need-more seen frame false is =
+      rw (cuts-grow (λ (s : Seen). is_start set.functional s.meaning) seen frame is, is) (need-grow frame (attempts_in set.functional seen) ∙ sym (append-nil (needs_in seen)))
 
-pub needs-are : (functional : Bool) (turns : List RxTurn) → needs_by functional turns ≡ map need_of (attempts_in functional (came_by frames_in turns))
-needs-are functional [] = refl
-needs-are functional (turn ∷ earlier) = ap (λ l. l ++ need_in functional turn.event) (needs-are functional earlier) ∙ sym (need-by functional (came_by frames_in earlier) turn.did.tick turn.event)
+  need-by : (seen : List Seen) (tick : ℕ) (event : RxEvent) → needs_in (seen ++ frames_in tick event) ≡ needs_in seen ++ need_in set event
+  need-by seen tick (Came size meaning) = need-more seen (record { at = tick; size = size; meaning = meaning }) (is_start set.functional meaning) refl
+  need-by seen tick Timer = rw (append-nil seen) (sym (append-nil (needs_in seen)))
+  need-by seen tick FcLeft = rw (append-nil seen) (sym (append-nil (needs_in seen)))
+  need-by seen tick RunEnd = rw (append-nil seen) (sym (append-nil (needs_in seen)))
+
+  pub needs-are : (turns : List RxTurn) → needs_by set turns ≡ map (start_need set) (attempts_in set.functional (came_by frames_in turns))
+  needs-are [] = refl
+  needs-are (turn ∷ earlier) = ap (λ l. l ++ need_in set turn.event) (needs-are earlier) ∙ sym (need-by (came_by frames_in earlier) turn.did.tick turn.event)
 
 -- a change of the group's buffers stands in its journal
 pub grouped-at : (groups : List (List ℕ)) (group : ℕ) (changes : List Change) (place : ℕ) (x : Change) → group_of groups (changed_buf x) ≡ group → slice_get changes place ≡ Some x → (k : ℕ) × (slice_get (journal_of groups group changes) k ≡ Some (in_group groups x))
@@ -72,46 +78,46 @@ abbrev AskedFor : List (List ℕ) → ℕ → View → ℕ → Outcome → Type 
 AskedFor groups group v need (Granted change buf) = group_of groups buf ≡ group → (place : ℕ) × (slice_get (changes_in groups group v) place ≡ Some (Taken change (place_of groups buf) need))
 AskedFor groups group v need (Denied change free asked) = (asked ≡ need) × (place : ℕ) × (slice_get v.refused place ≡ Some (record { group = group; number = change; free = free; need = asked }))
 
-abbrev pub Answered : List (List ℕ) → ℕ → View → Cut Seen → SessionRecord → Type 0
-Answered groups group v attempt told = AskedFor groups group v (need_of attempt) (outcome_of told)
+abbrev pub Answered : List (List ℕ) → ℕ → View → RxSet → Cut Seen → SessionRecord → Type 0
+Answered groups group v set attempt told = AskedFor groups group v (start_need set attempt) (outcome_of told)
 
 -- lists that begin with the same item
 heads : {A : Type 0} (x y : A) (xs ys : List A) → x ∷ xs ≡ y ∷ ys → (x ≡ y) × (xs ≡ ys)
 heads x y xs ys is = (cc, cc)
 
 module _ (groups : List (List ℕ)) (group : ℕ) (v : View) where
-  answered-more : (outcome : Outcome) (need : ℕ) (outcomes : List Outcome) (needs : List ℕ) (attempts : List (Cut Seen)) (records : List SessionRecord) → outcome ∷ outcomes ≡ map outcome_of records → need ∷ needs ≡ map need_of attempts → AskedFor groups group v need outcome →
-      ((attempts : List (Cut Seen)) (records : List SessionRecord) → outcomes ≡ map outcome_of records → needs ≡ map need_of attempts → AllZip (Answered groups group v) attempts records) → AllZip (Answered groups group v) attempts records
-  answered-more outcome need outcomes needs [] records outs are asked later = absurd cc
-  answered-more outcome need outcomes needs (attempt ∷ attempts) [] outs are asked later = absurd cc
-  answered-more outcome need outcomes needs (attempt ∷ attempts) (told ∷ records) outs are asked later =
+  answered-more : (set : RxSet) (outcome : Outcome) (need : ℕ) (outcomes : List Outcome) (needs : List ℕ) (attempts : List (Cut Seen)) (records : List SessionRecord) → outcome ∷ outcomes ≡ map outcome_of records → need ∷ needs ≡ map (start_need set) attempts → AskedFor groups group v need outcome →
+      ((attempts : List (Cut Seen)) (records : List SessionRecord) → outcomes ≡ map outcome_of records → needs ≡ map (start_need set) attempts → AllZip (Answered groups group v set) attempts records) → AllZip (Answered groups group v set) attempts records
+  answered-more set outcome need outcomes needs [] records outs are asked later = absurd cc
+  answered-more set outcome need outcomes needs (attempt ∷ attempts) [] outs are asked later = absurd cc
+  answered-more set outcome need outcomes needs (attempt ∷ attempts) (told ∷ records) outs are asked later =
       let one = heads outcome (outcome_of told) outcomes (map outcome_of records) outs in
-      let two = heads need (need_of attempt) needs (map need_of attempts) are in
-      let P : Outcome → Type 0 = λ o. AskedFor groups group v (need_of attempt) o in
+      let two = heads need (start_need set attempt) needs (map (start_need set) attempts) are in
+      let P : Outcome → Type 0 = λ o. AskedFor groups group v (start_need set attempt) o in
       let Q : ℕ → Type 0 = λ n. AskedFor groups group v n outcome in
       (subst P one.0 (subst Q two.0 asked), later attempts records one.1 two.1)
 
   denied-here : (its number free need : ℕ) → its ≡ group → IsIn v (Refused its number free need) → AskedFor groups group v need (Denied number free need)
   denied-here its number free need same is = let P : ℕ → Type 0 = λ g. slice_get v.refused is.0 ≡ Some (record { group = g; number = number; free = free; need = need }) in (refl, is.0, subst P same is.1)
 
-  pub answered : (path : ℕ) (calls : List Event) (attempts : List (Cut Seen)) (records : List SessionRecord) → flat_map outcome_by calls ≡ map outcome_of records → flat_map need_by calls ≡ map need_of attempts → AllByRecursion (OfWriter path group) calls → AllByRecursion (IsIn v) calls → AllZip (Answered groups group v) attempts records
-  answered path [] [] [] outs are own calls = tt
-  answered path [] [] (told ∷ records) outs are own calls = absurd cc
-  answered path [] (attempt ∷ attempts) records outs are own calls = absurd cc
-  answered path (Took its number buf size need ∷ calls) attempts records outs are own all =
-      answered-more (Granted number buf) need (flat_map outcome_by calls) (flat_map need_by calls) attempts records outs are (λ mine. grouped-at groups group v.changes all.0.0 (Taken number buf need) mine all.0.1) (λ cuts told o n. answered path calls cuts told o n own.1 all.1)
-  answered path (Refused its number free need ∷ calls) attempts records outs are own all =
-      answered-more (Denied number free need) need (flat_map outcome_by calls) (flat_map need_by calls) attempts records outs are (denied-here its number free need own.0 all.0) (λ cuts told o n. answered path calls cuts told o n own.1 all.1)
-  answered path (Entered p seq buf number size len readers ∷ calls) attempts records outs are own all = answered path calls attempts records outs are own.1 all.1
-  answered path (Asked p seq cells readers ∷ calls) attempts records outs are own all = answered path calls attempts records outs are own.1 all.1
-  answered path (Put p seq cell ∷ calls) attempts records outs are own all = answered path calls attempts records outs are own.1 all.1
-  answered path (Published p seq bytes ∷ calls) attempts records outs are own all = answered path calls attempts records outs are own.1 all.1
-  answered path (Joining p dest seq buf len ∷ calls) attempts records outs are own all = answered path calls attempts records outs are own.1 all.1
-  answered path (Missed its p dest seq ∷ calls) attempts records outs are own all = answered path calls attempts records outs are own.1 all.1
-  answered path (Saw p dest seq cells bytes writer ∷ calls) attempts records outs are own all = answered path calls attempts records outs are own.1 all.1
-  answered path (Read p dest seq cell ∷ calls) attempts records outs are own all = answered path calls attempts records outs are own.1 all.1
-  answered path (Closed p seq freed ∷ calls) attempts records outs are own all = answered path calls attempts records outs are own.1 all.1
-  answered path (Parted p dest seq freed ∷ calls) attempts records outs are own all = answered path calls attempts records outs are own.1 all.1
+  pub answered : (set : RxSet) (calls : List Event) (attempts : List (Cut Seen)) (records : List SessionRecord) → flat_map outcome_by calls ≡ map outcome_of records → flat_map need_by calls ≡ map (start_need set) attempts → AllByRecursion (OfWriter set.path.0 group) calls → AllByRecursion (IsIn v) calls → AllZip (Answered groups group v set) attempts records
+  answered set [] [] [] outs are own calls = tt
+  answered set [] [] (told ∷ records) outs are own calls = absurd cc
+  answered set [] (attempt ∷ attempts) records outs are own calls = absurd cc
+  answered set (Took its number buf size need ∷ calls) attempts records outs are own all =
+      answered-more set (Granted number buf) need (flat_map outcome_by calls) (flat_map need_by calls) attempts records outs are (λ mine. grouped-at groups group v.changes all.0.0 (Taken number buf need) mine all.0.1) (λ cuts told o n. answered set calls cuts told o n own.1 all.1)
+  answered set (Refused its number free need ∷ calls) attempts records outs are own all =
+      answered-more set (Denied number free need) need (flat_map outcome_by calls) (flat_map need_by calls) attempts records outs are (denied-here its number free need own.0 all.0) (λ cuts told o n. answered set calls cuts told o n own.1 all.1)
+  answered set (Entered p seq buf number size len readers ∷ calls) attempts records outs are own all = answered set calls attempts records outs are own.1 all.1
+  answered set (Asked p seq cells readers ∷ calls) attempts records outs are own all = answered set calls attempts records outs are own.1 all.1
+  answered set (Put p seq cell ∷ calls) attempts records outs are own all = answered set calls attempts records outs are own.1 all.1
+  answered set (Published p seq bytes ∷ calls) attempts records outs are own all = answered set calls attempts records outs are own.1 all.1
+  answered set (Joining p dest seq buf len ∷ calls) attempts records outs are own all = answered set calls attempts records outs are own.1 all.1
+  answered set (Missed its p dest seq ∷ calls) attempts records outs are own all = answered set calls attempts records outs are own.1 all.1
+  answered set (Saw p dest seq cells bytes writer ∷ calls) attempts records outs are own all = answered set calls attempts records outs are own.1 all.1
+  answered set (Read p dest seq cell ∷ calls) attempts records outs are own all = answered set calls attempts records outs are own.1 all.1
+  answered set (Closed p seq freed ∷ calls) attempts records outs are own all = answered set calls attempts records outs are own.1 all.1
+  answered set (Parted p dest seq freed ∷ calls) attempts records outs are own all = answered set calls attempts records outs are own.1 all.1
 
   module _ (joint : Joint groups v) (counts : AreInOrder (changes_in groups group v)) where
     -- what a record tells of its session's buffer, and of its overflow
@@ -162,9 +168,9 @@ module _ (groups : List (List ℕ)) (group : ℕ) (v : View) where
   abbrev pub LiesInGroup : SessionRecord → Type 0
   LiesInGroup told = (opened : OpenedAt) → told.opened ≡ Some opened → group_of groups opened.buf.0 ≡ group
 
-  pub asks : (chan address : ℕ) (attempt : Cut Seen) (told : SessionRecord) → Joint groups v → AreInOrder (changes_in groups group v) → LiesInGroup told → Tells chan address attempt told → Answered groups group v attempt told →
-      Asks groups group (map move_of (changes_in groups group v)) attempt told
-  asks chan address attempt told joint counts lies tells said = record {
-    served = λ opened is. served joint counts (need_of attempt) opened (lies opened is) (granted (need_of attempt) told.result told.opened opened is said);
-    refused = λ change free need is. refused joint counts (need_of attempt) change free need (denied (need_of attempt) change free need told.result told.opened is tells.opens said);
+  pub asks : (set : RxSet) (attempt : Cut Seen) (told : SessionRecord) → Joint groups v → AreInOrder (changes_in groups group v) → LiesInGroup told → Tells set.chan.0 set.a attempt told → Answered groups group v set attempt told →
+      Asks groups group (map move_of (changes_in groups group v)) set attempt told
+  asks set attempt told joint counts lies tells said = record {
+    served = λ opened is. served joint counts (start_need set attempt) opened (lies opened is) (granted (start_need set attempt) told.result told.opened opened is said);
+    refused = λ change free need is. refused joint counts (start_need set attempt) change free need (denied (start_need set attempt) change free need told.result told.opened is tells.opens said);
   }

@@ -1,7 +1,6 @@
 -- At a run's end all sessions are over, and each take is of one of them.
 use Rattle.std.proofs.Common.{◌≡◌, ℕ, ◌<◌, zero, suc, cond, inl, inr, Option, Some, None, List, [], ◌∷◌, length, get_or, refl, ap, sym, ◌∙◌, subst, arith, append-nil}
 use Rattle.std.specs.Prelude.{slice_get}
-use Rattle.std.specs.List.{AllByRecursion}
 use Rattle.std.proofs.lemmas.Bool.{false_from_ne_true}
 use Rattle.std.proofs.lemmas.Bool.Decides.{eqb_tells}
 use Rattle.std.proofs.lemmas.Option.{slice_get-get_or, slice_get_within}

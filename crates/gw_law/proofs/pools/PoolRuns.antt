@@ -72,7 +72,7 @@ in-made v calls (Refused group number free need) made is = all-at (StandsIn v.re
 in-made v calls call made is = is
 
 -- the source channels of the run whose paths have the group's buffers
-abbrev source : RxRun → Source
+abbrev pub source : RxRun → Source
 source run = record { set = run.set; turns = received_in run }
 
 abbrev is_of : ℕ → RxRun → Bool
@@ -134,7 +134,7 @@ apart-kept key keeps (first ∷ xs) apart =
     (apart-kept key keeps xs (λ place other x y there here same. let next = apart (suc place) (suc other) x y there here same in omega (arith, next)))
 
 -- a receiver of the run, whose path has the group's buffers
-run-of : (a : Account) (d : Deeds) (windows : List Window) (v : View) (group place : ℕ) (run : RxRun) → IsRun a d windows v → slice_get d.receivers place ≡ Some run → run.set.group.0 ≡ group → IsWholeRun a.plan.groups group v (source run)
+pub run-of : (a : Account) (d : Deeds) (windows : List Window) (v : View) (group place : ℕ) (run : RxRun) → IsRun a d windows v → slice_get d.receivers place ≡ Some run → run.set.group.0 ≡ group → IsWholeRun a.plan.groups group v (source run)
 run-of a d windows v group place run is there group_is =
     let of : Receives a d v place run = receives a d windows v run place is there in
     let calls : List Event = calls_by (received_in run) in
@@ -186,7 +186,7 @@ pool-run a d windows v group there is = record {
 
 -- what is told of a source channel is what its receiver's run tells
 abbrev channel : SourceChannel → Channel
-channel c = record { attempts = attempts_in c.rx.functional c.seen; records = c.sessions }
+channel c = record { set = c.rx; attempts = attempts_in c.rx.functional c.seen; records = c.sessions }
 
 channels-same : (a : Account) (group : ℕ) (rs : List Receiving) (runs : List RxRun) → AllZip (IsReceiverRun a) rs runs → map channel_of (map source (filter (is_of group) runs)) ≡ map (channel_in a) (filter (λ (r : Receiving). r.set.group.0 == group) rs)
 channels-same a group [] [] are = refl

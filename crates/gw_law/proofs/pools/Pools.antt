@@ -1,5 +1,5 @@
 -- The law of the pool: the changes of the joined view as moves, and what a receiver's records say of them.
-use Rattle.std.proofs.Common.{◌≡◌, ℕ, ◌+◌, ◌-◌, ◌<◌, zero, suc, Some, option_map, List, [], ◌∷◌, ◌++◌, map, refl, ap, sym, ◌∙◌, subst, arith, append-nil}
+use Rattle.std.proofs.Common.{◌≡◌, ℕ, ◌+◌, ◌-◌, ◌<◌, Some, option_map, List, [], ◌∷◌, ◌++◌, map, refl, ap, sym, ◌∙◌, subst, arith, append-nil}
 use Rattle.hub_core.specs.Moves.{move_of}
 use Rattle.hub_core.specs.Turns.{calls_by, came_by, records_by}
 use Rattle.tp_receiver.specs.Effects.{OfWriter}
@@ -12,7 +12,7 @@ use Rattle.gw_base.specs.declared.numbers.BufNo.{BufNo}
 use Rattle.hub_core.specs.Journal.{AreInOrder, IsNextChange, numbered, replay}
 use Rattle.hub_core.specs.Groups.{changes_in, group_of, place_of, sizes_of}
 use Rattle.hub_core.specs.Joint.{Joint}
-use Rattle.hub_core.specs.View.{Change, View, Taken, Freed, Session, session_at}
+use Rattle.hub_core.specs.View.{View, Taken, Freed, Session, session_at}
 use Rattle.hub_core.specs.declared.record.Move.{Move}
 use Rattle.hub_core.specs.declared.record.OpenedAt.{OpenedAt}
 use Rattle.hub_core.specs.declared.record.SessionRecord.{SessionRecord}
@@ -20,7 +20,7 @@ use Rattle.tp_attempts.specs.Attempts.{attempts_in}
 use Rattle.tp_attempts.specs.Cuts.{Cut}
 use Rattle.tp_attempts.specs.Seen.{Seen}
 use Rattle.tp_receiver.specs.declared.set.RxSet.{RxSet}
-use Rattle.gw_law.specs.Pool.{AreAllOver, AreAllUsed, AreFreed, AreNamed, Asks, Channel, IsNextMove, IsOpened, IsPoolRun, IsUnnamed, IsWholeRun, NamesTake, PoolEnds, PoolLaw, Source, channel_of, freeing, move_numbered, place_in, need_of, taking}
+use Rattle.gw_law.specs.Pool.{AreAllOver, AreAllUsed, AreFreed, AreNamed, Asks, Channel, IsOpened, IsPoolRun, IsUnnamed, IsWholeRun, NamesTake, PoolEnds, PoolLaw, Source, channel_of, place_in, start_need, taking}
 use Rattle.receiver_law.specs.Source.{Tells}
 use Rattle.gw_law.proofs.pools.FreeSets.{whole-again}
 use Rattle.receiver_law.proofs.sessions.Entries.{need_by, outcome_by, outcome_going, outcome_of}
@@ -50,24 +50,24 @@ module _ (groups : List (List ℕ)) (group : ℕ) where
 
   -- what the records of one channel ask
   asks-of : (v : View) (source : Source) → Joint groups v → AreInOrder (changes_in groups group v) → IsWholeRun groups group v source →
-      AllZip (Asks groups group (map move_of (changes_in groups group v))) (attempts_in source.set.functional (came_by frames_in source.turns)) (records_by source.turns)
+      AllZip (Asks groups group (map move_of (changes_in groups group v)) source.set) (attempts_in source.set.functional (came_by frames_in source.turns)) (records_by source.turns)
   asks-of v source joint counts run =
       let set : RxSet = source.set in
       let attempts : List (Cut Seen) = attempts_in set.functional (came_by frames_in source.turns) in
       let records : List SessionRecord = records_by source.turns in
       let put = openings set source.turns run.received in
       let outs : flat_map outcome_by (calls_by source.turns) ≡ map outcome_of records = put.outcomes ∙ ap (λ b. map outcome_of records ++ outcome_going b) run.idle ∙ append-nil (map outcome_of records) in
-      let needs : flat_map need_by (calls_by source.turns) ≡ map need_of attempts = put.needs_are ∙ needs-are set.functional source.turns in
+      let needs : flat_map need_by (calls_by source.turns) ≡ map (start_need set) attempts = put.needs_are ∙ needs-are set source.turns in
       let happened : HasReceived set (source.turns ++ []) = (let H : List _ → Type 0 = λ l. HasReceived set l in subst H (sym (append-nil source.turns)) run.received) in
       let P : ℕ → Type 0 = λ g. AllByRecursion (OfWriter set.path.0 g) (calls_by source.turns) in
       let own : AllByRecursion (OfWriter set.path.0 group) (calls_by source.turns) = subst P run.group_is (received-writes set source.turns [] happened) in
-      zip-held (LiesInGroup groups group v) (Tells set.chan.0 set.a) (Answered groups group v) (Asks groups group (map move_of (changes_in groups group v))) attempts records
-      (λ attempt told lies tells said. asks groups group v set.chan.0 set.a attempt told joint counts lies tells said)
+      zip-held (LiesInGroup groups group v) (Tells set.chan.0 set.a) (Answered groups group v set) (Asks groups group (map move_of (changes_in groups group v)) set) attempts records
+      (λ attempt told lies tells said. asks groups group v set attempt told joint counts lies tells said)
       (all-by (LiesInGroup groups group v) records (λ place told there. lies-there v source place told run there))
-      (source_law_of set source.turns run.received run.idle).tells (answered groups group v set.path.0 (calls_by source.turns) attempts records outs needs own run.calls)
+      (source_law_of set source.turns run.received run.idle).tells (answered groups group v set (calls_by source.turns) attempts records outs needs own run.calls)
 
   each-channel : (v : View) (sources : List Source) → Joint groups v → AreInOrder (changes_in groups group v) → AllByRecursion (IsWholeRun groups group v) sources →
-      AllByRecursion (λ (channel : Channel). AllZip (Asks groups group (map move_of (changes_in groups group v))) channel.attempts channel.records) (map channel_of sources)
+      AllByRecursion (λ (channel : Channel). AllZip (Asks groups group (map move_of (changes_in groups group v)) channel.set) channel.attempts channel.records) (map channel_of sources)
   each-channel v [] joint counts runs = tt
   each-channel v (source ∷ sources) joint counts runs = (asks-of v source joint counts runs.0, each-channel v sources joint counts runs.1)
 

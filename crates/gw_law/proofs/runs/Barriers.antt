@@ -62,7 +62,7 @@ sent-below p bound =
     (subst H (ap (λ l. p.tx.end ++ turns_of l) (sym so.is) ∙ ap (λ l. p.tx.end ++ l) (turns-append so.later (before bound p.tx.parts)) ∙ sym (append_assoc p.tx.end (turns_of so.later) (turns_of (before bound p.tx.parts)))) p.tx_run.happened)
 
 -- what a window's barrier holds of both
-far-at : (p : Pair) (opening : View) (w : Window) → IsWindow p.groups p.most p.d opening w → AsFar p.rx.set p.tx.set (turns_of (before w.to p.rx.parts)) (turns_of (before w.to p.tx.parts)) w.view
+pub far-at : (p : Pair) (opening : View) (w : Window) → IsWindow p.groups p.most p.d opening w → AsFar p.rx.set p.tx.set (turns_of (before w.to p.rx.parts)) (turns_of (before w.to p.tx.parts)) w.view
 far-at p opening w is = record {
   shape = p.tx_run.shape;
   path = p.path;
@@ -78,7 +78,7 @@ before-none [] = refl
 before-none (part ∷ earlier) = let no : nat_lt part.tick 0 ≡ false = grind (arith, nat_tests) in ap (λ b. cond b (part ∷ earlier) (before 0 earlier)) no ∙ before-none earlier
 
 -- before the first window nothing was done
-far-none : (p : Pair) → AsFar p.rx.set p.tx.set (turns_of (before 0 p.rx.parts)) (turns_of (before 0 p.tx.parts)) empty_view
+pub far-none : (p : Pair) → AsFar p.rx.set p.tx.set (turns_of (before 0 p.rx.parts)) (turns_of (before 0 p.tx.parts)) empty_view
 far-none p =
     let P : List _ → List _ → Type 0 = λ turns moments. AsFar p.rx.set p.tx.set turns moments empty_view in
     let R : List _ → Type 0 = λ l. P l (turns_of (before 0 p.tx.parts)) in
@@ -86,16 +86,16 @@ far-none p =
     subst R (sym (ap turns_of (before-none p.rx.parts))) (subst S (sym (ap turns_of (before-none p.tx.parts))) (record { shape = p.tx_run.shape; path = p.path; received = tt; sent = tt; met = met-empty; sessions = refl; readings = refl }))
 
 -- windows come after one another
-over-all : (p : Pair) (windows : List Window) (place : ℕ) (w : Window) → AreWindows p.groups p.most p.d windows → slice_get windows place ≡ Some w → w.to ≤ over_at windows
+pub over-all : (p : Pair) (windows : List Window) (place : ℕ) (w : Window) → AreWindows p.groups p.most p.d windows → slice_get windows place ≡ Some w → w.to ≤ over_at windows
 over-all p [] place w are there = absurd cc
 over-all p (first ∷ earlier) zero w are there = let same : first ≡ w = cc in omega (arith, ap (λ (x : Window). x.to) same)
 over-all p (first ∷ earlier) (suc place) w are there = omega (arith, over-all p earlier place w are.2 there, are.1, are.0.some)
 
 -- a tick that lies in windows lies below their end, and below the newest one in an older one
-lies-below : (p : Pair) (windows : List Window) (at : ℕ) → AreWindows p.groups p.most p.d windows → LiesIn windows at → at < over_at windows
+pub lies-below : (p : Pair) (windows : List Window) (at : ℕ) → AreWindows p.groups p.most p.d windows → LiesIn windows at → at < over_at windows
 lies-below p windows at are lies = omega (arith, lies.3, over-all p windows lies.1.0 lies.0 are lies.1.1)
 
-lies-earlier : (w : Window) (earlier : List Window) (at : ℕ) → at < w.from → LiesIn (w ∷ earlier) at → LiesIn earlier at
+pub lies-earlier : (w : Window) (earlier : List Window) (at : ℕ) → at < w.from → LiesIn (w ∷ earlier) at → LiesIn earlier at
 lies-earlier w earlier at below (u, (zero, there), from, to) = let same : w ≡ u = cc in absurd (omega (arith, below, from, ap (λ (x : Window). x.from) same))
 lies-earlier w earlier at below (u, (suc place, there), from, to) = (u, (place, there), from, to)
 

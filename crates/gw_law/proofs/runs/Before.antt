@@ -1,5 +1,5 @@
 -- What a machine did below a tick: its older parts, whose turns are all of earlier ticks, and those of the newer ones are not.
-use Rattle.std.proofs.Common.{◌≡◌, ℕ, ◌<◌, ◌≤◌, inl, inr, true, false, List, [], ◌∷◌, ◌++◌, refl, ap, sym, ◌∙◌, subst, arith, append_assoc, cond}
+use Rattle.std.proofs.Common.{◌≡◌, ℕ, Bool, ◌<◌, ◌≤◌, inl, inr, true, false, List, [], ◌∷◌, ◌++◌, refl, ap, sym, ◌∙◌, subst, arith, append_assoc, cond}
 use Rattle.std.specs.Prelude.{nat_lt}
 use Rattle.std.specs.List.{AllByRecursion}
 use Rattle.std.proofs.lemmas.Bool.{cases_lt}
@@ -43,6 +43,31 @@ cut {T = T} bound (part ∷ earlier) rising = elim (cases_lt part.tick bound) [
       let so : Cut bound earlier = cut bound earlier rising.1 in
       let P : List (Part T) → Type 0 = λ l. InTicks (λ (t : ℕ). t < bound) l in
       record { later = part ∷ so.later; is = ap (λ l. part ∷ (so.later ++ l)) same ∙ ap (λ l. part ∷ l) so.is; late = (from, so.late); early = subst P (sym same) so.early }
+]
+
+front-by : {T : Type 0} (part : Part T) (earlier rest later : List (Part T)) (keeps : Bool) → earlier ≡ later ++ rest → (more : List (Part T)) × (part ∷ earlier ≡ more ++ cond keeps (part ∷ earlier) rest)
+front-by part earlier rest later true is = ([], refl)
+front-by part earlier rest later false is = (part ∷ later, ap (λ l. part ∷ l) is)
+
+-- what was done below a bound stands at the list's end, and at the end of what was done below a later one
+pub front-of : {T : Type 0} (bound : ℕ) (parts : List (Part T)) → (later : List (Part T)) × (parts ≡ later ++ before bound parts)
+front-of bound [] = ([], refl)
+front-of {T = T} bound (part ∷ earlier) =
+    let so = front-of bound earlier in
+    front-by part earlier (before bound earlier) so.0 (nat_lt part.tick bound) so.1
+
+pub front-within : {T : Type 0} (low high : ℕ) (parts : List (Part T)) → low ≤ high → (later : List (Part T)) × (before high parts ≡ later ++ before low parts)
+front-within low high [] le = ([], refl)
+front-within {T = T} low high (part ∷ earlier) le = elim (cases_lt part.tick high) [
+  | inl below ↦
+      let keeps : nat_lt part.tick high ≡ true = grind (arith, nat_tests, below) in
+      let so = front-of low (part ∷ earlier) in
+      (so.0, ap (λ b. cond b (part ∷ earlier) (before high earlier)) keeps ∙ so.1)
+  | inr from ↦
+      let drops : nat_lt part.tick high ≡ false = grind (arith, nat_tests, from) in
+      let past : nat_lt part.tick low ≡ false = grind (arith, nat_tests, from, le) in
+      let so = front-within low high earlier le in
+      (so.0, ap (λ b. cond b (part ∷ earlier) (before high earlier)) drops ∙ so.1 ∙ ap (λ b. so.0 ++ cond b (part ∷ earlier) (before low earlier)) (sym past))
 ]
 
 -- the turns of newer parts stand before those of older ones

@@ -13,7 +13,7 @@ use Rattle.tp_receiver.specs.State.{RxTurn}
 use Rattle.tp_sender.specs.State.{TxTurn}
 use Rattle.gw_law.specs.Deeds.{before}
 use Rattle.gw_law.proofs.runs.Barriers.{Barrier, Pair, barrier}
-use Rattle.gw_law.proofs.runs.Before.{AreTimed, Cut, below-last, cut, timed-front, turns-append, turns-in}
+use Rattle.gw_law.proofs.runs.Before.{AreTimed, Cut, below-last, cut, front-of, front-within, timed-front, turns-append, turns-in}
 use Rattle.gw_law.proofs.runs.Fronts.{TurnIn}
 use Rattle.gw_law.proofs.runs.Meetings.{AsFar}
 use Rattle.gw_law.proofs.runs.Parts.{rx-end, rx-rising, rx-timed, tx-end, tx-rising, tx-timed}
@@ -33,6 +33,21 @@ received o = received_in o.pair.rx
 abbrev pub sent : Whole → List TxTurn
 sent o = sent_in o.pair.tx
 
+-- a list is some later turns and then these
+pub record IsFront {T : Type 0} (front whole : List T) : Type 0 where
+  pub later : List T
+  pub is : whole ≡ later ++ front
+
+pub front-all : {T : Type 0} (end : List T) (bound : ℕ) (parts : List (Part T)) → IsFront (turns_of (before bound parts)) (end ++ turns_of parts)
+front-all end bound parts =
+    let so = front-of bound parts in
+    record { later = end ++ turns_of so.0; is = ap (λ l. end ++ turns_of l) so.1 ∙ ap (λ l. end ++ l) (turns-append so.0 (before bound parts)) ∙ sym (append_assoc end (turns_of so.0) (turns_of (before bound parts))) }
+
+pub front-below : {T : Type 0} (low high : ℕ) (parts : List (Part T)) → low ≤ high → IsFront (turns_of (before low parts)) (turns_of (before high parts))
+front-below low high parts le =
+    let so = front-within low high parts le in
+    record { later = turns_of so.0; is = ap turns_of so.1 ∙ turns-append so.0 (before low parts) }
+
 pub record Moment (o : Whole) (tick : ℕ) : Type 0 where
   pub past : ℕ
   pub above : tick ≤ past
@@ -47,11 +62,13 @@ pub record Moment (o : Whole) (tick : ℕ) : Type 0 where
   pub tx_is : tx_later ++ tx_front ≡ sent o
   pub tx_late : AllByRecursion (MomentIn (λ (t : ℕ). past < t)) tx_later
   pub tx_early : AllByRecursion (MomentIn (λ (t : ℕ). t ≤ past)) tx_front
+  -- the sender's turns below each tick up to then are among them
+  pub tx_reach : (bound : ℕ) → bound ≤ past + 1 → IsFront (turns_of (before bound o.pair.tx.parts)) tx_front
   pub view : View
   pub far : AsFar o.pair.rx.set o.pair.tx.set rx_front tx_front view
 
 -- a list of parts, and the turns after them
-split-turns : {T : Type 0} (end : List T) (later front parts : List (Part T)) → later ++ front ≡ parts → (end ++ turns_of later) ++ turns_of front ≡ end ++ turns_of parts
+pub split-turns : {T : Type 0} (end : List T) (later front parts : List (Part T)) → later ++ front ≡ parts → (end ++ turns_of later) ++ turns_of front ≡ end ++ turns_of parts
 split-turns end later front parts is = append_assoc end (turns_of later) (turns_of front) ∙ ap (λ l. end ++ l) (sym (turns-append later front)) ∙ ap (λ l. end ++ turns_of l) is
 
 -- all turns of a run are of ticks up to the last one
@@ -97,6 +114,7 @@ moment-by o tick b = elim (cases_lt b.past o.last) [
             (all-weaker (TurnIn (λ (t : ℕ). t ≡ rx.last)) (TurnIn (λ (t : ℕ). b.past < t)) rx.end (λ turn is. omega (arith, is, o.rx_last, before_end)) (rx-end rx.last rx.end o.pair.rx_run.ends))
             (turns-in (λ (t : ℕ). b.past < t) rx_cut.later rx_timed.0 (all-weaker (λ (part : Part RxTurn). b.past + 1 ≤ part.tick) (λ (part : Part RxTurn). b.past < part.tick) rx_cut.later (λ part le. omega (arith, le)) rx_cut.late));
         rx_early = turns-in (λ (t : ℕ). t ≤ b.past) (before (b.past + 1) rx.parts) rx_timed.1 (all-weaker (λ (part : Part RxTurn). part.tick < b.past + 1) (λ (part : Part RxTurn). part.tick ≤ b.past) (before (b.past + 1) rx.parts) (λ part lt. omega (arith, lt)) rx_cut.early);
+        tx_reach = λ bound le. front-below bound (b.past + 1) tx.parts le;
         tx_later = tx.end ++ turns_of tx_cut.later;
         tx_front = turns_of (before (b.past + 1) tx.parts);
         tx_is = split-turns tx.end tx_cut.later (before (b.past + 1) tx.parts) tx.parts tx_cut.is;
@@ -121,6 +139,7 @@ moment-by o tick b = elim (cases_lt b.past o.last) [
     tx_is = refl;
     tx_late = tt;
     tx_early = tx-by o b.past at_end;
+    tx_reach = λ bound le. front-all o.pair.tx.end bound o.pair.tx.parts;
     view = o.view;
     far = o.far;
   }

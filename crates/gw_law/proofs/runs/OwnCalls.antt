@@ -11,9 +11,9 @@ use Rattle.tp_receiver.proofs.OwnSteps.{own-step}
 use Rattle.tp_receiver.specs.Runs.{HasReceived}
 use Rattle.hub_core.specs.Turns.{calls_by, state_after}
 use Rattle.std.specs.List.{AllByRecursion}
-use Rattle.hub_core.proofs.Beside.{sessions-beside}
+use Rattle.hub_core.proofs.Beside.{readings-beside, sessions-beside}
 use Rattle.hub_core.specs.Floors.{AreFresh, Floors, IsFresh}
-use Rattle.hub_core.specs.View.{Event, View, grow, grows, session_at, Took, Refused, Entered, Asked, Put, Published, Joining, Missed, Saw, Read, Closed, Parted}
+use Rattle.hub_core.specs.View.{Event, View, grow, grows, reading_at, session_at, Took, Refused, Entered, Asked, Put, Published, Joining, Missed, Saw, Read, Closed, Parted}
 use Rattle.tp_receiver.specs.declared.set.RxSet.{RxSet}
 use Rattle.tp_sender.specs.declared.set.TxSet.{TxSet}
 use Rattle.gw_base.proofs.Lists.{all-join}
@@ -99,21 +99,31 @@ writes-fresh path its f [] v w same of fresh = tt
 writes-fresh path its f (call ∷ calls) v w same of fresh =
     (writer-fresh path its f call v w same of.0 fresh.0, writes-fresh path its f calls (grow call v) (grow call w) (sessions-beside path call v w same) of.1 fresh.1)
 
--- what a destination's calls saw is as fresh over any view
-reader-fresh : (path dest : ℕ) (f : Floors) (call : Event) (v w : View) → OfDest path dest call → IsFresh v f call → IsFresh w f call
-reader-fresh path dest f (Took group number buf size need) v w of fresh = absurd of
-reader-fresh path dest f (Refused group number free need) v w of fresh = absurd of
-reader-fresh path dest f (Entered p seq buf number size len readers) v w of fresh = absurd of
-reader-fresh path dest f (Asked p seq cells readers) v w of fresh = absurd of
-reader-fresh path dest f (Put p seq cell) v w of fresh = absurd of
-reader-fresh path dest f (Published p seq bytes) v w of fresh = absurd of
-reader-fresh path dest f (Joining p d seq buf len) v w of fresh = tt
-reader-fresh path dest f (Missed group p d seq) v w of fresh = fresh
-reader-fresh path dest f (Saw p d seq cells bytes writer) v w of fresh = fresh
-reader-fresh path dest f (Read p d seq cell) v w of fresh = tt
-reader-fresh path dest f (Closed p seq freed) v w of fresh = absurd of
-reader-fresh path dest f (Parted p d seq freed) v w of fresh = tt
+-- what a destination's calls saw is as fresh over its own view, with the same readings
+reader-fresh : (path dest : ℕ) (f : Floors) (call : Event) (v w : View) → v.readings path dest ≡ w.readings path dest → OfDest path dest call → IsFresh v f call → IsFresh w f call
+reader-fresh path dest f (Took group number buf size need) v w same of fresh = absurd of
+reader-fresh path dest f (Refused group number free need) v w same of fresh = absurd of
+reader-fresh path dest f (Entered p seq buf number size len readers) v w same of fresh = absurd of
+reader-fresh path dest f (Asked p seq cells readers) v w same of fresh = absurd of
+reader-fresh path dest f (Put p seq cell) v w same of fresh = absurd of
+reader-fresh path dest f (Published p seq bytes) v w same of fresh = absurd of
+reader-fresh path dest f (Joining p d seq buf len) v w same of fresh = tt
+reader-fresh path dest f (Missed group p d seq) v w same of fresh = fresh
+reader-fresh path dest f (Saw p d seq cells bytes writer) v w same of fresh = (
+  fresh.0,
+  fresh.1,
+  record {
+    reading = fresh.2.reading;
+    there = ap (λ k. reading_at w k d seq) of.0 ∙ ap (λ e. reading_at w path e seq) of.1 ∙ ap (λ l. slice_get l seq) (sym same) ∙ ap (λ e. reading_at v path e seq) (sym of.1) ∙ ap (λ k. reading_at v k d seq) (sym of.0) ∙ fresh.2.there;
+    cells_most = fresh.2.cells_most;
+    bytes_most = fresh.2.bytes_most;
+  },
+)
+reader-fresh path dest f (Read p d seq cell) v w same of fresh = tt
+reader-fresh path dest f (Closed p seq freed) v w same of fresh = absurd of
+reader-fresh path dest f (Parted p d seq freed) v w same of fresh = tt
 
-pub reads-fresh : (path dest : ℕ) (f : Floors) (calls : List Event) (v w : View) → AllByRecursion (OfDest path dest) calls → AreFresh f v calls → AreFresh f w calls
-reads-fresh path dest f [] v w of fresh = tt
-reads-fresh path dest f (call ∷ calls) v w of fresh = (reader-fresh path dest f call v w of.0 fresh.0, reads-fresh path dest f calls (grow call v) (grow call w) of.1 fresh.1)
+pub reads-fresh : (path dest : ℕ) (f : Floors) (calls : List Event) (v w : View) → v.readings path dest ≡ w.readings path dest → AllByRecursion (OfDest path dest) calls → AreFresh f v calls → AreFresh f w calls
+reads-fresh path dest f [] v w same of fresh = tt
+reads-fresh path dest f (call ∷ calls) v w same of fresh =
+    (reader-fresh path dest f call v w same of.0 fresh.0, reads-fresh path dest f calls (grow call v) (grow call w) (readings-beside path dest call v w same) of.1 fresh.1)

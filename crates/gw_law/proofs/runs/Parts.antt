@@ -93,7 +93,3 @@ parts-go full (part ∷ earlier) are =
     rw is.turns_are (all-join NoEnd is.left (is.turn ∷ is.answers) (left-all (IsStepIn part.tick Left) NoEnd full part.tick _ is.left (λ turn went ended. ap (λ e. ends_by e ended) went.0) is.left_is)
     (λ ended. ap (λ e. ends_by e ended) is.turn_is, all-weaker (IsAnswerIn part.tick) NoEnd is.answers (λ turn came. answer-goes part.tick turn.event turn.did.tick came) is.answers_only)) in
     no-end part.turns (turns_of earlier) all ∙ parts-go full earlier are.1
-
-pub parts-front : (full : ℕ → Bool) (later earlier : List (Part TxTurn)) → AreTxParts full (later ++ earlier) → AreTxParts full earlier
-parts-front full [] earlier are = are
-parts-front full (part ∷ later) earlier are = parts-front full later earlier are.1

@@ -38,7 +38,7 @@ seq-earlier records place s o counts is opened =
     ap sessions_in sp.is ∙ flat_map-append opened_by sp.before (s ∷ sp.after) ∙ ap (λ (w : Option OpenedAt). sessions_in sp.before ++ (option_to_list (option_map (λ (x : OpenedAt). x.seq) w) ++ sessions_in sp.after)) opened in
     omega (arith, seq-at records sp.before sp.after s o sp.is counts opened, ap length all, length-append (sessions_in sp.before) (o.seq ∷ sessions_in sp.after))
 
-seq-later : (records front more : List SessionRecord) (j : ℕ) (s : SessionRecord) (o : OpenedAt) → records ≡ front ++ more → CountsFrom 0 (sessions_in records) → slice_get more j ≡ Some s → s.opened ≡ Some o → length (sessions_in front) ≤ o.seq
+pub seq-later : (records front more : List SessionRecord) (j : ℕ) (s : SessionRecord) (o : OpenedAt) → records ≡ front ++ more → CountsFrom 0 (sessions_in records) → slice_get more j ≡ Some s → s.opened ≡ Some o → length (sessions_in front) ≤ o.seq
 seq-later records front more j s o are counts is opened =
     let sp : Split more j s = splits more j s is in
     let all : records ≡ (front ++ sp.before) ++ s ∷ sp.after = are ∙ ap (λ l. front ++ l) sp.is ∙ sym (append_assoc front sp.before (s ∷ sp.after)) in
@@ -119,7 +119,7 @@ put-by rx tick place next seq (Some busy) front records more unit session opened
   | inr (inr above) ↦ none-put rx (calls_by front) opened.seq (bytes_to tick (walk_of rx.a unit).pieces) (so.0.fresh opened.seq (omega (arith, above, so.0.seq_is)))
 ]
 
-seen-all : (P : ℕ → Type 0) (turns : List RxTurn) → AllByRecursion (TurnIn P) turns → AllByRecursion (λ (s : Seen). P s.at) (came_by frames_in turns)
+pub seen-all : (P : ℕ → Type 0) (turns : List RxTurn) → AllByRecursion (TurnIn P) turns → AllByRecursion (λ (s : Seen). P s.at) (came_by frames_in turns)
 seen-all P turns all =
     let so : More (λ (s : Seen). P s.at) [] (came_by frames_in (turns ++ [])) = seen-more P turns [] all in
     let Q : List Seen → Type 0 = λ l. AllByRecursion (λ (s : Seen). P s.at) l in

@@ -27,13 +27,16 @@ use Rattle.receiver_law.proofs.sessions.Begins.{Split, begin-at, begin_going, be
 use Rattle.receiver_law.proofs.sessions.Entries.{writing}
 use Rattle.receiver_law.proofs.sessions.Openings.{openings}
 use Rattle.receiver_law.proofs.sessions.Stores.{store}
+use Rattle.receiver_law.specs.RxRun.{source_of}
 use Rattle.receiver_law.specs.Source.{CountsFrom, sessions_in}
 use Rattle.sender_law.proofs.records.Origins.{InTicks, OfTold}
 use Rattle.sender_law.proofs.transfers.TxLaw.{law, so-far, world_of}
 use Rattle.sender_law.proofs.transfers.TxReadings.{readings}
 use Rattle.sender_law.proofs.transfers.TxWorld.{SoFar}
 use Rattle.sender_law.proofs.transfers.TxWritten.{AreWritten, written}
+use Rattle.sender_law.specs.Runs.{leg_of}
 use Rattle.sender_law.specs.Transfer.{GoesOnWith, SendsFor, Transfer, TransferLaw, has_sent, transfer_of}
+use Rattle.gw_law.specs.Account.{Route}
 use Rattle.gw_law.specs.Delivery.{Delivery, delivery_of}
 use Rattle.gw_law.specs.Timely.{BeginsAfter, IsTimely, bytes_below, bytes_to}
 use Rattle.gw_law.proofs.deliveries.Deliveries.{front-bytes}
@@ -63,7 +66,7 @@ cells-none zero (r ∷ known) is = cc
 cells-none (suc seq) (r ∷ known) is = cells-none seq known is
 
 -- what is read of a session is a front of what is put into it
-read-put : (rx : RxSet) (tx : TxSet) (turns : List RxTurn) (moments : List TxTurn) (v : View) (seq : ℕ) (known : Option Reading) → AsFar rx tx turns moments v → slice_get ((grows (calls_by moments) empty_view).readings tx.path.0 tx.dest.0) seq ≡ known →
+pub read-put : (rx : RxSet) (tx : TxSet) (turns : List RxTurn) (moments : List TxTurn) (v : View) (seq : ℕ) (known : Option Reading) → AsFar rx tx turns moments v → slice_get ((grows (calls_by moments) empty_view).readings tx.path.0 tx.dest.0) seq ≡ known →
     length (bytes_of (cells_read seq (calls_by moments))) ≤ length (bytes_of (put_in rx turns seq))
 read-put rx tx turns moments v seq None far is =
     let read = readings tx moments far.sent empty_view refl in
@@ -100,6 +103,9 @@ to-below low high [] lt = omega arith
 to-below low high (piece ∷ pieces) lt = more-by piece _ _ (nat_le piece.at low) (nat_lt piece.at high) (lt-on piece.at low high lt) (to-below low high pieces lt)
 
 -- what both tell
+abbrev pub route_told : (source_budget budget : ℕ) → Whole → Route
+route_told source_budget budget o = record { source = source_of source_budget o.pair.rx; leg = leg_of budget o.pair.tx; window = o.pair.most }
+
 abbrev pub told : Whole → Delivery
 told o = delivery_of o.pair.rx.set (received o) o.pair.tx.set (sent o)
 

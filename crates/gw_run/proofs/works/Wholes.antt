@@ -27,7 +27,7 @@ sessions-turned rx turns earlier v so =
     let P : List Event → Type 0 = λ c. (grows (calls_by turns) v).sessions rx.path.0 ≡ (grows c empty_view).sessions rx.path.0 in
     subst P (sym (calls-append turns earlier)) (sessions-grown rx.path.0 (calls_by earlier) (calls_by turns) v (grows (calls_by turns) v) refl so)
 
-readings-turned : (rx : RxSet) (tx : TxSet) (turns earlier : List RxTurn) (moments : List TxTurn) (v : View) → HasReceived rx (turns ++ earlier) → OwnReadings tx moments v → OwnReadings tx moments (grows (calls_by turns) v)
+pub readings-turned : (rx : RxSet) (tx : TxSet) (turns earlier : List RxTurn) (moments : List TxTurn) (v : View) → HasReceived rx (turns ++ earlier) → OwnReadings tx moments v → OwnReadings tx moments (grows (calls_by turns) v)
 readings-turned rx tx turns earlier moments v received so = ap (λ (r : ℕ → ℕ → List _). r tx.path.0 tx.dest.0) (readings-stay rx.path.0 rx.group.0 (calls_by turns) v (received-writes rx turns earlier received)) ∙ so
 
 -- the sender's part of a tick

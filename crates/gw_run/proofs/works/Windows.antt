@@ -23,7 +23,7 @@ use Rattle.gw_run.proofs.works.Joined.{either-of, made-in, only-path}
 use Rattle.gw_run.proofs.works.RxParts.{parts_of, rx_run, turns-same}
 use Rattle.gw_run.proofs.works.SerialRun.{SerialRun}
 use Rattle.gw_run.proofs.works.TxParts.{parts-turns, tx_parts, tx_run}
-use Rattle.gw_run.proofs.works.Wholes.{readings-own, sessions-own}
+use Rattle.gw_run.proofs.works.Wholes.{readings-own, sessions-own, readings-turned}
 
 -- the machines of the run
 abbrev pub deeds_of : SerialRun → Deeds
@@ -127,6 +127,7 @@ module _ (o : SerialRun) (work : Work) (earlier : List Work) (tick_is : IsTick o
     calls_by work.moments,
     calls-append work.moments (moments_of earlier),
     reads-fresh o.tx.path.0 o.tx.dest.0 (floors_of (o.sizes ∷ []) (view_of earlier)) (calls_by work.moments) (view_between earlier work) (own_view (calls_by (moments_of earlier)))
+        (readings-turned o.rx o.tx work.turns (turns_of earlier) (moments_of earlier) (view_of earlier) received (readings-own o.rx o.tx earlier received-front-of sent-front-of))
         (sent-reads o.tx work.moments (moments_of earlier) sent)
         (are-fresh-lower (floors_of (o.sizes ∷ []) (view_of earlier)) (floors_of (o.sizes ∷ []) (view_between earlier work)) (view_between earlier work) (calls_by work.moments)
         (rise-grows (o.sizes ∷ []) (calls_by work.turns) (view_of earlier) put)

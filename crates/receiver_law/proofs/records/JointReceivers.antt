@@ -15,9 +15,9 @@ use Rattle.hub_core.specs.declared.port.Room.{Room}
 use Rattle.hub_core.specs.declared.record.OpenedAt.{OpenedAt}
 use Rattle.hub_core.specs.declared.record.SessionRecord.{SessionRecord}
 use Rattle.hub_core.specs.declared.record.SessionResult.{SessionResult}
-use Rattle.hub_core.specs.declared.record.SessionResult.TheVariants.{NoReaders}
+use Rattle.hub_core.specs.declared.record.SessionResult.TheVariants.{NoReaders, NoRoom}
 use Rattle.tp_receiver.specs.declared.set.RxSet.{RxSet}
-use Rattle.tp_receiver.specs.Effects.{Ends, EndsAt, Looks, Opens, Puts, Refuses, RxDone, RxEffect, RxStage, Waits}
+use Rattle.tp_receiver.specs.Effects.{Ends, EndsAt, Forgets, Looks, Opens, Puts, Refuses, RxDone, RxEffect, RxStage, Waits, first_stage}
 use Rattle.tp_receiver.specs.Runs.{HasReceived}
 use Rattle.tp_receiver.specs.State.{Reception, RxEvent, RxState, RxTurn, rx_new}
 use Rattle.tp_receiver.specs.Table.{Opens as OpensSession, begun, puts}
@@ -108,24 +108,24 @@ grow-entered : (path seq buf number size len readers : ℕ) (v : View) → (grow
 unfolding grow
 grow-entered path seq buf number size len readers v = at_one-same path _ v.sessions
 
-opens-so : (set : RxSet) (next seq len size tick : ℕ) (bytes : List ℕ) (opened : OpenedAt) (opening : List Event) (v : View) (records : List SessionRecord) → OpensSession set seq len bytes opened opening → KnownIn set v records seq None →
+opens-so : (set : RxSet) (next seq len size tick : ℕ) (bytes : List ℕ) (opened : OpenedAt) (opening : List Event) (v : View) (records : List SessionRecord) → OpensSession set seq size len bytes opened opening → KnownIn set v records seq None →
     KnownIn set (grows opening v) records (seq + 1) (Some (begun next len size (length bytes) tick opened))
 opens-so set next seq len size tick bytes opened opening v records row known =
     let path : ℕ = set.path.0 in
-    let w : View = grow (Entered path seq opened.buf.0 opened.change row.size len set.readers) (grow (Took set.group.0 opened.change opened.buf.0 row.size row.need) v) in
-    let sessions : w.sessions path ≡ v.sessions path ++ session_new opened.buf.0 opened.change row.size len set.readers ∷ [] =
-    grow-entered path seq opened.buf.0 opened.change row.size len set.readers (grow (Took set.group.0 opened.change opened.buf.0 row.size row.need) v) ∙ ap (λ l. l ++ session_new opened.buf.0 opened.change row.size len set.readers ∷ []) (grow-took set.group.0 path opened.change opened.buf.0 row.size row.need v) in
-    let one : Known set (w.sessions path) records (seq + 1) (Some (record { at = seq; len = len; bytes = 0 })) = rw sessions (known-entered set (v.sessions path) records seq opened.buf.0 opened.change row.size len known) in
+    let w : View = grow (Entered path seq opened.buf.0 opened.change row.buffer len set.readers) (grow (Took set.group.0 opened.change opened.buf.0 row.buffer row.need) v) in
+    let sessions : w.sessions path ≡ v.sessions path ++ session_new opened.buf.0 opened.change row.buffer len set.readers ∷ [] =
+    grow-entered path seq opened.buf.0 opened.change row.buffer len set.readers (grow (Took set.group.0 opened.change opened.buf.0 row.buffer row.need) v) ∙ ap (λ l. l ++ session_new opened.buf.0 opened.change row.buffer len set.readers ∷ []) (grow-took set.group.0 path opened.change opened.buf.0 row.buffer row.need v) in
+    let one : Known set (w.sessions path) records (seq + 1) (Some (record { at = seq; len = len; bytes = 0 })) = rw sessions (known-entered set (v.sessions path) records seq opened.buf.0 opened.change row.buffer len known) in
     let two : Known set ((grows (puts path seq row.cells) w).sessions path) records (seq + 1) (Some (record { at = seq; len = len; bytes = length bytes })) = known-puts set w records (seq + 1) (length bytes) (record { at = seq; len = len; bytes = 0 }) bytes row.cells (omega arith) row.packed one in
     rw (row.calls_are, row.seq_is) two
 
--- what the last look at the room answered, the session of the reception says of its destinations
+-- what the last look at the room answered, the session of the reception says of its destinations and of its room
 abbrev IsLookedOf : Option Reception → Option Room → List Session → Type 0
-IsLookedOf busy look sessions = (going : Reception) (room : Room) (s : Session) → busy ≡ Some going → look ≡ Some room → slice_get sessions going.opened.seq ≡ Some s → s.readers ≡ room.readers
+IsLookedOf busy look sessions = (going : Reception) (room : Room) (s : Session) → busy ≡ Some going → look ≡ Some room → slice_get sessions going.opened.seq ≡ Some s → (s.readers ≡ room.readers) × (s.room ≡ room.cells)
 
 -- a stage: what is known of the path's sessions
-record KnownAt (set : RxSet) (v : View) (records : List SessionRecord) (stage : RxStage) : Type 0 where
-  known : KnownBy set v records stage.state
+pub record KnownAt (set : RxSet) (v : View) (records : List SessionRecord) (stage : RxStage) : Type 0 where
+  pub known : KnownBy set v records stage.state
   looked : IsLookedOf stage.state.busy stage.look (v.sessions set.path.0)
 
 grow-refused : (group path number free need : ℕ) (v : View) → (grow (Refused group number free need) v).sessions path ≡ v.sessions path
@@ -143,7 +143,7 @@ looks-at set v records seq busy look known going room s is answers there =
     let place : busy.opened.seq ≡ going.opened.seq = ap (λ (b : Reception). b.opened.seq) same_busy in
     let same : Some s ≡ Some (f known.going.session) = sym there ∙ ap (λ n. slice_get ((grow (Asked set.path.0 busy.opened.seq look.cells look.readers) v).sessions set.path.0) n) (sym place) ∙ here in
     let at : s ≡ f known.going.session = cc in
-    ap (λ (x : Session). x.readers) at ∙ ap (λ (r : Room). r.readers) same_room
+    (ap (λ (x : Session). x.readers) at ∙ ap (λ (r : Room). r.readers) same_room, ap (λ (x : Session). x.room) at ∙ ap (λ (r : Room). r.cells) same_room)
 
 asked : (set : RxSet) (v : View) (records : List SessionRecord) (seq room readers : ℕ) (busy : Reception) → KnownIn set v records seq (Some busy) → KnownIn set (grow (Asked set.path.0 busy.opened.seq room readers) v) records seq (Some busy)
 asked set v records seq room readers busy known =
@@ -151,18 +151,22 @@ asked set v records seq room readers busy known =
     (λ s put. record { len_is = put.len_is; told = put.told; shown = put.shown; full = put.full; dests = put.dests }) known)
 
 -- no look
-unlooked : (busy : Option Reception) (sessions : List Session) → IsLookedOf busy None sessions
+pub unlooked : (busy : Option Reception) (sessions : List Session) → IsLookedOf busy None sessions
 unlooked busy sessions going room s is none there = cc
 
 none-read : (set : RxSet) (event : RxEvent) (old : RxStage) (busy : Reception) (result : SessionResult) (sessions : List Session) → old.state.busy ≡ Some busy → EndsAt set event old busy result → IsLookedOf old.state.busy old.look sessions →
     (s : Session) → slice_get sessions busy.opened.seq ≡ Some s → result ≡ NoReaders → s.readers ≡ 0
-none-read set event old busy result sessions was at looked s there is = let gone = subst (EndsAt set event old busy) is at in looked busy gone.0 s was gone.1 there ∙ gone.2
+none-read set event old busy result sessions was at looked s there is = let gone = subst (EndsAt set event old busy) is at in (looked busy gone.0 s was gone.1 there).0 ∙ gone.2
+
+none-fits : (set : RxSet) (event : RxEvent) (old : RxStage) (busy : Reception) (result : SessionResult) (sessions : List Session) → old.state.busy ≡ Some busy → EndsAt set event old busy result → IsLookedOf old.state.busy old.look sessions →
+    (s : Session) → slice_get sessions busy.opened.seq ≡ Some s → (room need : ℕ) → result ≡ NoRoom room need → s.room ≡ room
+none-fits set event old busy result sessions was at looked s there room need is = let full = subst (EndsAt set event old busy) is at in (looked busy full.0 s was full.1 there).1 ∙ full.3
 
 -- each effect
-known-effect : (set : RxSet) (event : RxEvent) (tick : ℕ) (old : RxStage) (done : RxDone) (v : View) (records : List SessionRecord) → RxEffect set event tick old done → KnownAt set v records old → KnownAt set (grows done.calls v) (records ++ done.records) done.new
+pub known-effect : (set : RxSet) (event : RxEvent) (tick : ℕ) (old : RxStage) (done : RxDone) (v : View) (records : List SessionRecord) → RxEffect set event tick old done → KnownAt set v records old → KnownAt set (grows done.calls v) (records ++ done.records) done.new
 known-effect set event tick old done v records (Refuses e) so =
     let known : KnownIn set v records old.state.seq None = subst (KnownIn set v records old.state.seq) e.of.idle so.known in
-    rw (e.calls, e.records, e.new) (record { known = rw (grow-refused set.group.0 set.path.0 e.number e.free _ v) (known-refused set (v.sessions set.path.0) records old.state.seq None _ refl known); looked = unlooked None _ })
+    rw (e.calls, e.records, e.new, e.of.idle) (record { known = rw (grow-refused set.group.0 set.path.0 e.number e.free _ v) (known-refused set (v.sessions set.path.0) records old.state.seq None _ refl known); looked = unlooked None _ })
 known-effect set event tick old done v records (Opens e) so =
     let known : KnownIn set v records old.state.seq None = subst (KnownIn set v records old.state.seq) e.of.idle so.known in
     rw (e.records, e.new, append-nil) (record { known = opens-so set old.state.next old.state.seq _ e.size tick _ e.opened done.calls v records e.opens known; looked = unlooked _ _ })
@@ -178,11 +182,12 @@ known-effect set event tick old done v records (Puts e) so =
 known-effect set event tick old done v records (Waits e) so =
     let known : KnownIn set v records old.state.seq (Some e.busy) = subst (KnownIn set v records old.state.seq) e.was so.known in
     rw (e.calls, e.records, e.new, append-nil) (record { known = known; looked = unlooked _ _ })
+known-effect set event tick old done v records (Forgets e) so = rw (e.calls, e.records, e.new, append-nil) (record { known = so.known; looked = so.looked })
 known-effect set event tick old done v records (Ends e) so =
     let known : KnownIn set v records old.state.seq (Some e.busy) = subst (KnownIn set v records old.state.seq) e.was so.known in
     rw (e.calls, e.records, e.new) (record {
       known = rw (grow-closed set.path.0 e.busy.opened.seq (freed_by e.left) v)
-          (known-closed set (v.sessions set.path.0) records old.state.seq (filling_of e.busy) _ e.busy.opened refl refl refl refl (none-read set event old e.busy e.result (v.sessions set.path.0) e.was e.at so.looked) known);
+          (known-closed set (v.sessions set.path.0) records old.state.seq (filling_of e.busy) _ e.busy.opened refl refl refl refl (none-read set event old e.busy e.result (v.sessions set.path.0) e.was e.at so.looked) (none-fits set event old e.busy e.result (v.sessions set.path.0) e.was e.at so.looked) known);
       looked = unlooked None _;
     })
 
@@ -196,3 +201,7 @@ known-sessions set (turn ∷ earlier) happened =
     (λ old done calls records effect so. subst (λ (v : View). KnownAt set v (records ++ done.records) done.new) (sym (grows-append calls done.calls empty_view)) (known-effect set turn.event turn.did.tick old done (grows calls empty_view) records effect so))
     happened.1 (calls_by earlier) (records_by earlier) (record { known = known-sessions set earlier happened.2; looked = unlooked _ _ }) in
     subst (λ (s : RxState). KnownBy set (grows (calls_by earlier ++ turn.did.calls) empty_view) (records_by earlier ++ turn.did.records) s) (sym by.state) by.holds.known
+
+-- at the first stage of a step after them
+pub known-first : (set : RxSet) (turns : List RxTurn) → HasReceived set turns → KnownAt set (grows (calls_by turns) empty_view) (records_by turns) (first_stage (state_after rx_new turns))
+known-first set turns happened = record { known = known-sessions set turns happened; looked = unlooked _ _ }

@@ -9,7 +9,7 @@ use Rattle.hub_core.proofs.Growing.{length-change_at, slice_get-change_at, slice
 use Rattle.hub_core.specs.View.{Session, change_at, session_new}
 use Rattle.hub_core.specs.declared.record.OpenedAt.{OpenedAt}
 use Rattle.hub_core.specs.declared.record.SessionRecord.{SessionRecord}
-use Rattle.hub_core.specs.declared.record.SessionResult.TheVariants.{NoReaders}
+use Rattle.hub_core.specs.declared.record.SessionResult.TheVariants.{NoReaders, NoRoom}
 use Rattle.tp_receiver.specs.declared.set.RxSet.{RxSet}
 use Rattle.hub_core.proofs.Changed.{Before, Has, Last, Pushed, has-last, has-more, other-place, pushed}
 use Rattle.gw_base.proofs.Lists.{all-push, all-weaker, slice_get-more}
@@ -22,13 +22,14 @@ pub record IsPut (set : RxSet) (len bytes : ℕ) (s : Session) : Type 0 where
   pub full : s.told ≤ 7 * length s.cells
   pub dests : s.dests ≡ set.readers
 
--- the session of a record that opened one: its writer left, and where that was for want of readers it saw none
+-- the session of a record that opened one: its writer left, and where that was for want of readers it saw none, for want of room that room
 pub record IsLeft (set : RxSet) (sessions : List Session) (told : SessionRecord) (opened : OpenedAt) : Type 0 where
   pub session : Session
   pub there : slice_get sessions opened.seq ≡ Some session
   pub put : IsPut set told.len told.bytes session
   pub stands : session.stands ≡ false
   pub none : told.result ≡ NoReaders → session.readers ≡ 0
+  pub full : (room need : ℕ) → told.result ≡ NoRoom room need → session.room ≡ room
 
 abbrev pub IsLeftBy : RxSet → List Session → SessionRecord → Type 0
 IsLeftBy set sessions told = (opened : OpenedAt) → told.opened ≡ Some opened → IsLeft set sessions told opened
@@ -89,7 +90,7 @@ known-entered set sessions records seq buf number size len known =
       number = omega (arith, length-append sessions (new ∷ []), known.number);
       told = all-weaker (IsLeftBy set sessions) (IsLeftBy set (sessions ++ new ∷ [])) records (λ told is opened at.
           let so : IsLeft set sessions told opened = is opened at in
-          record { session = so.session; there = slice_get-more sessions (new ∷ []) opened.seq so.session so.there; put = so.put; stands = so.stands; none = so.none }) known.told;
+          record { session = so.session; there = slice_get-more sessions (new ∷ []) opened.seq so.session so.there; put = so.put; stands = so.stands; none = so.none; full = so.full }) known.told;
       left = λ k s is left. entered-left records sessions new k s refl left known.left (pushed k sessions new s is);
       going = record { session = new; there = slice_get-pushed sessions new seq known.number; put = record { len_is = refl; told = refl; shown = refl; full = omega arith; dests = refl }; stands = refl };
     }
@@ -108,6 +109,7 @@ changed-told set sessions f change records going told =
       put = so.put;
       stands = so.stands;
       none = so.none;
+      full = so.full;
     }) told
 
 pub known-changed : (set : RxSet) (sessions : List Session) (records : List SessionRecord) (seq bytes : ℕ) (f : Filling) (change : Session → Session) → ((s : Session) → (change s).stands ≡ s.stands) →
@@ -126,8 +128,9 @@ known-changed set sessions records seq bytes f change keeps puts known =
 
 -- its writer leaves, and it is told
 pub known-closed : (set : RxSet) (sessions : List Session) (records : List SessionRecord) (seq : ℕ) (f : Filling) (told : SessionRecord) (opened : OpenedAt) → told.opened ≡ Some opened → opened.seq ≡ f.at → told.len ≡ f.len → told.bytes ≡ f.bytes →
-    ((s : Session) → slice_get sessions f.at ≡ Some s → told.result ≡ NoReaders → s.readers ≡ 0) → Known set sessions records seq (Some f) → Known set (change_at f.at (λ s. record s { stands = false }) sessions) (records ++ told ∷ []) seq None
-known-closed set sessions records seq f told opened opened_is at len bytes none known =
+    ((s : Session) → slice_get sessions f.at ≡ Some s → told.result ≡ NoReaders → s.readers ≡ 0) → ((s : Session) → slice_get sessions f.at ≡ Some s → (room need : ℕ) → told.result ≡ NoRoom room need → s.room ≡ room) → Known set sessions records seq (Some f) →
+    Known set (change_at f.at (λ s. record s { stands = false }) sessions) (records ++ told ∷ []) seq None
+known-closed set sessions records seq f told opened opened_is at len bytes none full known =
     let change : Session → Session = λ s. record s { stands = false } in
     let s : Session = known.going.session in
     let put : IsPut set f.len f.bytes s = known.going.put in
@@ -142,6 +145,7 @@ known-closed set sessions records seq f told opened opened_is at len bytes none 
             put = record { len_is = put.len_is ∙ sym len; told = put.told ∙ sym bytes; shown = put.shown; full = put.full; dests = put.dests };
             stands = refl;
             none = none s known.going.there;
+            full = full s known.going.there;
           });
       left = λ k x is left. elim (cases_eq k f.at) [
         | inl same ↦ has-last (IsOpenedAs k) records told (opened, opened_is, at ∙ sym same)

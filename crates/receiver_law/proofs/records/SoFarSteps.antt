@@ -48,7 +48,7 @@ told-push set calls now attempts records attempt told so tells n ended counts be
     }
 
 -- an attempt's walk has its start's piece
-pieces-some : (address : ℕ) (attempt : Cut Seen) → 0 < length (walk_of address attempt).pieces
+pub pieces-some : (address : ℕ) (attempt : Cut Seen) → 0 < length (walk_of address attempt).pieces
 pieces-some address attempt = looks-some address attempt.after (begun_walk attempt.start) (omega arith)
   where
     looks-some : (address : ℕ) (frames : List Seen) (walk : Walk) → 0 < length walk.pieces → 0 < length (fold (look address) walk frames).pieces

@@ -12,7 +12,7 @@ use Rattle.tp_attempts.specs.Seen.{Seen, bytes_of, is_start, len_of}
 use Rattle.tp_attempts.specs.Walk.{look_at, walk_of}
 use Rattle.tp_attempts.proofs.Walks.{look-long, look-short}
 use Rattle.tp_receiver.specs.declared.set.RxSet.{RxSet}
-use Rattle.tp_receiver.specs.Effects.{Ends, EndsAt, HasConsecutive, IsPassed, IsUnused, Looks, Opens, Puts, Refuses, RxDone, RxEffect, RxStage, Waits, used_after}
+use Rattle.tp_receiver.specs.Effects.{Ends, EndsAt, Forgets, HasConsecutive, IsPassed, IsUnused, Looks, Opens, Puts, Refuses, RxDone, RxEffect, RxStage, Waits, used_after}
 use Rattle.tp_receiver.specs.Runs.{HasReceived, cells_in, put_in, frames_in}
 use Rattle.tp_receiver.specs.State.{Reception, RxState, RxEvent, RxDid, Came, Timer, FcLeft, RunEnd, RxTurn, rx_new}
 use Rattle.tp_receiver.specs.Table.{RxStep, ended, refused}
@@ -37,12 +37,12 @@ same-by : (path : ℕ) (calls more : List Event) → ((number : ℕ) → cells_i
 same-by path calls more none number = store-keeps path number calls more (none number)
 
 -- time passes
-holds-later : (set : RxSet) (next seq : ℕ) (busy : Option Reception) (calls : List Event) (before now : ℕ) (seen : List Seen) (records : List SessionRecord) → before ≤ now → HoldsBy set next seq busy calls before seen records → HoldsBy set next seq busy calls now seen records
+pub holds-later : (set : RxSet) (next seq : ℕ) (busy : Option Reception) (calls : List Event) (before now : ℕ) (seen : List Seen) (records : List SessionRecord) → before ≤ now → HoldsBy set next seq busy calls before seen records → HoldsBy set next seq busy calls now seen records
 holds-later set next seq None calls before now seen records later so = idle-later set next seq calls calls before now seen records later (λ number. refl) so
 holds-later set next seq (Some busy) calls before now seen records later so = (busy-later set next seq busy calls calls before now seen records later (λ number. refl) so.0, so.1)
 
 -- what is waited for doesn't matter
-busy-waits : (set : RxSet) (next seq : ℕ) (busy other : Reception) (calls : List Event) (now : ℕ) (seen : List Seen) (records : List SessionRecord) → other ≡ record busy { wait = other.wait; since = other.since } → IsBusy set next seq busy calls now seen records → IsBusy set next seq other calls now seen records
+busy-waits : (set : RxSet) (next seq : ℕ) (busy other : Reception) (calls : List Event) (now : ℕ) (seen : List Seen) (records : List SessionRecord) → other ≡ record busy { wait = other.wait; since = other.since; left = other.left; waits = other.waits } → IsBusy set next seq busy calls now seen records → IsBusy set next seq other calls now seen records
 busy-waits set next seq busy other calls now seen records is so =
     let P : Reception → Type 0 = λ b. IsBusy set next seq b calls now seen records in
     subst P (sym is) (record {
@@ -59,27 +59,27 @@ busy-waits set next seq busy other calls now seen records is so =
     })
 
 -- the frames up to the one that came, once it is used
-abbrev seen_so : List Seen → ℕ → RxEvent → Bool → List Seen
+abbrev pub seen_so : List Seen → ℕ → RxEvent → Bool → List Seen
 seen_so seen tick event used = if used then seen ++ frames_in tick event else seen
 
 -- what holds at a stage of a step: bytes are to come where nothing was put or begun in it yet
-abbrev HoldsIn : RxSet → ℕ → RxEvent → List Seen → (next seq : ℕ) → Option Reception → (used : Bool) → List Event → List SessionRecord → Type 0
+abbrev pub HoldsIn : RxSet → ℕ → RxEvent → List Seen → (next seq : ℕ) → Option Reception → (used : Bool) → List Event → List SessionRecord → Type 0
 HoldsIn set tick event seen next seq None used calls records = IsIdle set next seq calls tick (seen_so seen tick event used) records
 HoldsIn set tick event seen next seq (Some busy) used calls records = IsBusy set next seq busy calls tick (seen_so seen tick event used) records × (used ≡ false → busy.bytes < busy.len)
 
-abbrev HoldsAt : RxSet → ℕ → RxEvent → List Seen → RxStage → List Event → List SessionRecord → Type 0
+abbrev pub HoldsAt : RxSet → ℕ → RxEvent → List Seen → RxStage → List Event → List SessionRecord → Type 0
 HoldsAt set tick event seen stage calls records = HoldsIn set tick event seen stage.state.next stage.state.seq stage.state.busy stage.used calls records
 
-idle-at : (set : RxSet) (tick : ℕ) (event : RxEvent) (seen : List Seen) (next seq : ℕ) (busy : Option Reception) (used : Bool) (calls : List Event) (records : List SessionRecord) → busy ≡ None → used ≡ false → HoldsIn set tick event seen next seq busy used calls records →
+pub idle-at : (set : RxSet) (tick : ℕ) (event : RxEvent) (seen : List Seen) (next seq : ℕ) (busy : Option Reception) (used : Bool) (calls : List Event) (records : List SessionRecord) → busy ≡ None → used ≡ false → HoldsIn set tick event seen next seq busy used calls records →
     IsIdle set next seq calls tick seen records
 idle-at set tick event seen next seq busy used calls records is unused so =
     subst (λ (u : Bool). IsIdle set next seq calls tick (seen_so seen tick event u) records) unused (subst (λ (b : Option Reception). HoldsIn set tick event seen next seq b used calls records) is so)
 
-busy-at : (set : RxSet) (tick : ℕ) (event : RxEvent) (seen : List Seen) (next seq : ℕ) (was : Option Reception) (busy : Reception) (used : Bool) (calls : List Event) (records : List SessionRecord) → was ≡ Some busy → HoldsIn set tick event seen next seq was used calls records →
+pub busy-at : (set : RxSet) (tick : ℕ) (event : RxEvent) (seen : List Seen) (next seq : ℕ) (was : Option Reception) (busy : Reception) (used : Bool) (calls : List Event) (records : List SessionRecord) → was ≡ Some busy → HoldsIn set tick event seen next seq was used calls records →
     HoldsIn set tick event seen next seq (Some busy) used calls records
 busy-at set tick event seen next seq was busy used calls records is so = subst (λ (b : Option Reception). HoldsIn set tick event seen next seq b used calls records) is so
 
-unused-busy : (set : RxSet) (tick : ℕ) (event : RxEvent) (seen : List Seen) (next seq : ℕ) (busy : Reception) (used : Bool) (calls : List Event) (records : List SessionRecord) → used ≡ false → HoldsIn set tick event seen next seq (Some busy) used calls records → IsBusy set next seq busy calls tick seen records
+pub unused-busy : (set : RxSet) (tick : ℕ) (event : RxEvent) (seen : List Seen) (next seq : ℕ) (busy : Reception) (used : Bool) (calls : List Event) (records : List SessionRecord) → used ≡ false → HoldsIn set tick event seen next seq (Some busy) used calls records → IsBusy set next seq busy calls tick seen records
 unused-busy set tick event seen next seq busy used calls records unused so = subst (λ (u : Bool). IsBusy set next seq busy calls tick (seen_so seen tick event u) records) unused so.0
 
 more-of : (used : Bool) (busy : Reception) → (used ≡ true → busy.bytes < busy.len) → (used ≡ false → busy.bytes < busy.len) → busy.bytes < busy.len
@@ -116,7 +116,8 @@ ends-so set tick event seen old busy calls more records Restarted so none at par
     closes-so set tick event seen _ _ busy old.used calls more records Restarted so none refl (not-whole Restarted busy (λ is. cc) (more-of old.used busy (λ used. part used (λ is. cc)) so.1)) (λ want got is. cc)
 ends-so set tick event seen old busy calls more records (NoRoom room need) so none at part =
     closes-so set tick event seen _ _ busy old.used calls more records (NoRoom room need) so none refl (not-whole (NoRoom room need) busy (λ is. cc) (more-of old.used busy (λ used. part used (λ is. cc)) so.1)) (λ want got is. cc)
-ends-so set tick event seen old busy calls more records WaitOver so none at part = absurd at
+ends-so set tick event seen old busy calls more records WaitOver so none at part =
+    closes-so set tick event seen _ _ busy old.used calls more records WaitOver so none refl (not-whole WaitOver busy (λ is. cc) (more-of old.used busy (λ used. part used (λ is. cc)) so.1)) (λ want got is. cc)
 ends-so set tick event seen old busy calls more records NoReaders so none at part =
     closes-so set tick event seen _ _ busy old.used calls more records NoReaders so none refl (not-whole NoReaders busy (λ is. cc) (more-of old.used busy (λ used. part used (λ is. cc)) so.1)) (λ want got is. cc)
 ends-so set tick event seen old busy calls more records Cancelled so none at part = absurd at
@@ -124,12 +125,12 @@ ends-so set tick event seen old busy calls more records (EndOfRun wait since) so
     closes-so set tick event seen _ _ busy old.used calls more records (EndOfRun wait since) so none refl (not-whole (EndOfRun wait since) busy (λ is. cc) (more-of old.used busy (λ used. part used (λ is. cc)) so.1)) (λ want got is. cc)
 
 -- each effect
-holds-effect : (set : RxSet) (event : RxEvent) (tick : ℕ) (seen : List Seen) (old : RxStage) (done : RxDone) (calls : List Event) (records : List SessionRecord) → RxEffect set event tick old done → HoldsAt set tick event seen old calls records →
+pub holds-effect : (set : RxSet) (event : RxEvent) (tick : ℕ) (seen : List Seen) (old : RxStage) (done : RxDone) (calls : List Event) (records : List SessionRecord) → RxEffect set event tick old done → HoldsAt set tick event seen old calls records →
     HoldsAt set tick event seen done.new (calls ++ done.calls) (records ++ done.records)
 holds-effect set event tick seen old done calls records (Refuses e) so =
     let frame : Seen = record { at = tick; size = e.size; meaning = e.meaning } in
     let idle : IsIdle set old.state.next old.state.seq calls tick seen records = idle-at set tick event seen _ _ old.state.busy old.used calls records e.of.idle e.of.unused so in
-    rw (e.calls, e.records, e.new, e.of.came)
+    rw (e.calls, e.records, e.new, e.of.came, e.of.idle)
     (idle-later set _ _ calls _ tick tick (seen ++ frame ∷ []) (records ++ refused set old.state.next (len_of e.meaning) tick e.number e.free _ ∷ []) (omega arith) (same-by set.path.0 calls _ (λ number. refl))
     (overflows set old.state.next old.state.seq (len_of e.meaning) e.number e.free _ calls seen records frame e.of.start refl idle))
 holds-effect set event tick seen old done calls records (Opens e) so =
@@ -149,13 +150,14 @@ holds-effect set event tick seen old done calls records (Puts e) so =
     )
 holds-effect set event tick seen old done calls records (Waits e) so =
     let known = busy-at set tick event seen _ _ old.state.busy e.busy old.used calls records e.was so in
-    rw (e.calls, e.records, e.new, append-nil, append-nil) (busy-waits set _ _ e.busy (record e.busy { wait = e.wait; since = tick }) calls tick (seen_so seen tick event old.used) records refl known.0, known.1)
+    rw (e.calls, e.records, e.new, append-nil, append-nil) (busy-waits set _ _ e.busy (record e.busy { wait = e.wait; since = tick; left = e.left; waits = e.waits }) calls tick (seen_so seen tick event old.used) records refl known.0, known.1)
+holds-effect set event tick seen old done calls records (Forgets e) so = rw (e.calls, e.records, e.new, append-nil, append-nil) so
 holds-effect set event tick seen old done calls records (Ends e) so =
     let known = busy-at set tick event seen _ _ old.state.busy e.busy old.used calls records e.was so in
     rw (e.records, e.new) (ends-so set tick event seen old e.busy calls done.calls records e.result known (λ number. ap (cells_in set.path.0 number) e.calls) e.at e.part)
 
 -- a frame that is passed over
-passes : (set : RxSet) (next seq : ℕ) (busy : Reception) (calls : List Event) (seen : List Seen) (records : List SessionRecord) (tick size : ℕ) (meaning : Meaning) (so : IsBusy set next seq busy calls tick seen records) → is_start set.functional meaning ≡ false → IsPassed set busy size meaning →
+pub passes : (set : RxSet) (next seq : ℕ) (busy : Reception) (calls : List Event) (seen : List Seen) (records : List SessionRecord) (tick size : ℕ) (meaning : Meaning) (so : IsBusy set next seq busy calls tick seen records) → is_start set.functional meaning ≡ false → IsPassed set busy size meaning →
     look_at set.a (walk_of set.a so.attempt) tick size meaning ≡ walk_of set.a so.attempt
 passes set next seq busy calls seen records tick size (SingleFrame bytes) so other passed = refl
 passes set next seq busy calls seen records tick size (FirstFrame len bytes) so other passed = refl
@@ -189,7 +191,7 @@ holds-last set tick FcLeft seen state false calls records so unused more = nothi
 holds-last set tick RunEnd seen state false calls records so unused more = nothing-came set tick RunEnd seen state.next state.seq state.busy calls records refl so
 
 -- before the step's first effect
-holds-first : (set : RxSet) (tick : ℕ) (event : RxEvent) (seen : List Seen) (next seq : ℕ) (busy : Option Reception) (calls : List Event) (records : List SessionRecord) → HoldsBy set next seq busy calls tick seen records → HoldsIn set tick event seen next seq busy false calls records
+pub holds-first : (set : RxSet) (tick : ℕ) (event : RxEvent) (seen : List Seen) (next seq : ℕ) (busy : Option Reception) (calls : List Event) (records : List SessionRecord) → HoldsBy set next seq busy calls tick seen records → HoldsIn set tick event seen next seq busy false calls records
 holds-first set tick event seen next seq None calls records so = so
 holds-first set tick event seen next seq (Some busy) calls records so = (so.0, λ is. so.1)
 

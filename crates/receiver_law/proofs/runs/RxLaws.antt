@@ -1,39 +1,29 @@
--- The laws of a receiver's run: its records, its flow controls, and the causes of its records.
-use Rattle.std.proofs.Common.{◌≡◌, ℕ, ◌+◌, ◌≤◌, inl, inr, Option, None, List, [], ◌∷◌, ◌++◌, ap, sym, ◌∙◌, subst, append-nil}
-use Rattle.std.specs.List.{AllByRecursion, AllZip}
-use Rattle.gw_base.proofs.Lists.{none-some}
-use Rattle.hub_core.specs.Turns.{now_of, came_by, state_after, records_by}
+-- The laws of a receiver's run: its records, and its receptions with their flow controls and causes.
+use Rattle.receiver_law.proofs.receptions.RoomSteps.{looks-front}
+use Rattle.receiver_law.specs.Looks.{LooksKeepRoom}
+use Rattle.std.proofs.Common.{◌≡◌, inl, inr, Bool, ℕ, ◌+◌, ◌<◌, Option, Some, None, List, [], ◌∷◌, ◌++◌, refl, ap, sym, ◌∙◌, subst, arith, append-nil}
+use Rattle.std.specs.List.{AllZip}
+use Rattle.hub_core.specs.Turns.{came_by, records_by, state_after, tick_after, turns_of, calls_by}
 use Rattle.hub_core.specs.declared.record.SessionRecord.{SessionRecord}
 use Rattle.tp_attempts.specs.Attempts.{attempts_in}
 use Rattle.tp_attempts.specs.Seen.{Seen}
-use Rattle.tp_receiver.specs.declared.set.RxSet.{RxSet}
-use Rattle.tp_receiver.specs.Runs.{HasReceived, control_after, control_at, controls_by, frames_in}
-use Rattle.tp_receiver.specs.State.{RxEvent, RunEnd, RxTurn, rx_new}
-use Rattle.tp_receiver.specs.Table.{RxStep}
 use Rattle.tp_receiver.proofs.Made.{idle-ended}
+use Rattle.tp_receiver.specs.Runs.{HasReceived, control_after, control_at, controls_by, frames_in}
+use Rattle.tp_receiver.specs.State.{Reception, RxDid, RxEvent, RxState, RxTurn, RunEnd, rx_new}
+use Rattle.tp_receiver.specs.Table.{EndRow, RxStep, ended}
+use Rattle.hub_core.specs.declared.record.SessionResult.TheVariants.{RunEnd as EndOfRun}
 use Rattle.tp_unit.specs.Box.{Written}
-use Rattle.tp_unit.specs.Shape.{IsShape, address_size}
 use Rattle.tp_unit.specs.Unit.{Meaning}
-use Rattle.tp_unit.specs.declared.shape.Shape.{Shape}
 use Rattle.receiver_law.specs.Channel.{SourceChannel}
-use Rattle.receiver_law.specs.FlowControls.{FlowControlLaw}
-use Rattle.receiver_law.specs.Looks.{AreShort}
+use Rattle.receiver_law.specs.Laws.{HasLimits}
 use Rattle.receiver_law.specs.Parts.{EndsReceiving}
-use Rattle.receiver_law.specs.ReceptionCauses.{AreCaused, AreNeverBoxed, IsCaused, IsNeverBoxed}
+use Rattle.receiver_law.specs.ReceptionCauses.{ReceptionLaw}
 use Rattle.receiver_law.specs.RxRun.{IsRxRun, RxRun, source_of, turns_in}
-use Rattle.hub_core.specs.Turns.{tick_after, turns_of}
-use Rattle.tp_unit.specs.Box.{IsNeverFull}
-use Rattle.receiver_law.specs.Source.{SourceLaw}
-use Rattle.receiver_law.proofs.controls.FlowControls.{IsKnown, law-known}
-use Rattle.receiver_law.proofs.controls.FlowSteps.{IsSettled, story_of}
-use Rattle.receiver_law.proofs.controls.Story.{Facts, IdleSo, SoFar}
-use Rattle.receiver_law.proofs.causes.ReceptionCauses.{IsSaid, said-ended}
-use Rattle.receiver_law.proofs.causes.CausesSoFar.{SoBy}
-use Rattle.receiver_law.proofs.causes.RxCauses.{so_far}
-use Rattle.receiver_law.proofs.causes.RxRooms.{rooms}
-use Rattle.receiver_law.proofs.runs.RxRuns.{controls-of-run-rise, ordered, run-settles}
-use Rattle.receiver_law.proofs.runs.RxTicks.{AreOver, over_of}
+use Rattle.receiver_law.specs.Source.{SourceLaw, Tells}
+use Rattle.receiver_law.proofs.receptions.AtEnd.{law-busy, law-idle}
+use Rattle.receiver_law.proofs.receptions.SoFar.{SoBy}
 use Rattle.receiver_law.proofs.records.SourceLaws.{source_law_of}
+use Rattle.receiver_law.proofs.runs.RxRuns.{Holds, IsPast, idle-later, parts-so}
 
 -- the receiver's one turn at the end
 record IsOneEnd (last : ℕ) (turns : List RxTurn) : Type 0 where
@@ -58,58 +48,38 @@ ends-idle run is =
 pub source_law_of_run : (run : RxRun) (budget : ℕ) → IsRxRun run → SourceLaw run.set.chan.0 run.set.a run.set.functional (source_of budget run).seen (source_of budget run).sessions
 source_law_of_run run budget is = source_law_of run.set (turns_in run) is.happened (ends-idle run is)
 
--- what is known of its flow controls
-pub known-of-run : (run : RxRun) (budget : ℕ) → IsNeverFull run.full → IsRxRun run → IsKnown (source_of budget run)
-known-of-run run budget never is =
-    let turns : List RxTurn = turns_in run in
-    let idle : (state_after rx_new turns).busy ≡ None = ends-idle run is in
-    let settled : (bound : ℕ) × IsSettled run.set run.shape run.last bound turns = run-settles run never is in
-    let so : IdleSo run.set run.shape (story_of run.set run.shape run.last settled.0 turns) = subst (SoFar run.set run.shape (story_of run.set run.shape run.last settled.0 turns)) idle settled.1.holds in
-    record {
-      now = run.last;
-      bound = settled.0;
-      facts = subst (λ (l : Option Meaning). Facts run.set run.shape (record (story_of run.set run.shape run.last settled.0 turns) { lies = l })) settled.1.empty so.facts;
-      all_told = so.all_told;
-      tells = (source_law_of run.set turns is.happened idle).tells;
-      end = run.last + 1;
-      rise = controls-of-run-rise run never is;
-    }
+-- the law of a channel, where the run's end ends a reception or not
+module _ (full : ℕ → Bool) (r : SourceChannel) (tells : AllZip (Tells r.rx.chan.0 r.rx.a) (attempts_in r.rx.functional r.seen) r.sessions) where
+  law-ended : (old : RxState) (busy : Option Reception) (m : RxDid) (refusing : Option ℕ) (lies : Option Meaning) (records : List SessionRecord) → r.sessions ≡ records ++ m.records → m.tick ≡ r.last → ((on : Reception) → busy ≡ Some on → on.since < r.last + 1) →
+      SoBy full r.rx r.shape (r.last + 1) (r.last + 1) refusing lies busy r.seen records r.controls → EndRow r.rx old busy m → ReceptionLaw full r
+  law-ended old None m refusing lies records told at since so row =
+      let same : records ≡ r.sessions = sym (append-nil records) ∙ ap (λ (more : List SessionRecord). records ++ more) (sym row.records) ∙ sym told in
+      law-idle full r tells (r.last + 1) (r.last + 1) refusing lies (omega arith) (subst (λ (all : List SessionRecord). SoBy full r.rx r.shape (r.last + 1) (r.last + 1) refusing lies None r.seen all r.controls) same so)
+  law-ended old (Some busy) m refusing lies records told at since so row =
+      law-busy full r tells refusing lies busy records (told ∙ ap (λ (more : List SessionRecord). records ++ more) row.records ∙ ap (λ (t : ℕ). records ++ ended r.rx busy (EndOfRun busy.wait (record { 0 = busy.since })) t ∷ []) at) (omega (arith, since busy refl)) so
 
-pub flow_control_law_of : (run : RxRun) (budget : ℕ) → IsRxRun run → IsNeverFull run.full → 1 ≤ run.set.n_ar → FlowControlLaw run.full (source_of budget run)
-flow_control_law_of run budget is never some = law-known run.full (source_of budget run) some (known-of-run run budget never is)
-
-zip-first : {A B : Type 0} (P : A → B → Type 0) (Q : B → Type 0) (xs : List A) (ys : List B) → AllZip (λ x y. P x y × Q y) xs ys → AllZip P xs ys × AllByRecursion Q ys
-zip-first P Q [] [] all = (tt, tt)
-zip-first P Q [] (y ∷ ys) all = absurd all
-zip-first P Q (x ∷ xs) [] all = absurd all
-zip-first P Q (x ∷ xs) (y ∷ ys) all = let rest = zip-first P Q xs ys all.1 in ((all.0.0, rest.0), (all.0.1, rest.1))
-
--- each record comes of its cause, and none waits for its box
-pub reception_law_of : (run : RxRun) (budget : ℕ) → IsRxRun run → IsNeverFull run.full → IsShape run.shape → 1 ≤ run.set.n_cr → AreShort run.set (turns_of run.parts) → AreCaused run.full (source_of budget run) × AreNeverBoxed (source_of budget run)
-reception_law_of run budget is never sound some short =
+pub reception_law_of : (run : RxRun) (budget : ℕ) → IsRxRun run → HasLimits run.set → LooksKeepRoom run.set (calls_by (turns_in run)) → ReceptionLaw run.full (source_of budget run)
+reception_law_of run budget is limits keep =
     let turns : List RxTurn = turns_of run.parts in
-    let set : RxSet = run.set in
-    let shape : Shape = run.shape in
     let r : SourceChannel = source_of budget run in
     let one : IsOneEnd run.last run.end = one-end run.last run.end is.ends in
-    let happened : HasReceived set (one.turn ∷ turns) = subst (λ (t : List RxTurn). HasReceived set (t ++ turns)) one.is is.happened in
-    let before : HasReceived set turns = happened.2 in
-    let over : AreOver (tick_after run.parts) turns = ordered set run.full run.parts never is.parts_are before in
-    let law : SourceLaw set.chan.0 set.a set.functional r.seen r.sessions = source_law_of_run run budget is in
-    let controls : controls_by shape (turns_in run) ≡ controls_by shape turns =
-    ap (λ t. controls_by shape (t ++ turns)) one.is ∙ ap (λ e. controls_by shape turns ++ control_at shape e one.turn.did.tick (control_after turns)) one.event ∙ append-nil (controls_by shape turns) in
-    let seen : came_by frames_in (turns_in run) ≡ came_by frames_in turns = ap (λ t. came_by frames_in (t ++ turns)) one.is ∙ ap (λ e. came_by frames_in turns ++ frames_in one.turn.did.tick e) one.event ∙ append-nil (came_by frames_in turns) in
-    let told : records_by (turns_in run) ≡ records_by turns ++ one.turn.did.records = ap (λ t. records_by (t ++ turns)) one.is in
-    let roomy = (rooms set turns short.address before short.looks short.starts).1 in
-    let P : List Written → Type 0 = λ c. SoBy set (address_size shape) (state_after rx_new turns).busy (control_after turns) c (now_of turns) (over_of turns) (came_by frames_in turns) (records_by turns) in
-    let Q : List Seen → Type 0 = λ s. SoBy set (address_size shape) (state_after rx_new turns).busy (control_after turns) r.controls (now_of turns) (over_of turns) s (records_by turns) in
-    let R : RxEvent → Type 0 = λ e. RxStep set (state_after rx_new turns) e one.turn.did in
-    let S : List SessionRecord → Type 0 = λ records. AllZip (IsSaid run.full r) (attempts_in set.functional r.seen) records in
-    zip-first (IsCaused run.full r) (λ (record_told : SessionRecord). IsNeverBoxed record_told.result) (attempts_in set.functional r.seen) r.sessions (subst S (sym told)
-    (said-ended run.full r (state_after rx_new turns).next (state_after rx_new turns).seq (now_of turns) (over_of turns) (state_after rx_new turns).busy (control_after turns) one.turn.did (records_by turns) law.tells roomy
-    (subst Q (sym seen) (subst P (sym controls) (so_far set shape turns sound some before over.ordered))) over.empty
-    (λ b busy. elim is.reached [
-      | inl idle ↦ absurd (none-some idle.receiver busy)
-      | inr reached ↦ over.over ∙ reached
-    ])
-    happened.0 one.tick (subst R one.event happened.1)))
+    let happened : HasReceived run.set (one.turn ∷ turns) = subst (λ (t : List RxTurn). HasReceived run.set (t ++ turns)) one.is is.happened in
+    let law : SourceLaw run.set.chan.0 run.set.a run.set.functional r.seen r.sessions = source_law_of_run run budget is in
+    let so : IsPast run.full run.set run.shape limits (tick_after run.parts) turns = parts-so run.full run.set run.shape limits run.parts is.parts_are happened.2 (looks-front run.set run.end turns keep) in
+    let controls : controls_by run.shape turns ≡ r.controls =
+    sym (ap (λ t. controls_by run.shape (t ++ turns)) one.is ∙ ap (λ e. controls_by run.shape turns ++ control_at run.shape e one.turn.did.tick (control_after turns)) one.event ∙ append-nil (controls_by run.shape turns)) in
+    let seen : came_by frames_in turns ≡ r.seen = sym (ap (λ t. came_by frames_in (t ++ turns)) one.is ∙ ap (λ e. came_by frames_in turns ++ frames_in one.turn.did.tick e) one.event ∙ append-nil (came_by frames_in turns)) in
+    let told : r.sessions ≡ records_by turns ++ one.turn.did.records = ap (λ t. records_by (t ++ turns)) one.is in
+    let row : EndRow run.set (state_after rx_new turns) (state_after rx_new turns).busy one.turn.did = subst (λ (e : RxEvent). RxStep run.set (state_after rx_new turns) e one.turn.did) one.event happened.1 in
+    let P : Option Reception → Option Meaning → List Seen → List Written → Type 0 = λ busy lies came left. SoBy run.full run.set run.shape (run.last + 1) (run.last + 1) (state_after rx_new turns).refusing lies busy came (records_by turns) left in
+    elim is.reached [
+      | inr reached ↦
+          law-ended run.full r law.tells (state_after rx_new turns) (state_after rx_new turns).busy one.turn.did (state_after rx_new turns).refusing (control_after turns) (records_by turns) told one.tick (λ on busy. omega (arith, so.since on busy, reached))
+          (subst (P (state_after rx_new turns).busy (control_after turns) r.seen) controls (subst (λ (c : List Seen). P (state_after rx_new turns).busy (control_after turns) c (controls_by run.shape turns)) seen
+          (subst (λ (t : ℕ). Holds run.full run.set run.shape limits t t turns) reached so.holds))) row
+      | inl idle ↦
+          law-ended run.full r law.tells (state_after rx_new turns) None one.turn.did (state_after rx_new turns).refusing None (records_by turns) told one.tick (λ on busy. cc)
+          (subst (P None None r.seen) controls (subst (λ (c : List Seen). P None None c (controls_by run.shape turns)) seen
+          (idle-later run.full run.set run.shape limits (tick_after run.parts) (run.last + 1) turns is.in_time idle happened.2 so.holds)))
+          (subst (λ (b : Option Reception). EndRow run.set (state_after rx_new turns) b one.turn.did) idle.receiver row)
+    ]

@@ -1,128 +1,191 @@
--- A receiver's run whose bus is never full: each part is one of a tick, its turns stand in order, and its flow controls' ticks rise.
-use Rattle.std.proofs.Common.{◌≡◌, inl, inr, ℕ, ◌+◌, ◌-◌, ◌≤◌, Bool, true, false, Option, Some, None, List, [], ◌∷◌, ◌++◌, refl, ap, sym, ◌∙◌, subst, arith, append-nil, append_assoc}
+-- A run of a receiver, turn by turn and tick by tick.
+use Rattle.receiver_law.proofs.receptions.RoomSteps.{IsTight, looks-front, tight-so}
+use Rattle.receiver_law.specs.Looks.{LooksKeepRoom}
+use Rattle.std.proofs.Common.{◌≡◌, inl, inr, ◌⊎◌, ℕ, ◌+◌, ◌-◌, ◌<◌, ◌≤◌, zero, suc, Bool, true, Option, Some, None, List, [], ◌∷◌, ◌++◌, map, refl, ap, sym, ◌∙◌, subst, arith, append-nil, append_assoc}
 use Rattle.std.specs.List.{AllByRecursion}
-use Rattle.gw_base.proofs.Lists.{none-some}
 use Rattle.hub_core.proofs.Turns.{happened-front}
+use Rattle.hub_core.specs.Turns.{Part, calls_by, came_by, now_of, records_by, state_after, tick_after, turns_of}
+use Rattle.hub_core.specs.View.{Event}
+use Rattle.hub_core.specs.declared.record.RxWait.{RxWait}
+use Rattle.hub_core.specs.declared.record.RxWait.TheVariants.{Box, Room, Cf}
+use Rattle.hub_core.specs.declared.record.SessionRecord.{SessionRecord}
+use Rattle.tp_attempts.specs.Seen.{Seen}
+use Rattle.tp_receiver.specs.Runs.{HasReceived, control_after, controls_by, frames_in}
+use Rattle.tp_receiver.specs.State.{Reception, RxEvent, RxState, RxTurn, Came, Timer, FcLeft, RunEnd, rx_new}
+use Rattle.tp_receiver.specs.Table.{FromBox, LeftRow, NotAwaited, RxStep, awaited_after}
 use Rattle.tp_receiver.specs.declared.set.RxSet.{RxSet}
-use Rattle.tp_receiver.specs.Runs.{HasReceived, control_after, control_at, controls_by}
-use Rattle.tp_receiver.specs.State.{RxEvent, RxTurn, Came, Timer, FcLeft, RunEnd}
-use Rattle.tp_unit.proofs.Rises.{Rise, rise-later, rise-written}
-use Rattle.tp_unit.specs.Box.{written_of}
+use Rattle.tp_unit.specs.Box.{Leaves, Nothing, Stays, Went, Written}
 use Rattle.tp_unit.specs.Unit.{Meaning}
 use Rattle.tp_unit.specs.declared.shape.Shape.{Shape}
-use Rattle.receiver_law.specs.Parts.{CameIn, ControlLeaves, EndsReceiving, ReceivesIn}
-use Rattle.receiver_law.specs.RxRun.{AreRxParts, IsLeftIn, IsRxPart, IsRxRun, RxRun, turns_in}
-use Rattle.hub_core.specs.Turns.{Part, tick_after, turns_of}
-use Rattle.tp_unit.specs.Box.{Nothing, IsNeverFull, Leaves, Stays, Went}
-use Rattle.receiver_law.proofs.controls.FlowSteps.{IsSettled, end-by, nothing-settled, on, tick-step}
-use Rattle.receiver_law.proofs.runs.RxTicks.{AreOrdered, AreOver, Ready, came-ordered, left-over, timer-ordered}
+use Rattle.receiver_law.specs.Receptions.{Received}
+use Rattle.receiver_law.specs.Laws.{HasLimits}
+use Rattle.receiver_law.specs.Parts.{CameIn}
+use Rattle.receiver_law.specs.RxRun.{AreRxParts, IsLeftIn, IsRxIdle, IsRxPart}
+use Rattle.receiver_law.specs.Source.{CountsFrom}
+use Rattle.receiver_law.proofs.receptions.Counting.{last-by}
+use Rattle.receiver_law.proofs.receptions.Going.{IsGoing, WaitsFor}
+use Rattle.receiver_law.proofs.receptions.Gone.{gone}
+use Rattle.receiver_law.proofs.receptions.SoFar.{IdleSo, SoBy, SoFar}
+use Rattle.receiver_law.proofs.receptions.Starting.{came}
+use Rattle.receiver_law.proofs.receptions.Timing.{idle-over, passes-on, timed}
+use Rattle.receiver_law.proofs.records.SourceLaws.{HoldsBy, holds}
 
--- what lies in the box leaves
-leaves : (full : ℕ → Bool) (tick : ℕ) (lies : Option Meaning) (left : List RxTurn) → IsNeverFull full → Leaves (IsLeftIn tick) full tick lies left → ControlLeaves tick lies left
-leaves full tick lies left never (Nothing none is) = rw none is
-leaves full tick lies left never (Went meaning turn some is went) = rw (some, is) (went.0, went.1, refl)
-leaves full tick lies left never (Stays meaning some is busy) = let clash : false ≡ true = sym (never tick) ∙ busy in absurd cc
+-- records are numbered from 0
+numbers : (set : RxSet) (next seq : ℕ) (busy : Option Reception) (calls : List Event) (now : ℕ) (seen : List Seen) (records : List SessionRecord) → HoldsBy set next seq busy calls now seen records → CountsFrom 0 (map (λ (told : SessionRecord). told.n) records)
+numbers set next seq None calls now seen records so = so.told.numbers
+numbers set next seq (Some busy) calls now seen records so = so.0.told.numbers
 
--- a part of a tick
-pub receives : (full : ℕ → Bool) (earlier : List RxTurn) (part : Part RxTurn) → IsNeverFull full → IsRxPart full earlier part → ReceivesIn part.tick earlier part.turns
-receives full earlier part never is = record {
-  came = is.came;
-  timer = is.timer;
-  left = is.left;
-  turns_are = is.turns_are;
-  came_only = is.came_only;
-  timer_is = is.timer_is;
-  timer_tick = is.timer_tick;
-  left_is = leaves full part.tick (control_after (is.timer ∷ (is.came ++ earlier))) is.left never is.left_is;
-}
+pub numbered : (set : RxSet) (turns : List RxTurn) → HasReceived set turns → CountsFrom 0 (map (λ (told : SessionRecord). told.n) (records_by turns))
+numbered set turns happened = numbers set (state_after rx_new turns).next (state_after rx_new turns).seq (state_after rx_new turns).busy (calls_by turns) (now_of turns) (came_by frames_in turns) (records_by turns) (holds set turns happened)
 
--- all parts so far
-pub record AreSettled (set : RxSet) (shape : Shape) (parts : List (Part RxTurn)) : Type 0 where
-  pub now : ℕ
-  pub bound : ℕ
-  pub now_by : now ≤ tick_after parts - 1
-  pub bound_by : bound ≤ tick_after parts
-  pub settled : IsSettled set shape now bound (turns_of parts)
+module _ (full : ℕ → Bool) (set : RxSet) (shape : Shape) (limits : HasLimits set) where
+  -- what is so after turns
+  abbrev pub Holds : (tick over : ℕ) → List RxTurn → Type 0
+  Holds tick over turns = SoFar full set shape tick over (state_after rx_new turns) (control_after turns) (came_by frames_in turns) (records_by turns) (controls_by shape turns)
 
-parts-settle : (set : RxSet) (shape : Shape) (full : ℕ → Bool) (parts : List (Part RxTurn)) → IsNeverFull full → AreRxParts full parts → HasReceived set (turns_of parts) → AreSettled set shape parts
-parts-settle set shape full [] never are happened = record { now = 0; bound = 0; now_by = omega arith; bound_by = omega arith; settled = nothing-settled set shape }
-parts-settle set shape full (part ∷ earlier) never are happened =
-    let so : AreSettled set shape earlier = parts-settle set shape full earlier never are.1 (happened-front _ part.turns (turns_of earlier) happened) in
-    record {
-      now = part.tick;
-      bound = part.tick + 1;
-      now_by = omega arith;
-      bound_by = omega arith;
-      settled = tick-step set shape part.tick (turns_of earlier) part.turns (receives full (turns_of earlier) part never are.0.part_is) happened
-          (on set shape so.now so.bound part.tick part.tick (turns_of earlier) (omega (arith, so.now_by, are.0.later)) (omega (arith, so.bound_by, are.0.later)) so.settled);
-    }
+  -- a reception waits since that tick or an earlier one
+  abbrev pub WaitsSince : ℕ → Option Reception → Type 0
+  WaitsSince tick busy = (on : Reception) → busy ≡ Some on → on.since ≤ tick
 
--- a whole run
-pub run-settles : (run : RxRun) → IsNeverFull run.full → IsRxRun run → (bound : ℕ) × IsSettled run.set run.shape run.last bound (turns_in run)
-run-settles run never is =
-    let so : AreSettled run.set run.shape run.parts = parts-settle run.set run.shape run.full run.parts never is.parts_are (happened-front _ run.end (turns_of run.parts) is.happened) in (
-      so.bound,
-      end-by run.set run.shape run.last so.bound run.end (turns_of run.parts) is.ends is.happened
-          (record { holds = on run.set run.shape so.now so.bound run.last so.bound (turns_of run.parts) (omega (arith, so.now_by, is.in_time)) (omega arith) so.settled; empty = so.settled.empty }),
-    )
+  came-step : (tick : ℕ) (turn : RxTurn) (turns : List RxTurn) (event : RxEvent) → turn.event ≡ event → CameIn tick event turn.did.tick → RxStep set (state_after rx_new turns) turn.event turn.did → HasReceived set turns → IsTight set (state_after rx_new turns) turn.did → Holds tick tick turns → Holds tick tick (turn ∷ turns)
+  came-step tick turn turns (Came size meaning) is at row happened tight so =
+      let step : RxStep set (state_after rx_new turns) (Came size meaning) turn.did = subst (λ (e : RxEvent). RxStep set (state_after rx_new turns) e turn.did) is row in
+      let here : Holds turn.did.tick turn.did.tick turns = subst (λ (t : ℕ). Holds t t turns) (sym at) so in
+      let all = came full set shape (state_after rx_new turns) size meaning turn.did (calls_by turns) (now_of turns) (control_after turns) (came_by frames_in turns) (records_by turns) (controls_by shape turns) limits.n_cr limits.n_ar tight (holds set turns happened) here step in
+      subst (λ (t : ℕ). Holds t t (turn ∷ turns)) at (rw (is, append-nil) all)
+  came-step tick turn turns Timer is at row happened tight so = absurd at
+  came-step tick turn turns FcLeft is at row happened tight so = absurd at
+  came-step tick turn turns RunEnd is at row happened tight so = absurd at
 
--- the turns of all parts stand in order
-pub ordered : (set : RxSet) (full : ℕ → Bool) (parts : List (Part RxTurn)) → IsNeverFull full → AreRxParts full parts → HasReceived set (turns_of parts) → AreOver (tick_after parts) (turns_of parts)
-ordered set full [] never are happened = record { ordered = tt; over = refl; empty = refl }
-ordered set full (part ∷ earlier) never are happened =
-    let before : List RxTurn = turns_of earlier in
-    let so : AreOver (tick_after earlier) before = ordered set full earlier never are.1 (happened-front _ part.turns before happened) in
-    let ready : Ready part.tick before = record {
-      early = omega (arith, so.over, are.0.later);
-      next = λ b some. elim are.0.next [
-        | inl idle ↦ absurd (none-some idle.receiver some)
-        | inr next ↦ next ∙ sym so.over
-      ];
-      same = λ m some. absurd (none-some so.empty some);
-    } in
-    let did : ReceivesIn part.tick before part.turns = receives full before part never are.0.part_is in
-    let frames : AreOrdered (did.came ++ before) × Ready part.tick (did.came ++ before) = came-ordered part.tick did.came before did.came_only ready so.ordered in
-    let timed : AreOrdered (did.timer ∷ (did.came ++ before)) = timer-ordered part.tick did.timer (did.came ++ before) did.timer_is did.timer_tick frames.1 frames.0 in
-    let are_all : part.turns ++ before ≡ did.left ++ did.timer ∷ (did.came ++ before) = ap (λ t. t ++ before) did.turns_are ∙ append_assoc did.left (did.timer ∷ did.came) before in
-    subst (AreOver (part.tick + 1)) (sym are_all)
-    (left-over set part.tick (control_after (did.timer ∷ (did.came ++ before))) did.left did.timer (did.came ++ before) refl did.left_is did.timer_is did.timer_tick timed (subst (HasReceived set) are_all happened))
+  all-came : (tick : ℕ) (frames earlier : List RxTurn) → AllByRecursion (λ (turn : RxTurn). CameIn tick turn.event turn.did.tick) frames → HasReceived set (frames ++ earlier) → LooksKeepRoom set (calls_by (frames ++ earlier)) → Holds tick tick earlier → Holds tick tick (frames ++ earlier)
+  all-came tick [] earlier all happened keep so = so
+  all-came tick (turn ∷ frames) earlier all happened keep so =
+      came-step tick turn (frames ++ earlier) turn.event refl all.0 happened.1 happened.2 (tight-so set turn (frames ++ earlier) happened keep) (all-came tick frames earlier all.1 happened.2 (looks-front set (turn ∷ []) (frames ++ earlier) keep) so)
 
--- a frame that came writes nothing
-came-silent : (shape : Shape) (tick at : ℕ) (event : RxEvent) (lies : Option Meaning) → CameIn tick event at → control_at shape event at lies ≡ []
-came-silent shape tick at (Came size meaning) lies is = refl
-came-silent shape tick at Timer lies is = absurd is
-came-silent shape tick at FcLeft lies is = absurd is
-came-silent shape tick at RunEnd lies is = absurd is
+  timer-step : (tick : ℕ) (turn : RxTurn) (turns : List RxTurn) → turn.event ≡ Timer → turn.did.tick ≡ tick → RxStep set (state_after rx_new turns) turn.event turn.did → HasReceived set turns → Holds tick tick turns → Holds tick (tick + 1) (turn ∷ turns)
+  timer-step tick turn turns is at row happened so =
+      let step : RxStep set (state_after rx_new turns) Timer turn.did = subst (λ (e : RxEvent). RxStep set (state_after rx_new turns) e turn.did) is row in
+      let here : Holds turn.did.tick turn.did.tick turns = subst (λ (t : ℕ). Holds t t turns) (sym at) so in
+      let all = timed full set shape (state_after rx_new turns) (state_after rx_new turns).busy turn.did (calls_by turns) (now_of turns) (control_after turns) (came_by frames_in turns) (records_by turns) (controls_by shape turns) limits.n_ar refl (holds set turns happened) here step in
+      subst (λ (t : ℕ). Holds t (t + 1) (turn ∷ turns)) at (rw (is, append-nil) (rw append-nil all))
 
-all-came-silent : (shape : Shape) (tick : ℕ) (came earlier : List RxTurn) → AllByRecursion (λ (turn : RxTurn). CameIn tick turn.event turn.did.tick) came → controls_by shape (came ++ earlier) ≡ controls_by shape earlier
-all-came-silent shape tick [] earlier all = refl
-all-came-silent shape tick (turn ∷ came) earlier all = rw (came-silent shape tick turn.did.tick turn.event (control_after (came ++ earlier)) all.0, append-nil) (all-came-silent shape tick came earlier all.1)
+  -- since when a reception waits, once the timer's turn is over
+  going-since : (tick : ℕ) (lies : Option Meaning) (busy : Reception) (attempt : _) (own : _) → IsGoing full set tick (tick + 1) lies busy attempt own → busy.since ≤ tick
+  going-since tick lies busy attempt own so = of busy.wait so.waits_for
+    where
+      of : (wait : RxWait) → WaitsFor full set tick (tick + 1) lies busy so.start so.frames own wait → busy.since ≤ tick
+      of Box waits = waits.by
+      of Room waits = omega (arith, (subst (AllByRecursion (λ c. (busy.begin ≤ c.tick) × (c.tick < tick))) waits.newest so.under.answers.within).0.1)
+      of Cf waits = omega (arith, waits.since_is, (subst (AllByRecursion (λ c. (busy.begin ≤ c.tick) × (c.tick < tick))) waits.newest so.under.answers.within).0.1, last-by tick so.start.at so.frames (omega (arith, so.under.begin, so.under.by)) so.under.early)
 
-control-leaves : (shape : Shape) (tick : ℕ) (lies : Option Meaning) (left before : List RxTurn) → control_after before ≡ lies → ControlLeaves tick lies left → controls_by shape (left ++ before) ≡ controls_by shape before ++ written_of shape tick lies
-control-leaves shape tick None left before is row = rw (row, append-nil) refl
-control-leaves shape tick (Some meaning) [] before is row = absurd row
-control-leaves shape tick (Some meaning) (turn ∷ more) before is row = rw (row.2, row.0, row.1, is) refl
+  so-since : (tick : ℕ) (refusing : Option ℕ) (lies : Option Meaning) (busy : Option Reception) (seen : List Seen) (records : List SessionRecord) (written : List Written) → SoBy full set shape tick (tick + 1) refusing lies busy seen records written → WaitsSince tick busy
+  so-since tick refusing lies None seen records written so on is = cc
+  so-since tick refusing lies (Some busy) seen records written so on is = let same : busy ≡ on = cc in subst (λ (b : Reception). b.since ≤ tick) same (going-since tick lies busy so.attempt so.own so.going)
 
--- what a part of a tick writes
-pub receives-written : (shape : Shape) (tick : ℕ) (earlier turns : List RxTurn) → ReceivesIn tick earlier turns → (lies : Option Meaning) × (controls_by shape (turns ++ earlier) ≡ controls_by shape earlier ++ written_of shape tick lies)
-receives-written shape tick earlier turns did =
-    let before : List RxTurn = did.timer ∷ (did.came ++ earlier) in
-    let silent : controls_by shape before ≡ controls_by shape earlier = rw (did.timer_is, append-nil) (all-came-silent shape tick did.came earlier did.came_only) in
-    let is : turns ++ earlier ≡ did.left ++ before = ap (λ t. t ++ earlier) did.turns_are ∙ append_assoc did.left (did.timer ∷ did.came) earlier in
-    (control_after before, ap (controls_by shape) is ∙ control-leaves shape tick (control_after before) did.left before refl did.left_is ∙ ap (λ l. l ++ written_of shape tick (control_after before)) silent)
+  left-since : (old : RxState) (busy : Option Reception) (turn : RxTurn) → old.busy ≡ busy → WaitsSince turn.did.tick busy → LeftRow old busy turn.did → WaitsSince turn.did.tick turn.did.new.busy
+  left-since old None turn was since row on is = let none : None ≡ Some on = sym was ∙ sym (ap (λ (s : RxState). s.busy) row.new) ∙ is in cc
+  left-since old (Some busy) turn was since (FromBox box row) on is =
+      let both : Some (record busy { wait = awaited_after busy.left; since = turn.did.tick }) ≡ Some on = sym (ap (λ (s : RxState). s.busy) row.new) ∙ is in
+      let same : record busy { wait = awaited_after busy.left; since = turn.did.tick } ≡ on = cc in subst (λ (b : Reception). b.since ≤ turn.did.tick) same (omega arith)
+  left-since old (Some busy) turn was since (NotAwaited other row) on is = since on (sym (ap (λ (s : RxState). s.busy) row.new) ∙ is)
 
-controls-rise : (shape : Shape) (full : ℕ → Bool) (parts : List (Part RxTurn)) → IsNeverFull full → AreRxParts full parts → Rise 0 (controls_by shape (turns_of parts)) (tick_after parts)
-controls-rise shape full [] never are = omega arith
-controls-rise shape full (part ∷ earlier) never are =
-    let left = receives-written shape part.tick (turns_of earlier) part.turns (receives full (turns_of earlier) part never are.0.part_is) in
-    rw left.1 (rise-written shape 0 (tick_after earlier) part.tick (controls_by shape (turns_of earlier)) left.0 are.0.later (controls-rise shape full earlier never are.1))
+  -- a flow control that leaves
+  left-step : (tick : ℕ) (meaning : Meaning) (turn : RxTurn) (turns : List RxTurn) → turn.event ≡ FcLeft → turn.did.tick ≡ tick → control_after turns ≡ Some meaning → RxStep set (state_after rx_new turns) turn.event turn.did → HasReceived set turns → Holds tick (tick + 1) turns → WaitsSince tick (state_after rx_new turns).busy →
+      Holds (tick + 1) (tick + 1) (turn ∷ turns) × WaitsSince tick (state_after rx_new (turn ∷ turns)).busy
+  left-step tick meaning turn turns is at lies row happened so since =
+      let step : RxStep set (state_after rx_new turns) FcLeft turn.did = subst (λ (e : RxEvent). RxStep set (state_after rx_new turns) e turn.did) is row in
+      let here : SoFar full set shape turn.did.tick (turn.did.tick + 1) (state_after rx_new turns) (Some meaning) (came_by frames_in turns) (records_by turns) (controls_by shape turns) =
+      subst (λ (l : Option Meaning). SoFar full set shape turn.did.tick (turn.did.tick + 1) (state_after rx_new turns) l (came_by frames_in turns) (records_by turns) (controls_by shape turns)) lies (subst (λ (t : ℕ). Holds t (t + 1) turns) (sym at) so) in
+      let all = gone full set shape (state_after rx_new turns) (state_after rx_new turns).busy turn.did meaning (came_by frames_in turns) (records_by turns) (controls_by shape turns) limits.n_cr limits.n_br (numbered set turns happened) refl here step in (
+        subst (λ (t : ℕ). Holds (t + 1) (t + 1) (turn ∷ turns)) at (rw (is, lies) (rw append-nil all)),
+        subst (λ (t : ℕ). WaitsSince t turn.did.new.busy) at (left-since (state_after rx_new turns) (state_after rx_new turns).busy turn refl (subst (λ (t : ℕ). WaitsSince t (state_after rx_new turns).busy) (sym at) since) step),
+      )
 
--- the run's end writes nothing
-end-silent : (shape : Shape) (last : ℕ) (end earlier : List RxTurn) → EndsReceiving last end → controls_by shape (end ++ earlier) ≡ controls_by shape earlier
-end-silent shape last [] earlier ends = absurd ends
-end-silent shape last (turn ∷ more) earlier ends = rw (ends.2, ends.0, append-nil) refl
+  -- what is so once a tick is over
+  pub record IsPast (tick : ℕ) (turns : List RxTurn) : Type 0 where
+    pub holds : Holds tick tick turns
+    pub since : (on : Reception) → (state_after rx_new turns).busy ≡ Some on → on.since < tick
 
--- the ticks of what a run wrote strictly rise, up to its last tick
-pub controls-of-run-rise : (run : RxRun) → IsNeverFull run.full → IsRxRun run → Rise 0 (controls_by run.shape (turns_in run)) (run.last + 1)
-controls-of-run-rise run never is =
-    rw (end-silent run.shape run.last run.end (turns_of run.parts) is.ends) (rise-later 0 (tick_after run.parts) (run.last + 1) (controls_by run.shape (turns_of run.parts)) is.in_time (controls-rise run.shape run.full run.parts never is.parts_are))
+  past : (tick : ℕ) (turns : List RxTurn) → Holds (tick + 1) (tick + 1) turns × WaitsSince tick (state_after rx_new turns).busy → IsPast (tick + 1) turns
+  past tick turns both = record { holds = both.0; since = λ on is. omega (arith, both.1 on is) }
+
+  leaves-by : (tick : ℕ) (lies : Option Meaning) (left before : List RxTurn) → control_after before ≡ lies → Leaves (IsLeftIn tick) full tick lies left → HasReceived set (left ++ before) → HasReceived set before → Holds tick (tick + 1) before → IsPast (tick + 1) (left ++ before)
+  leaves-by tick lies left before is (Nothing none gone_is) happened earlier so =
+      subst (λ (l : List RxTurn). IsPast (tick + 1) (l ++ before)) (sym gone_is)
+      (past tick before (stay before earlier (inl (is ∙ none)) so, so-since tick (state_after rx_new before).refusing (control_after before) (state_after rx_new before).busy (came_by frames_in before) (records_by before) (controls_by shape before) so))
+    where
+      stay : (turns : List RxTurn) → HasReceived set turns → (control_after turns ≡ None) ⊎ (full tick ≡ true) → Holds tick (tick + 1) turns → Holds (tick + 1) (tick + 1) turns
+      stay turns received still all = passes-on full set shape tick (state_after rx_new turns).refusing (control_after turns) (state_after rx_new turns).busy (came_by frames_in turns) (records_by turns) (controls_by shape turns) (numbered set turns received) still all
+  leaves-by tick lies left before is (Stays meaning some gone_is busy) happened earlier so =
+      subst (λ (l : List RxTurn). IsPast (tick + 1) (l ++ before)) (sym gone_is)
+      (past tick before (
+        passes-on full set shape tick (state_after rx_new before).refusing (control_after before) (state_after rx_new before).busy (came_by frames_in before) (records_by before) (controls_by shape before) (numbered set before earlier) (inr busy) so,
+        so-since tick (state_after rx_new before).refusing (control_after before) (state_after rx_new before).busy (came_by frames_in before) (records_by before) (controls_by shape before) so,
+      ))
+  leaves-by tick lies left before is (Went meaning turn some left_is went) happened earlier so =
+      let row : HasReceived set (turn ∷ before) = subst (λ (l : List RxTurn). HasReceived set (l ++ before)) left_is happened in
+      subst (λ (l : List RxTurn). IsPast (tick + 1) (l ++ before)) (sym left_is)
+      (past tick (turn ∷ before) (left-step tick meaning turn before went.0 went.1 (is ∙ some) row.1 earlier so
+      (so-since tick (state_after rx_new before).refusing (control_after before) (state_after rx_new before).busy (came_by frames_in before) (records_by before) (controls_by shape before) so)))
+
+  -- a part of a tick
+  part-step : (earlier : List RxTurn) (part : Part RxTurn) → IsRxPart full earlier part → HasReceived set (part.turns ++ earlier) → LooksKeepRoom set (calls_by (part.turns ++ earlier)) → Holds part.tick part.tick earlier → IsPast (part.tick + 1) (part.turns ++ earlier)
+  part-step earlier part did happened keep so =
+      let before : List RxTurn = did.timer ∷ (did.came ++ earlier) in
+      let is : part.turns ++ earlier ≡ did.left ++ before = ap (λ t. t ++ earlier) did.turns_are ∙ append_assoc did.left (did.timer ∷ did.came) earlier in
+      let all : HasReceived set (did.left ++ before) = subst (HasReceived set) is happened in
+      let here : HasReceived set before = happened-front _ did.left before all in
+      let keep_all : LooksKeepRoom set (calls_by (did.left ++ before)) = subst (λ (t : List RxTurn). LooksKeepRoom set (calls_by t)) is keep in
+      let keep_frames : LooksKeepRoom set (calls_by (did.came ++ earlier)) = looks-front set (did.timer ∷ []) (did.came ++ earlier) (looks-front set did.left before keep_all) in
+      let frames : Holds part.tick part.tick (did.came ++ earlier) = all-came part.tick did.came earlier did.came_only here.2 keep_frames so in
+      subst (IsPast (part.tick + 1)) (sym is)
+      (leaves-by part.tick (control_after before) did.left before refl did.left_is all here (timer-step part.tick did.timer (did.came ++ earlier) did.timer_is did.timer_tick here.1 here.2 frames))
+
+  -- ticks that are left out, while the receiver is idle and its box is empty
+  skip-one : (tick : ℕ) (refusing : Option ℕ) (seen : List Seen) (records : List SessionRecord) (written : List Written) → CountsFrom 0 (map (λ (told : SessionRecord). told.n) records) → IdleSo full set shape tick tick refusing None seen records written → IdleSo full set shape (tick + 1) (tick + 1) refusing None seen records written
+  skip-one tick None seen records written counts so = passes-on full set shape tick None None None seen records written counts (inl refl) (idle-over full set shape tick None None seen records written so refl)
+  skip-one tick (Some since) seen records written counts so = let clash : None ≡ Some _ = so.box.lies_is in cc
+
+  skip : (tick more : ℕ) (refusing : Option ℕ) (seen : List Seen) (records : List SessionRecord) (written : List Written) → CountsFrom 0 (map (λ (told : SessionRecord). told.n) records) → IdleSo full set shape tick tick refusing None seen records written → IdleSo full set shape (tick + more) (tick + more) refusing None seen records written
+  skip tick zero refusing seen records written counts so = let same : tick + 0 ≡ tick = omega arith in subst (λ (t : ℕ). IdleSo full set shape t t refusing None seen records written) (sym same) so
+  skip tick (suc more) refusing seen records written counts so =
+      let same : tick + 1 + more ≡ tick + suc more = omega arith in
+      subst (λ (t : ℕ). IdleSo full set shape t t refusing None seen records written) same (skip (tick + 1) more refusing seen records written counts (skip-one tick refusing seen records written counts so))
+
+  pub idle-later : (tick later : ℕ) (turns : List RxTurn) → tick ≤ later → IsRxIdle turns → HasReceived set turns → Holds tick tick turns → IdleSo full set shape later later (state_after rx_new turns).refusing None (came_by frames_in turns) (records_by turns) (controls_by shape turns)
+  idle-later tick later turns le idle happened so =
+      let here : IdleSo full set shape tick tick (state_after rx_new turns).refusing None (came_by frames_in turns) (records_by turns) (controls_by shape turns) =
+      subst (λ (l : Option Meaning). IdleSo full set shape tick tick (state_after rx_new turns).refusing l (came_by frames_in turns) (records_by turns) (controls_by shape turns)) idle.box
+      (subst (λ (b : Option Reception). SoBy full set shape tick tick (state_after rx_new turns).refusing (control_after turns) b (came_by frames_in turns) (records_by turns) (controls_by shape turns)) idle.receiver so) in
+      let same : tick + (later - tick) ≡ later = omega (arith, le) in
+      subst (λ (t : ℕ). IdleSo full set shape t t (state_after rx_new turns).refusing None (came_by frames_in turns) (records_by turns) (controls_by shape turns)) same
+      (skip tick (later - tick) (state_after rx_new turns).refusing (came_by frames_in turns) (records_by turns) (controls_by shape turns) (numbered set turns happened) here)
+
+  -- all parts so far
+  nothing-came : IsPast 0 []
+  nothing-came = record {
+    holds = record {
+      parts = [];
+      told = record { settled = tt; records_are = refl; written_are = refl; by = tt };
+      last = λ front one are is. absurd (never front one are);
+      box = refl;
+    };
+    since = λ on is. cc;
+  }
+    where
+      never : (front : List Received) (one : Received) → [] ≡ front ++ one ∷ [] → ⊥
+      never [] one is = cc
+      never (x ∷ front) one is = cc
+
+  pub parts-so : (parts : List (Part RxTurn)) → AreRxParts full parts → HasReceived set (turns_of parts) → LooksKeepRoom set (calls_by (turns_of parts)) → IsPast (tick_after parts) (turns_of parts)
+  parts-so [] are happened keep = nothing-came
+  parts-so (part ∷ earlier) are happened keep =
+      let before : HasReceived set (turns_of earlier) = happened-front _ part.turns (turns_of earlier) happened in
+      let so : IsPast (tick_after earlier) (turns_of earlier) = parts-so earlier are.1 before (looks-front set part.turns (turns_of earlier) keep) in
+      part-step (turns_of earlier) part are.0.part_is happened keep (elim are.0.next [
+        | inr next ↦ subst (λ (t : ℕ). Holds t t (turns_of earlier)) (sym next) so.holds
+        | inl idle ↦
+            let later : IdleSo full set shape part.tick part.tick (state_after rx_new (turns_of earlier)).refusing None (came_by frames_in (turns_of earlier)) (records_by (turns_of earlier)) (controls_by shape (turns_of earlier)) = idle-later (tick_after earlier) part.tick (turns_of earlier) are.0.later idle before so.holds in
+            subst (λ (b : Option Reception). SoBy full set shape part.tick part.tick (state_after rx_new (turns_of earlier)).refusing (control_after (turns_of earlier)) b (came_by frames_in (turns_of earlier)) (records_by (turns_of earlier)) (controls_by shape (turns_of earlier))) (sym idle.receiver)
+            (subst (λ (l : Option Meaning). IdleSo full set shape part.tick part.tick (state_after rx_new (turns_of earlier)).refusing l (came_by frames_in (turns_of earlier)) (records_by (turns_of earlier)) (controls_by shape (turns_of earlier))) (sym idle.box) later)
+      ])

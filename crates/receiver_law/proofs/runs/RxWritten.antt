@@ -1,4 +1,4 @@
--- What leaves on a source's channel is one of its receiver's two flow controls, written in the channel's shape.
+-- What leaves on a source's channel is one of its receiver's flow controls, written in the channel's shape.
 use Rattle.std.proofs.Common.{ℕ, Option, None, Some, List, [], ◌∷◌, refl}
 use Rattle.std.specs.List.{AllByRecursion}
 use Rattle.gw_base.proofs.Lists.{all-join}
@@ -12,9 +12,9 @@ use Rattle.tp_unit.specs.Box.{box_then}
 use Rattle.tp_unit.specs.declared.shape.Shape.{Shape}
 use Rattle.tp_unit.specs.Unit.{BoxMeaning, Keeps, Offers, Revokes, Meaning}
 use Rattle.receiver_law.specs.Channel.{WritesControl}
-use Rattle.receiver_law.proofs.controls.Offers.{control-fits}
+use Rattle.receiver_law.proofs.runs.Offers.{control-fits}
 
--- what lies in the receiver's box is one of its two flow controls
+-- what lies in the receiver's box is one of its flow controls
 abbrev pub IsControlIn : RxSet → Option Meaning → Type 0
 IsControlIn set None = Unit {0}
 IsControlIn set (Some meaning) = IsControl set meaning
@@ -39,7 +39,7 @@ written-control : (set : RxSet) (shape : Shape) (event : RxEvent) (tick : ℕ) (
 written-control set shape (Came size meaning) tick lies so = tt
 written-control set shape Timer tick lies so = tt
 written-control set shape FcLeft tick None so = tt
-written-control set shape FcLeft tick (Some meaning) so = (record { meaning = meaning; either = so; fits = control-fits set shape meaning so; frame = refl }, tt)
+written-control set shape FcLeft tick (Some meaning) so = (record { meaning = meaning; control = so; fits = control-fits set shape meaning so; frame = refl }, tt)
 written-control set shape RunEnd tick lies so = tt
 
 pub are-controls : (set : RxSet) (shape : Shape) (turns : List RxTurn) → HasReceived set turns → AllByRecursion (WritesControl set shape) (controls_by shape turns)

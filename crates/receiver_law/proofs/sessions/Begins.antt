@@ -15,7 +15,7 @@ use Rattle.receiver_law.proofs.sessions.Entries.{entry_by, join-lists}
 use Rattle.gw_base.proofs.Lists.{all-join, slice_get-more}
 use Rattle.tp_attempts.specs.Seen.{bytes_of}
 use Rattle.tp_receiver.specs.declared.set.RxSet.{RxSet}
-use Rattle.tp_receiver.specs.Effects.{Ends, Looks, Opens, Puts, Refuses, RxDone, RxEffect, RxStage, Waits}
+use Rattle.tp_receiver.specs.Effects.{Ends, Forgets, Looks, Opens, Puts, Refuses, RxDone, RxEffect, RxStage, Waits}
 use Rattle.tp_receiver.specs.Runs.{HasReceived}
 use Rattle.tp_receiver.specs.State.{Reception, RxDid, RxEvent, RxState, RxTurn, rx_new}
 use Rattle.tp_receiver.specs.Table.{Opens as OpensSession, RxStep, begun}
@@ -63,16 +63,17 @@ none-put : (tick path seq count : ℕ) (cells : List ℕ) → begins_in tick (ma
 none-put tick path seq count [] = refl
 none-put tick path seq count (cell ∷ cells) = none-put tick path seq count cells
 
-opens : (set : RxSet) (seq len tick next size count : ℕ) (bytes : List ℕ) (opened : OpenedAt) (opening : List Event) → OpensSession set seq len bytes opened opening → AreBegun tick None opening [] (Some (begun next len size count tick opened))
+opens : (set : RxSet) (seq len tick next size count : ℕ) (bytes : List ℕ) (opened : OpenedAt) (opening : List Event) → OpensSession set seq size len bytes opened opening → AreBegun tick None opening [] (Some (begun next len size count tick opened))
 opens set seq len tick next size count bytes opened opening row = rw (row.calls_are, none-put tick set.path.0 seq (counted row.cells) row.cells) refl
 
 -- each effect
 begun-effect : (set : RxSet) (event : RxEvent) (tick : ℕ) (old : RxStage) (done : RxDone) → RxEffect set event tick old done → AreBegun tick old.state.busy done.calls done.records done.new.state.busy
-begun-effect set event tick old done (Refuses e) = rw (e.of.idle, e.calls, e.records, e.new) refl
+begun-effect set event tick old done (Refuses e) = rw (e.calls, e.records, e.new, e.of.idle) refl
 begun-effect set event tick old done (Opens e) = rw (e.of.idle, e.records, e.new) (opens set old.state.seq _ tick old.state.next e.size (length (bytes_of e.meaning)) _ e.opened done.calls e.opens)
 begun-effect set event tick old done (Looks e) = rw (e.calls, e.records, e.new, e.was) refl
 begun-effect set event tick old done (Puts e) = rw (e.was, e.calls, e.records, e.new, none-put tick set.path.0 e.busy.opened.seq (counted e.cells) e.cells) refl
 begun-effect set event tick old done (Waits e) = rw (e.was, e.calls, e.records, e.new) refl
+begun-effect set event tick old done (Forgets e) = rw (e.calls, e.records, e.new, e.idle) refl
 begun-effect set event tick old done (Ends e) = rw (e.was, e.calls, e.records, e.new) refl
 
 -- a step

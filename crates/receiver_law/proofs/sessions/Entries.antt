@@ -1,5 +1,5 @@
 -- What a receiver's calls and records say of its sessions: what is fixed of each as it is entered, and what became of each start's need.
-use Rattle.std.proofs.Common.{◌≡◌, ℕ, ◌+◌, ◌<◌, Bool, Option, Some, None, option_map, if◌then◌else◌, List, [], ◌∷◌, ◌++◌, length, map, refl, ap, sym, ◌∙◌, arith, append-nil, append_assoc}
+use Rattle.std.proofs.Common.{◌≡◌, ℕ, ◌+◌, ◌<◌, Option, Some, None, option_map, if◌then◌else◌, List, [], ◌∷◌, ◌++◌, length, map, refl, ap, sym, ◌∙◌, arith, append-nil, append_assoc}
 use Rattle.std.specs.Prelude.{option_to_list}
 use Rattle.std.specs.List.{flat_map}
 use Rattle.std.proofs.lemmas.List.{length-append, map-append}
@@ -9,10 +9,11 @@ use Rattle.hub_core.specs.declared.record.OpenedAt.{OpenedAt}
 use Rattle.hub_core.specs.declared.record.SessionRecord.{SessionRecord}
 use Rattle.hub_core.specs.declared.record.SessionResult.{SessionResult}
 use Rattle.hub_core.specs.declared.record.SessionResult.TheVariants.{Whole, Overflow, WrongSn, RxTimeout, Restarted, NoRoom, WaitOver, NoReaders, Cancelled, RunEnd as EndOfRun}
-use Rattle.tp_attempts.specs.Seen.{bytes_of, is_start}
+use Rattle.tp_attempts.specs.Seen.{bytes_of, is_start, len_of}
+use Rattle.tp_receiver.specs.Grant.{need_of}
 use Rattle.tp_receiver.specs.Runs.{cell_in}
 use Rattle.tp_receiver.specs.State.{Reception, RxEvent, Came, Timer, FcLeft, RunEnd, RxTurn}
-use Rattle.tp_receiver.specs.Table.{cells_of}
+use Rattle.tp_receiver.specs.declared.set.RxSet.{RxSet}
 use Rattle.tp_unit.specs.Unit.{Meaning}
 use Rattle.hub_core.proofs.Sides.{Fill, Side, added, fill-join, fill-none}
 
@@ -111,19 +112,19 @@ abbrev pub outcome_going : Option Reception → List Outcome
 outcome_going None = []
 outcome_going (Some busy) = Granted busy.opened.change busy.opened.buf.0 ∷ []
 
--- the need of a start's bytes
-abbrev pub need_at : Meaning → ℕ
-need_at meaning = cells_of (length (bytes_of meaning))
+-- the need of a start that comes in a frame of so many bytes
+abbrev pub need_at : RxSet → (size : ℕ) → Meaning → ℕ
+need_at set size meaning = need_of set size (len_of meaning) (length (bytes_of meaning))
 
-abbrev pub need_in : Bool → RxEvent → List ℕ
-need_in functional (Came size meaning) = if is_start functional meaning then need_at meaning ∷ [] else []
-need_in functional Timer = []
-need_in functional FcLeft = []
-need_in functional RunEnd = []
+abbrev pub need_in : RxSet → RxEvent → List ℕ
+need_in set (Came size meaning) = if is_start set.functional meaning then need_at set size meaning ∷ [] else []
+need_in set Timer = []
+need_in set FcLeft = []
+need_in set RunEnd = []
 
-abbrev pub needs_by : Bool → List RxTurn → List ℕ
-needs_by functional [] = []
-needs_by functional (turn ∷ earlier) = needs_by functional earlier ++ need_in functional turn.event
+abbrev pub needs_by : RxSet → List RxTurn → List ℕ
+needs_by set [] = []
+needs_by set (turn ∷ earlier) = needs_by set earlier ++ need_in set turn.event
 
 -- the reception in progress is of one of the sessions
 abbrev pub IsBelow : ℕ → Option Reception → Type 0

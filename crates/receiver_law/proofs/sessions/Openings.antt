@@ -12,10 +12,11 @@ use Rattle.hub_core.specs.declared.record.SessionRecord.{SessionRecord}
 use Rattle.hub_core.specs.declared.record.SessionResult.{SessionResult}
 use Rattle.hub_core.specs.declared.record.SessionResult.TheVariants.{Whole, Overflow, WrongSn, RxTimeout, Restarted, NoRoom, WaitOver, NoReaders, Cancelled, RunEnd as EndOfRun}
 use Rattle.tp_receiver.specs.declared.set.RxSet.{RxSet}
-use Rattle.tp_receiver.specs.Effects.{Ends, HasConsecutive, EndsAt, IsUnused, Looks, Opens, Puts, Refuses, RxDone, RxEffect, RxStage, Waits, first_stage, used_after}
+use Rattle.tp_receiver.specs.Effects.{Ends, Forgets, HasConsecutive, EndsAt, IsUnused, Looks, Opens, Puts, Refuses, RxDone, RxEffect, RxStage, Waits, first_stage, used_after}
+use Rattle.tp_receiver.specs.Grant.{need_of}
 use Rattle.tp_receiver.specs.Runs.{HasReceived}
 use Rattle.tp_receiver.specs.State.{Reception, RxState, RxEvent, Came, Timer, FcLeft, RunEnd, RxTurn, rx_new}
-use Rattle.tp_receiver.specs.Table.{Opens as OpensSession, begun, cells_of, puts}
+use Rattle.tp_receiver.specs.Table.{Opens as OpensSession, begun, puts}
 use Rattle.tp_receiver.proofs.Through.{IsThrough, step-through}
 use Rattle.hub_core.proofs.Sides.{Fill, fill-adds, fill-changes, fill-join, fill-none, fill-pushes, fill-same}
 use Rattle.receiver_law.proofs.sessions.Entries.{entry_by, writing, entries_told, entry_going, outcome_by, need_by, need_at, need_in, needs_by, IsBelow, Enters, enters-none, enters-join}
@@ -62,24 +63,24 @@ none-puts by path seq count [] put none = rw none refl
 none-puts by path seq count (cell ∷ cells) put none = rw (put cell) (none-puts by path seq count cells put none)
 
 -- the needs of a step so far: that of its start, once its frame is used
-abbrev needs_so : Bool → RxEvent → Bool → List ℕ
-needs_so functional event used = if used then need_in functional event else []
+abbrev needs_so : RxSet → RxEvent → Bool → List ℕ
+needs_so set event used = if used then need_in set event else []
 
 -- what an effect adds
 record EntersBy (set : RxSet) (event : RxEvent) (old : RxStage) (calls : List Event) (records : List SessionRecord) (new : RxStage) : Type 0 where
   more : List ℕ
   enters : Enters set.path.0 old.state.seq more old.state.busy calls records new.state.seq new.state.busy
-  needs : needs_so set.functional event old.used ++ more ≡ needs_so set.functional event new.used
+  needs : needs_so set event old.used ++ more ≡ needs_so set event new.used
 
-opens-so : (set : RxSet) (next seq len size count tick : ℕ) (bytes : List ℕ) (opened : OpenedAt) (opening : List Event) → OpensSession set seq len bytes opened opening → Enters set.path.0 seq (cells_of (length bytes) ∷ []) None opening [] (seq + 1) (Some (begun next len size count tick opened))
+opens-so : (set : RxSet) (next seq len size count tick : ℕ) (bytes : List ℕ) (opened : OpenedAt) (opening : List Event) → OpensSession set seq size len bytes opened opening → Enters set.path.0 seq (need_of set size len (length bytes) ∷ []) None opening [] (seq + 1) (Some (begun next len size count tick opened))
 opens-so set next seq len size count tick bytes opened opening row =
     let path : ℕ = set.path.0 in
-    let took : Event = Took set.group.0 opened.change opened.buf.0 row.size row.need in
-    let entered : Event = Entered path seq opened.buf.0 opened.change row.size len set.readers in
+    let took : Event = Took set.group.0 opened.change opened.buf.0 row.buffer row.need in
+    let entered : Event = Entered path seq opened.buf.0 opened.change row.buffer len set.readers in
     let put : List Event = puts path seq row.cells in
     rw row.calls_are (record {
-      fill = fill-join (writing path) seq seq (took ∷ []) (entered ∷ put) (omega arith) (fill-took set.group.0 path seq opened.change opened.buf.0 row.size row.need)
-          (fill-join (writing path) seq (seq + 1) (entered ∷ []) put refl (fill-entered path seq seq opened.buf.0 opened.change row.size len set.readers) (fill-cells path (seq + 1) seq (counted row.cells) row.cells (omega arith)));
+      fill = fill-join (writing path) seq seq (took ∷ []) (entered ∷ put) (omega arith) (fill-took set.group.0 path seq opened.change opened.buf.0 row.buffer row.need)
+          (fill-join (writing path) seq (seq + 1) (entered ∷ []) put refl (fill-entered path seq seq opened.buf.0 opened.change row.buffer len set.readers) (fill-cells path (seq + 1) seq (counted row.cells) row.cells (omega arith)));
       count = rw (none-puts entry_by path seq (counted row.cells) row.cells (λ cell. refl) refl) refl;
       entries = rw (none-puts entry_by path seq (counted row.cells) row.cells (λ cell. refl) refl) refl;
       outcomes = rw (none-puts outcome_by path seq (counted row.cells) row.cells (λ cell. refl) refl) refl;
@@ -103,27 +104,27 @@ pub below-of : (n : ℕ) (was : Option Reception) (busy : Reception) → was ≡
 below-of n was busy is below = subst (IsBelow n) is below
 
 -- an end uses its frame where its number is wrong, and that is no start
-needs-ended : (set : RxSet) (event : RxEvent) (old : RxStage) (busy : Reception) (result : SessionResult) → EndsAt set event old busy result → needs_so set.functional event old.used ++ [] ≡ needs_so set.functional event (used_after result old.used)
-needs-ended set event old busy Whole at = append-nil (needs_so set.functional event old.used)
+needs-ended : (set : RxSet) (event : RxEvent) (old : RxStage) (busy : Reception) (result : SessionResult) → EndsAt set event old busy result → needs_so set event old.used ++ [] ≡ needs_so set event (used_after result old.used)
+needs-ended set event old busy Whole at = append-nil (needs_so set event old.used)
 needs-ended set event old busy (Overflow change free need) at = absurd at
 needs-ended set event old busy (WrongSn want got) at = let came : HasConsecutive set event old busy at.2.0 got at.2.1 = at.2.2 in rw (came.unused, came.came) refl
-needs-ended set event old busy (RxTimeout limit) at = append-nil (needs_so set.functional event old.used)
-needs-ended set event old busy Restarted at = append-nil (needs_so set.functional event old.used)
-needs-ended set event old busy (NoRoom room need) at = append-nil (needs_so set.functional event old.used)
-needs-ended set event old busy WaitOver at = append-nil (needs_so set.functional event old.used)
-needs-ended set event old busy NoReaders at = append-nil (needs_so set.functional event old.used)
-needs-ended set event old busy Cancelled at = append-nil (needs_so set.functional event old.used)
-needs-ended set event old busy (EndOfRun wait since) at = append-nil (needs_so set.functional event old.used)
+needs-ended set event old busy (RxTimeout limit) at = append-nil (needs_so set event old.used)
+needs-ended set event old busy Restarted at = append-nil (needs_so set event old.used)
+needs-ended set event old busy (NoRoom room need) at = append-nil (needs_so set event old.used)
+needs-ended set event old busy WaitOver at = append-nil (needs_so set event old.used)
+needs-ended set event old busy NoReaders at = append-nil (needs_so set event old.used)
+needs-ended set event old busy Cancelled at = append-nil (needs_so set event old.used)
+needs-ended set event old busy (EndOfRun wait since) at = append-nil (needs_so set event old.used)
 
 -- each effect
 enters-effect : (set : RxSet) (event : RxEvent) (tick : ℕ) (old : RxStage) (done : RxDone) → RxEffect set event tick old done → IsBelow old.state.seq old.state.busy → EntersBy set event old done.calls done.records done.new
 enters-effect set event tick old done (Refuses e) below = record {
-  more = need_at e.meaning ∷ [];
-  enters = rw (e.of.idle, e.calls, e.records, e.new) (record { fill = fill-refused set.group.0 set.path.0 old.state.seq e.number e.free (need_at e.meaning); count = omega arith; entries = refl; outcomes = refl; needs_are = refl; below = tt });
+  more = need_at set e.size e.meaning ∷ [];
+  enters = rw (e.calls, e.records, e.new, e.of.idle) (record { fill = fill-refused set.group.0 set.path.0 old.state.seq e.number e.free (need_at set e.size e.meaning); count = omega arith; entries = refl; outcomes = refl; needs_are = refl; below = tt });
   needs = rw (e.of.unused, e.new, e.of.came, e.of.start) refl;
 }
 enters-effect set event tick old done (Opens e) below = record {
-  more = need_at e.meaning ∷ [];
+  more = need_at set e.size e.meaning ∷ [];
   enters = rw (e.of.idle, e.records, e.new) (opens-so set old.state.next old.state.seq _ e.size _ tick _ e.opened done.calls e.opens);
   needs = rw (e.of.unused, e.new, e.of.came, e.of.start) refl;
 }
@@ -145,6 +146,11 @@ enters-effect set event tick old done (Waits e) below = record {
   enters = rw (e.was, e.calls, e.records, e.new) (going set.path.0 old.state.seq e.busy _ [] (below-of old.state.seq old.state.busy e.busy e.was below) refl refl (fill-none (writing set.path.0) old.state.seq) refl refl refl);
   needs = rw (e.new, append-nil) refl;
 }
+enters-effect set event tick old done (Forgets e) below = record {
+  more = [];
+  enters = rw (e.calls, e.records, e.new) (enters-none set.path.0 old.state.seq old.state.busy below);
+  needs = rw (e.new, append-nil) refl;
+}
 enters-effect set event tick old done (Ends e) below = record {
   more = [];
   enters = rw (e.was, e.calls, e.records, e.new) (record { fill = fill-closed set.path.0 old.state.seq e.busy.opened.seq (freed_by e.left); count = omega arith; entries = refl; outcomes = refl; needs_are = refl; below = tt });
@@ -153,17 +159,17 @@ enters-effect set event tick old done (Ends e) below = record {
 
 -- a step so far, after earlier ones
 abbrev EntersSo : RxSet → RxEvent → List ℕ → RxStage → List Event → List SessionRecord → Type 0
-EntersSo set event needs stage calls records = Enters set.path.0 0 (needs ++ needs_so set.functional event stage.used) None calls records stage.state.seq stage.state.busy
+EntersSo set event needs stage calls records = Enters set.path.0 0 (needs ++ needs_so set event stage.used) None calls records stage.state.seq stage.state.busy
 
 enters-on : (set : RxSet) (event : RxEvent) (tick : ℕ) (needs : List ℕ) (old : RxStage) (done : RxDone) (calls : List Event) (records : List SessionRecord) → RxEffect set event tick old done → EntersSo set event needs old calls records → EntersSo set event needs done.new (calls ++ done.calls) (records ++ done.records)
 enters-on set event tick needs old done calls records effect so =
     let by : EntersBy set event old done.calls done.records done.new = enters-effect set event tick old done effect so.below in
-    let all : (needs ++ needs_so set.functional event old.used) ++ by.more ≡ needs ++ needs_so set.functional event done.new.used = append_assoc needs (needs_so set.functional event old.used) by.more ∙ ap (λ n. needs ++ n) by.needs in
+    let all : (needs ++ needs_so set event old.used) ++ by.more ≡ needs ++ needs_so set event done.new.used = append_assoc needs (needs_so set event old.used) by.more ∙ ap (λ n. needs ++ n) by.needs in
     subst (λ (n : List ℕ). Enters set.path.0 0 n None (calls ++ done.calls) (records ++ done.records) done.new.state.seq done.new.state.busy) all
-    (enters-join set.path.0 0 old.state.seq done.new.state.seq (needs ++ needs_so set.functional event old.used) by.more None old.state.busy done.new.state.busy calls done.calls records done.records so by.enters)
+    (enters-join set.path.0 0 old.state.seq done.new.state.seq (needs ++ needs_so set event old.used) by.more None old.state.busy done.new.state.busy calls done.calls records done.records so by.enters)
 
 -- a frame that isn't used is no start
-needs-unused : (set : RxSet) (event : RxEvent) (state : RxState) (used : Bool) → (used ≡ false → IsUnused set event state) → needs_so set.functional event used ≡ need_in set.functional event
+needs-unused : (set : RxSet) (event : RxEvent) (state : RxState) (used : Bool) → (used ≡ false → IsUnused set event state) → needs_so set event used ≡ need_in set event
 needs-unused set event state true unused = refl
 needs-unused set (Came size meaning) state false unused = rw (unused refl).0 refl
 needs-unused set Timer state false unused = refl
@@ -171,10 +177,10 @@ needs-unused set FcLeft state false unused = refl
 needs-unused set RunEnd state false unused = refl
 
 -- a whole run
-pub openings : (set : RxSet) (turns : List RxTurn) → HasReceived set turns → Enters set.path.0 0 (needs_by set.functional turns) None (calls_by turns) (records_by turns) (state_after rx_new turns).seq (state_after rx_new turns).busy
+pub openings : (set : RxSet) (turns : List RxTurn) → HasReceived set turns → Enters set.path.0 0 (needs_by set turns) None (calls_by turns) (records_by turns) (state_after rx_new turns).seq (state_after rx_new turns).busy
 openings set [] happened = enters-none set.path.0 0 None tt
 openings set (turn ∷ earlier) happened =
-    let needs : List ℕ = needs_by set.functional earlier in
+    let needs : List ℕ = needs_by set earlier in
     let first : EntersSo set turn.event needs (first_stage (state_after rx_new earlier)) (calls_by earlier) (records_by earlier) = rw append-nil (openings set earlier happened.2) in
     let by : IsThrough set turn.event turn.did (λ last. EntersSo set turn.event needs last (calls_by earlier ++ turn.did.calls) (records_by earlier ++ turn.did.records)) =
     step-through set (state_after rx_new earlier) turn.event turn.did (EntersSo set turn.event needs) (enters-on set turn.event turn.did.tick needs) happened.1 (calls_by earlier) (records_by earlier) first in

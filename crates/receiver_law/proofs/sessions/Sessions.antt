@@ -12,7 +12,7 @@ use Rattle.hub_core.specs.declared.record.OpenedAt.{OpenedAt}
 use Rattle.hub_core.specs.declared.record.SessionRecord.{SessionRecord}
 use Rattle.gw_base.specs.Cell.{counted}
 use Rattle.tp_receiver.specs.declared.set.RxSet.{RxSet}
-use Rattle.tp_receiver.specs.Effects.{Ends, Looks, Opens, Puts, Refuses, RxDone, RxEffect, RxStage, Waits}
+use Rattle.tp_receiver.specs.Effects.{Ends, Forgets, Looks, Opens, Puts, Refuses, RxDone, RxEffect, RxStage, Waits}
 use Rattle.tp_receiver.specs.Runs.{HasReceived, cell_in, cells_in, put_in}
 use Rattle.tp_receiver.specs.State.{RxEvent, RxState, RxTurn, rx_new}
 use Rattle.tp_receiver.specs.Table.{Opens as OpensSession}
@@ -179,16 +179,16 @@ filled-more path more old new calls done so fills counts below =
       cells = λ place. ap (λ (w : View). cells_at (w.sessions path) place) is ∙ fills.cells place ∙ ap (λ c. c ++ cells_in path place done) (so.cells place) ∙ sym (flat_map-append (cell_in path place) calls done);
     }
 
-filled-opens : (set : RxSet) (len : ℕ) (bytes : List ℕ) (opened : OpenedAt) (old new : RxState) (calls done : List Event) → IsFilled set.path.0 old calls → OpensSession set old.seq len bytes opened done → new.seq ≡ old.seq + 1 → IsBelow new.seq new.busy → IsFilled set.path.0 new (calls ++ done)
-filled-opens set len bytes opened old new calls done so opens counts below =
+filled-opens : (set : RxSet) (size len : ℕ) (bytes : List ℕ) (opened : OpenedAt) (old new : RxState) (calls done : List Event) → IsFilled set.path.0 old calls → OpensSession set old.seq size len bytes opened done → new.seq ≡ old.seq + 1 → IsBelow new.seq new.busy → IsFilled set.path.0 new (calls ++ done)
+filled-opens set size len bytes opened old new calls done so opens counts below =
     let v : View = grows calls empty_view in
     let P : List Event → Type 0 = λ c. Fills set.path.0 1 c v (grows c v) in
-    filled-more set.path.0 1 old new calls done so (subst P (sym opens.calls_are) (fills-opening set.group.0 set.path.0 old.seq opened.buf.0 opened.change opens.size opens.need len set.readers (counted opens.cells) opens.cells v so.number)) counts below
+    filled-more set.path.0 1 old new calls done so (subst P (sym opens.calls_are) (fills-opening set.group.0 set.path.0 old.seq opened.buf.0 opened.change opens.buffer opens.need len set.readers (counted opens.cells) opens.cells v so.number)) counts below
 
 -- each effect
 filled-effect : (set : RxSet) (event : RxEvent) (tick : ℕ) (old : RxStage) (done : RxDone) (calls : List Event) (records : List SessionRecord) → RxEffect set event tick old done → IsFilled set.path.0 old.state calls → IsFilled set.path.0 done.new.state (calls ++ done.calls)
-filled-effect set event tick old done calls records (Refuses e) so = rw (e.calls, e.new) (filled-more set.path.0 0 old.state _ calls _ so (fills-refused set.group.0 set.path.0 e.number e.free _ (grows calls empty_view)) (omega arith) tt)
-filled-effect set event tick old done calls records (Opens e) so = rw e.new (filled-opens set _ _ e.opened old.state _ calls done.calls so e.opens refl (omega (arith, e.opens.seq_is)))
+filled-effect set event tick old done calls records (Refuses e) so = rw (e.calls, e.new) (filled-more set.path.0 0 old.state _ calls _ so (fills-refused set.group.0 set.path.0 e.number e.free _ (grows calls empty_view)) (omega arith) so.below)
+filled-effect set event tick old done calls records (Opens e) so = rw e.new (filled-opens set _ _ _ e.opened old.state _ calls done.calls so e.opens refl (omega (arith, e.opens.seq_is)))
 filled-effect set event tick old done calls records (Looks e) so =
     rw (e.calls, e.new) (filled-more set.path.0 0 old.state _ calls _ so (fills-asked set.path.0 e.busy.opened.seq e.look.cells e.look.readers (grows calls empty_view)) (omega arith) so.below)
 filled-effect set event tick old done calls records (Puts e) so =
@@ -196,6 +196,7 @@ filled-effect set event tick old done calls records (Puts e) so =
     rw (e.calls, e.new) (filled-more set.path.0 0 old.state _ calls _ so (fills-puts set.path.0 e.busy.opened.seq (counted e.cells) e.cells (grows calls empty_view) (omega (arith, so.number, below))) (omega arith) below)
 filled-effect set event tick old done calls records (Waits e) so =
     rw (e.calls, e.new) (filled-more set.path.0 0 old.state _ calls _ so (fills-nothing set.path.0 (grows calls empty_view)) (omega arith) (below-of old.state.seq old.state.busy e.busy e.was so.below))
+filled-effect set event tick old done calls records (Forgets e) so = rw (e.calls, e.new) (filled-more set.path.0 0 old.state _ calls _ so (fills-nothing set.path.0 (grows calls empty_view)) (omega arith) so.below)
 filled-effect set event tick old done calls records (Ends e) so =
     rw (e.calls, e.new) (filled-more set.path.0 0 old.state _ calls _ so (fills-closed set.path.0 e.busy.opened.seq (freed_by e.left) (grows calls empty_view)) (omega arith) tt)
 

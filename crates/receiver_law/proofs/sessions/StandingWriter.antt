@@ -11,7 +11,7 @@ use Rattle.hub_core.specs.declared.port.Left.TheVariants.{Others, Last}
 use Rattle.hub_core.specs.declared.record.OpenedAt.{OpenedAt}
 use Rattle.hub_core.proofs.Growing.{grows-append}
 use Rattle.tp_receiver.specs.declared.set.RxSet.{RxSet}
-use Rattle.tp_receiver.specs.Effects.{Ends, Looks, Opens, Puts, Refuses, RxDone, RxEffect, RxStage, Waits}
+use Rattle.tp_receiver.specs.Effects.{Ends, Forgets, Looks, Opens, Puts, Refuses, RxDone, RxEffect, RxStage, Waits}
 use Rattle.tp_receiver.specs.Runs.{HasReceived}
 use Rattle.tp_receiver.specs.State.{Reception, RxDid, RxEvent, RxState, RxTurn, rx_new}
 use Rattle.tp_receiver.specs.Table.{Opens as OpensSession, RxStep, asks, puts}
@@ -75,18 +75,19 @@ denied : (set : RxSet) (n number free need : ℕ) (going : Option ℕ) → Steps
 unfolding grow
 denied set n number free need going dest m reads v so = record { written = so.written; only = so.only; read = so.read }
 
-opens : (set : RxSet) (seq len : ℕ) (bytes : List ℕ) (opened : OpenedAt) (opening : List Event) → OpensSession set seq len bytes opened opening → Steps set seq None opening (seq + 1) (Some opened.seq)
-opens set seq len bytes opened opening row =
-    rw row.seq_is (parts set seq (seq + 1) (seq + 1) None (Some seq) (Some seq) opening (Took set.group.0 opened.change opened.buf.0 row.size row.need ∷ Entered set.path.0 seq opened.buf.0 opened.change row.size len set.readers ∷ []) (puts set.path.0 seq row.cells) row.calls_are
-    (entered set seq seq opened.buf.0 opened.change row.size row.need len) (put set (seq + 1) seq (counted row.cells) (Some seq) row.cells))
+opens : (set : RxSet) (seq size len : ℕ) (bytes : List ℕ) (opened : OpenedAt) (opening : List Event) → OpensSession set seq size len bytes opened opening → Steps set seq None opening (seq + 1) (Some opened.seq)
+opens set seq size len bytes opened opening row =
+    rw row.seq_is (parts set seq (seq + 1) (seq + 1) None (Some seq) (Some seq) opening (Took set.group.0 opened.change opened.buf.0 row.buffer row.need ∷ Entered set.path.0 seq opened.buf.0 opened.change row.buffer len set.readers ∷ []) (puts set.path.0 seq row.cells) row.calls_are
+    (entered set seq seq opened.buf.0 opened.change row.buffer row.need len) (put set (seq + 1) seq (counted row.cells) (Some seq) row.cells))
 
 -- each effect
 steps-effect : (set : RxSet) (event : RxEvent) (tick : ℕ) (old : RxStage) (done : RxDone) → RxEffect set event tick old done → Steps set old.state.seq (session_of old.state.busy) done.calls done.new.state.seq (session_of done.new.state.busy)
-steps-effect set event tick old done (Refuses e) = rw (e.of.idle, e.calls, e.new) (denied set old.state.seq e.number e.free _ None)
-steps-effect set event tick old done (Opens e) = rw (e.of.idle, e.new) (opens set old.state.seq _ _ e.opened done.calls e.opens)
+steps-effect set event tick old done (Refuses e) = rw (e.calls, e.new, e.of.idle) (denied set old.state.seq e.number e.free _ None)
+steps-effect set event tick old done (Opens e) = rw (e.of.idle, e.new) (opens set old.state.seq _ _ _ e.opened done.calls e.opens)
 steps-effect set event tick old done (Looks e) = rw (e.calls, e.new, e.was) (asked set old.state.seq (Some e.busy.opened.seq) e.busy e.look.cells e.look.readers)
 steps-effect set event tick old done (Puts e) = rw (e.was, e.calls, e.new) (put set old.state.seq e.busy.opened.seq (counted e.cells) (Some e.busy.opened.seq) e.cells)
 steps-effect set event tick old done (Waits e) = rw (e.was, e.calls, e.new) (silent set old.state.seq (Some e.busy.opened.seq) [] refl)
+steps-effect set event tick old done (Forgets e) = rw (e.calls, e.new) (silent set old.state.seq (session_of old.state.busy) [] refl)
 steps-effect set event tick old done (Ends e) = rw (e.was, e.calls, e.new) (closed set old.state.seq e.busy.opened.seq e.left)
 
 step : (set : RxSet) (old : RxState) (event : RxEvent) (m : RxDid) → RxStep set old event m → Steps set old.seq (session_of old.busy) m.calls m.new.seq (session_of m.new.busy)

@@ -1,7 +1,7 @@
 -- Flow controls and frames up to a tick, and what a transmission is at by them.
-use Rattle.std.proofs.Common.{◌≡◌, ℕ, ◌+◌, ◌<◌, ◌≤◌, true, false, List, [], ◌∷◌, ◌++◌, refl, ap, ◌∙◌, arith, append-nil}
+use Rattle.std.proofs.Common.{◌≡◌, ℕ, zero, suc, ◌+◌, ◌<◌, ◌≤◌, Bool, true, false, cond, Option, List, [], ◌∷◌, ◌++◌, refl, ap, sym, ◌∙◌, arith, append-nil}
 use Rattle.flow_plan.specs.Pace.{Awaits, Control, May, Pace, Refused, after_frames, answered, answered_all, answered_by, block_of, came_to, pace_once}
-use Rattle.flow_plan.proofs.Paces.{answered-more, came-all, came-none, is-counted, refused-stays}
+use Rattle.flow_plan.proofs.Paces.{answered-more, came-all, came-none, is-counted, may-stays, refused-stays}
 use Rattle.tp_unit.specs.Box.{Answer}
 use Rattle.tp_sender.specs.declared.set.TxSet.{TxSet}
 use Rattle.std.specs.Prelude.{nat_le}
@@ -68,12 +68,50 @@ pace-may tx all so_far a first later from gap block is = pace-answered tx all so
 pub pace-counted : (tx : TxSet) (all so_far : List Answer) (a : Answer) (first : ℕ) (later : List ℕ) (left since : ℕ) → left < a.tick → pace_by tx all so_far first later ≡ Awaits left since → pace_by tx all (so_far ++ a ∷ []) first later ≡ answered_by (control_of tx.period a) left a.status
 pace-counted tx all so_far a first later left since lt is = pace-answered tx all so_far a first later ∙ ap (λ p. answered p (control_of tx.period a)) is ∙ is-counted left since (control_of tx.period a) lt
 
+-- by what came up to a tick, the flow controls so far are answered first
+pub pace-later : (tx : TxSet) (all so_far : List Answer) (now first : ℕ) (later : List ℕ) (splits : Splits all so_far now now) → pace_once now first (asked tx all) later ≡ answered_all (pace_by tx all so_far first later) (came_to now (asked tx splits.rest))
+pace-later tx all so_far now first later splits =
+    let q : Pace = after_frames (asked tx all) (Awaits first first) later in
+    ap (answered_all q) (asked-came tx all so_far now now splits) ∙ answered-more q (asked tx so_far) (came_to now (asked tx splits.rest))
+
 -- a refusal stands in its tick
 pub pace-refused : (tx : TxSet) (all so_far : List Answer) (now first : ℕ) (later : List ℕ) (at status : ℕ) → Splits all so_far now now → pace_by tx all so_far first later ≡ Refused at status → pace_once now first (asked tx all) later ≡ Refused at status
 pace-refused tx all so_far now first later at status splits is =
-    let q : Pace = after_frames (asked tx all) (Awaits first first) later in
     let more : List Control = came_to now (asked tx splits.rest) in
-    ap (answered_all q) (asked-came tx all so_far now now splits) ∙ answered-more q (asked tx so_far) more ∙ ap (λ p. answered_all p more) is ∙ refused-stays at status more
+    pace-later tx all so_far now first later splits ∙ ap (λ p. answered_all p more) is ∙ refused-stays at status more
+
+-- a next frame that was allowed so far is allowed from the same tick; one for which a flow control is awaited so far, from none earlier
+pub may-now : (tx : TxSet) (all so_far : List Answer) (now first : ℕ) (later : List ℕ) (from gap : ℕ) (more : Option ℕ) → Splits all so_far now now → pace_by tx all so_far first later ≡ May from gap more → pace_once now first (asked tx all) later ≡ May from gap more
+may-now tx all so_far now first later from gap more splits is = pace-later tx all so_far now first later splits ∙ ap (λ p. answered_all p (came_to now (asked tx splits.rest))) is ∙ may-stays from gap more (came_to now (asked tx splits.rest))
+
+came-one : (bound : ℕ) (c : Control) (controls : List Control) (keeps : Bool) → bound ≤ c.tick → AllByRecursion (λ (d : Control). bound ≤ d.tick) controls → AllByRecursion (λ (d : Control). bound ≤ d.tick) (cond keeps (c ∷ controls) controls)
+came-one bound c controls true is all = (is, all)
+came-one bound c controls false is all = all
+
+came-from : (bound now : ℕ) (controls : List Control) → AllByRecursion (λ (c : Control). bound ≤ c.tick) controls → AllByRecursion (λ (c : Control). bound ≤ c.tick) (came_to now controls)
+came-from bound now [] all = tt
+came-from bound now (c ∷ controls) all = came-one bound c (came_to now controls) (nat_le c.tick now) all.0 (came-from bound now controls all.1)
+
+awaits-by : (bound left since from gap : ℕ) (more : Option ℕ) (c : Control) (controls : List Control) (early : Bool) (status : ℕ) → bound ≤ c.tick → ((l s : ℕ) → answered_all (Awaits l s) controls ≡ May from gap more → bound ≤ from) →
+    answered_all (cond early (Awaits left since) (answered_by c left status)) controls ≡ May from gap more → bound ≤ from
+awaits-by bound left since from gap more c controls true status at later is = later left since is
+awaits-by bound left since from gap more c controls false zero at later is =
+    let both : May c.tick c.gap (block_of c.block) ≡ May from gap more = sym (may-stays c.tick c.gap (block_of c.block) controls) ∙ is in
+    let same : c.tick ≡ from = cc in
+    omega (arith, at, same)
+awaits-by bound left since from gap more c controls false (suc zero) at later is = later left c.tick is
+awaits-by bound left since from gap more c controls false (suc (suc status)) at later is =
+    let no : Refused c.tick (suc (suc status)) ≡ May from gap more = sym (refused-stays c.tick (suc (suc status)) controls) ∙ is in cc
+
+awaits-may : (bound left since from gap : ℕ) (more : Option ℕ) (controls : List Control) → AllByRecursion (λ (c : Control). bound ≤ c.tick) controls → answered_all (Awaits left since) controls ≡ May from gap more → bound ≤ from
+awaits-may bound left since from gap more [] all is = let no : Awaits left since ≡ May from gap more = is in cc
+awaits-may bound left since from gap more (c ∷ controls) all is = awaits-by bound left since from gap more c controls (nat_le c.tick left) c.status all.0 (λ l s. awaits-may bound l s from gap more controls all.1) is
+
+pub may-from : (tx : TxSet) (all so_far : List Answer) (now first : ℕ) (later : List ℕ) (left since from gap : ℕ) (more : Option ℕ) → Splits all so_far now now → pace_by tx all so_far first later ≡ Awaits left since → pace_once now first (asked tx all) later ≡ May from gap more → now ≤ from
+may-from tx all so_far now first later left since from gap more splits is may =
+    let rest : List Control = asked tx splits.rest in
+    let late : AllByRecursion (λ (c : Control). now ≤ c.tick) rest = all-map (λ (c : Control). now ≤ c.tick) (control_of tx.period) splits.rest splits.later in
+    awaits-may now left since from gap more (came_to now rest) (came-from now now rest late) (ap (λ p. answered_all p (came_to now rest)) (sym is) ∙ sym (pace-later tx all so_far now first later splits) ∙ may)
 
 -- the last of some ticks and one more
 pub last_of-next : (first : ℕ) (more : List ℕ) (next : ℕ) → last_of first (more ++ next ∷ []) ≡ next

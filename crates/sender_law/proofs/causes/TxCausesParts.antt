@@ -27,14 +27,14 @@ use Rattle.gw_base.proofs.Lists.{all-front, all-join, all-weaker}
 use Rattle.hub_core.proofs.Turns.{happened-front}
 
 -- a flow control that came in a tick
-record Came (tick : ℕ) (event : TxEvent) (at : ℕ) : Type 0 where
-  fs : ℕ
-  bs : ℕ
-  st : ℕ
-  event_is : event ≡ CameFc fs bs st
-  at_is : at ≡ tick
+pub record Came (tick : ℕ) (event : TxEvent) (at : ℕ) : Type 0 where
+  pub fs : ℕ
+  pub bs : ℕ
+  pub st : ℕ
+  pub event_is : event ≡ CameFc fs bs st
+  pub at_is : at ≡ tick
 
-came-in : (tick : ℕ) (event : TxEvent) (at : ℕ) → AnswersIn tick event at → Came tick event at
+pub came-in : (tick : ℕ) (event : TxEvent) (at : ℕ) → AnswersIn tick event at → Came tick event at
 came-in tick Turn at is = absurd is
 came-in tick (CameFc fs bs st) at is = record { fs = fs; bs = bs; st = st; event_is = refl; at_is = is }
 came-in tick Left at is = absurd is
@@ -147,11 +147,11 @@ came-all tick (m ∷ answers) are =
     (all-join (λ (a : Answer). tick ≤ a.tick) (came_by controls_in answers) (came m.did came_in.fs came_in.bs came_in.st ∷ []) (came-all tick answers are.1) (omega (arith, came_in.at_is), tt))
 
 -- what a part says of the flow controls
-record PartAnswers (tick : ℕ) (earlier turns : List TxTurn) : Type 0 where
-  now : now_of turns ≡ tick
-  came : List Answer
-  came_is : came_by controls_in turns ≡ came_by controls_in earlier ++ came
-  came_now : AllByRecursion (λ (a : Answer). tick ≤ a.tick) came
+pub record PartAnswers (tick : ℕ) (earlier turns : List TxTurn) : Type 0 where
+  pub now : now_of turns ≡ tick
+  pub came : List Answer
+  pub came_is : came_by controls_in turns ≡ came_by controls_in earlier ++ came
+  pub came_now : AllByRecursion (λ (a : Answer). tick ≤ a.tick) came
 
 part-answers-by : (full : ℕ → Bool) (tick : ℕ) (left answers earlier : List TxTurn) (turn : TxTurn) (box : Option Meaning) → AllByRecursion (IsAnswerIn tick) answers → turn.event ≡ Turn → turn.did.tick ≡ tick → Leaves (IsStepIn tick Left) full tick box left →
     PartAnswers tick earlier (left ++ turn ∷ (answers ++ earlier))
@@ -164,7 +164,7 @@ part-answers-by full tick left answers earlier turn box are event at leaves =
       | Stays meaning lies is busy ↦ subst P (sym is) stays
     ]
 
-part-answers : (full : ℕ → Bool) (earlier : List TxTurn) (part : Part TxTurn) → IsTxPart full earlier part → PartAnswers part.tick earlier (part.turns ++ earlier)
+pub part-answers : (full : ℕ → Bool) (earlier : List TxTurn) (part : Part TxTurn) → IsTxPart full earlier part → PartAnswers part.tick earlier (part.turns ++ earlier)
 part-answers full earlier part is =
     let P : List TxTurn → Type 0 = λ ms. PartAnswers part.tick earlier ms in
     subst P (sym (turns-in full earlier part is)) (part-answers-by full part.tick is.left is.answers earlier is.turn (box_after (is.turn ∷ (is.answers ++ earlier))) is.answers_only is.turn_is is.turn_tick is.left_is)
@@ -174,7 +174,7 @@ past-of : (period now : ℕ) (answers : List Answer) → AllByRecursion (λ (c :
 past-of period now [] past = tt
 past-of period now (a ∷ answers) past = (past.0, past-of period now answers past.1)
 
-splits-at : (full : ℕ → Bool) (tx : TxSet) (all : List Answer) (tick next : ℕ) (moments : List TxTurn) (rest : List Answer) → IsShape tx.shape → HasSent tx moments → now_of moments ≡ tick → all ≡ came_by controls_in moments ++ rest → AllByRecursion (λ (a : Answer). next ≤ a.tick) rest → Splits all (came_by controls_in moments) tick next
+pub splits-at : (full : ℕ → Bool) (tx : TxSet) (all : List Answer) (tick next : ℕ) (moments : List TxTurn) (rest : List Answer) → IsShape tx.shape → HasSent tx moments → now_of moments ≡ tick → all ≡ came_by controls_in moments ++ rest → AllByRecursion (λ (a : Answer). next ≤ a.tick) rest → Splits all (came_by controls_in moments) tick next
 splits-at full tx all tick next moments rest sound happened at are later =
     let so : SoFar tx.shape (world_of tx moments) = so-far tx moments sound happened in
     let P : ℕ → Type 0 = λ t. AllByRecursion (λ (a : Answer). a.tick ≤ t) (came_by controls_in moments) in
@@ -207,7 +207,7 @@ in-parts full tx all last (part ∷ earlier) rest sound some are_parts happened 
     in-tick full tx all last (turns_of earlier) part are_parts.0.part_is sound some happened (splits-at full tx all part.tick (part.tick + 1) (part.turns ++ turns_of earlier) rest sound happened here.now are later)
     (reopens full tx all last part.tick earlier are_parts.0.next before)
 
-now-within : (full : ℕ → Bool) (parts : List (Part TxTurn)) (last : ℕ) → AreTxParts full parts → tick_after parts ≤ last + 1 → now_of (turns_of parts) ≤ last
+pub now-within : (full : ℕ → Bool) (parts : List (Part TxTurn)) (last : ℕ) → AreTxParts full parts → tick_after parts ≤ last + 1 → now_of (turns_of parts) ≤ last
 now-within full [] last are le = omega arith
 now-within full (part ∷ earlier) last are le = omega (arith, le, (part-answers full (turns_of earlier) part are.0.part_is).now)
 

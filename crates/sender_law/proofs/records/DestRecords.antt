@@ -32,10 +32,10 @@ abbrev Follow : List DestRecord → Type 0
 Follow records = (place : ℕ) (told next : DestRecord) → slice_get records place ≡ Some told → slice_get records (place + 1) ≡ Some next → told.end.0 ≤ next.begin.0
 
 -- one record follows another, and what is being sent began after all of them
-record AreApart (records : List DestRecord) (live : Option Transmission) (now : ℕ) : Type 0 where
-  past : EndBy records now
-  begun : OfLive (λ number begin. EndBy records begin) live
-  follow : Follow records
+pub record AreApart (records : List DestRecord) (live : Option Transmission) (now : ℕ) : Type 0 where
+  pub past : EndBy records now
+  pub begun : OfLive (λ number begin. EndBy records begin) live
+  pub follow : Follow records
 
 end-later : (records : List DestRecord) (before now : ℕ) → before ≤ now → EndBy records before → EndBy records now
 end-later records before now later past = all-weaker (λ (told : DestRecord). told.end.0 ≤ before) (λ (told : DestRecord). told.end.0 ≤ now) records (λ told by. omega (arith, by, later)) past
@@ -59,7 +59,7 @@ apart-next set records did before (one ∷ []) live later is past follow told fe
   follow = follow-push records one told.0.of follow;
 }
 
-dests-apart : (set : TxSet) (moments : List TxTurn) → HasSent set moments → AreApart (records_by moments) (state_after tx_new moments).live (now_of moments)
+pub dests-apart : (set : TxSet) (moments : List TxTurn) → HasSent set moments → AreApart (records_by moments) (state_after tx_new moments).live (now_of moments)
 dests-apart set [] happened = record { past = tt; begun = tt; follow = λ place told next there after. cc }
 dests-apart set (m ∷ earlier) happened =
     let so : AreApart (records_by earlier) (state_after tx_new earlier).live (now_of earlier) = dests-apart set earlier happened.2 in

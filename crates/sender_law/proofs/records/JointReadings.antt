@@ -10,7 +10,7 @@ use Rattle.std.proofs.lemmas.List.{length-append}
 use Rattle.gw_base.specs.Cell.{counted}
 use Rattle.hub_core.proofs.Growing.{length-change_at, slice_get-change_at, slice_get-pushed}
 use Rattle.hub_core.specs.View.{Reading, change_at, reading_new}
-use Rattle.hub_core.specs.declared.port.Seen.{Seen}
+use Rattle.hub_core.specs.declared.port.Seen.{Seen as Look}
 use Rattle.hub_core.specs.declared.record.DestRecord.{DestRecord}
 use Rattle.hub_core.specs.declared.record.DestResult.{DestResult}
 use Rattle.hub_core.specs.declared.record.DestResult.TheVariants.{Sent, SourceEnded, BsTimeout, FcOverflow, InvalidFs, CsTimeout, AsTimeout, Cancelled, RunEnd as EndOfRun}
@@ -87,7 +87,7 @@ abbrev pub NoMore : Reading → Type 0
 NoMore r = Unit {0}
 
 -- what the last look showed
-abbrev pub Looked : Seen → Reading → Type 0
+abbrev pub Looked : Look → Reading → Type 0
 Looked look r = (r.seen ≡ look.cells) × (r.bytes ≡ look.bytes) × (r.writer ≡ look.writer)
 
 stands-both : (r t : Reading) → r ≡ t → r.stands ≡ false → t.stands ≡ true → ⊥

@@ -15,7 +15,7 @@ use Rattle.gw_base.proofs.Cells.{length-bytes_of, length-cell_bytes}
 use Rattle.gw_base.specs.Cell.{IsCell, bytes_of, cell_bytes, count_of, counted}
 use Rattle.hub_core.specs.View.{View, Change, Reading, change_at, empty_view, reading_new, grow, grows, Joining, Missed, Saw, Read, Parted}
 use Rattle.hub_core.specs.declared.port.Left.{Left as LeftOver}
-use Rattle.hub_core.specs.declared.port.Seen.{Seen}
+use Rattle.hub_core.specs.declared.port.Seen.{Seen as Look}
 use Rattle.hub_core.specs.declared.record.DestRecord.{DestRecord}
 use Rattle.hub_core.specs.declared.record.DestResult.{DestResult}
 use Rattle.hub_core.specs.declared.record.DestResult.TheVariants.{Sent, SourceEnded, BsTimeout, FcOverflow, InvalidFs, CsTimeout, AsTimeout, Cancelled, RunEnd as EndOfRun}
@@ -35,7 +35,7 @@ abbrev pub ReadsIn : TxSet → Bool → View → List DestRecord → ℕ → Opt
 ReadsIn set ended v records next live P = Reads set ended (v.readings set.path.0 set.dest.0) records next live P
 
 -- what was seen last, where there was a look
-abbrev SeenBy : Option Seen → Reading → Type 0
+abbrev SeenBy : Option Look → Reading → Type 0
 SeenBy None = NoMore
 SeenBy (Some look) = Looked look
 
@@ -47,7 +47,7 @@ record ReadsOn (set : TxSet) (ended : Bool) (v : View) (records : List DestRecor
 abbrev ReadsBy : TxSet → TxStage → TxDone → Type 0
 ReadsBy set p d = (v : View) (records : List DestRecord) (ended : Bool) → (p.event ≡ Some RunEnd → ended ≡ true) → ReadsIn set ended v records p.next p.live (SeenBy p.look) → ReadsOn set ended v records d
 
-grow-saw : (path dest seq : ℕ) (look : Seen) (v : View) → (grow (Saw path dest seq look.cells look.bytes look.writer) v).readings path dest ≡ change_at seq (λ r. record r { seen = look.cells; bytes = look.bytes; writer = look.writer }) (v.readings path dest)
+grow-saw : (path dest seq : ℕ) (look : Look) (v : View) → (grow (Saw path dest seq look.cells look.bytes look.writer) v).readings path dest ≡ change_at seq (λ r. record r { seen = look.cells; bytes = look.bytes; writer = look.writer }) (v.readings path dest)
 unfolding grow
 grow-saw path dest seq look v = at_two-same path dest _ v.readings
 
@@ -72,17 +72,17 @@ idle-too : (set : TxSet) (ended : Bool) (v : View) (records : List DestRecord) (
 idle-too set ended v records next P Q reads = record { number = reads.number; told = reads.told; left = reads.left; going = tt }
 
 -- a look, and cells that are read
-looks : (set : TxSet) (ended : Bool) (v : View) (records : List DestRecord) (next : ℕ) (s : Transmission) (P : Reading → Type 0) (look : Seen) → ReadsIn set ended v records next (Some s) P →
+looks : (set : TxSet) (ended : Bool) (v : View) (records : List DestRecord) (next : ℕ) (s : Transmission) (P : Reading → Type 0) (look : Look) → ReadsIn set ended v records next (Some s) P →
     ReadsIn set ended (grow (Saw set.path.0 set.dest.0 s.seq look.cells look.bytes look.writer) v) records next (Some s) (Looked look)
 looks set ended v records next s P look reads =
     rw (grow-saw set.path.0 set.dest.0 s.seq look v)
     (reads-changed set ended (v.readings set.path.0 set.dest.0) records next s s P (Looked look) (λ r. record r { seen = look.cells; bytes = look.bytes; writer = look.writer }) refl refl (λ r. refl) (λ r. refl) (λ r is. is) (λ r is. is) (λ early. early) (λ r so. (refl, refl, refl)) reads)
 
-seen-still : (look : Option Seen) (r : Reading) (cells : List ℕ) → SeenBy look r → SeenBy look (record r { cells = cells })
+seen-still : (look : Option Look) (r : Reading) (cells : List ℕ) → SeenBy look r → SeenBy look (record r { cells = cells })
 seen-still None r cells so = tt
 seen-still (Some look) r cells so = so
 
-reads-cells : (set : TxSet) (ended : Bool) (v : View) (records : List DestRecord) (next : ℕ) (s t : Transmission) (look : Option Seen) (cells : List ℕ) → All IsCell cells → t.seq ≡ s.seq → t.len ≡ s.len → t.at ≡ s.at + length cells → t.sent ≡ s.sent → t.phase ≡ s.phase →
+reads-cells : (set : TxSet) (ended : Bool) (v : View) (records : List DestRecord) (next : ℕ) (s t : Transmission) (look : Option Look) (cells : List ℕ) → All IsCell cells → t.seq ≡ s.seq → t.len ≡ s.len → t.at ≡ s.at + length cells → t.sent ≡ s.sent → t.phase ≡ s.phase →
     length t.carried ≡ length s.carried + counted cells → ReadsIn set ended v records next (Some s) (SeenBy look) →
     ReadsIn set ended (grows (map (Read set.path.0 set.dest.0 s.seq) cells) v) records next (Some t) (SeenBy look)
 reads-cells set ended v records next s t look [] all seq len at sent phase carried reads =
@@ -100,13 +100,13 @@ reads-cells set ended v records next s t look (cell ∷ cells) all seq len at se
     reads-cells set ended (grow (Read set.path.0 set.dest.0 s.seq cell) v) records next u t look cells (All-tail IsCell cell cells all) seq len (omega (arith, at)) sent phase (omega (arith, carried, more, sum_by-cons count_of cell cells)) one
 
 -- the session goes on with the same reading
-on : (set : TxSet) (ended : Bool) (v : View) (records : List DestRecord) (next : ℕ) (look : Option Seen) (s t : Transmission) → t.seq ≡ s.seq → t.len ≡ s.len → t.at ≡ s.at →
+on : (set : TxSet) (ended : Bool) (v : View) (records : List DestRecord) (next : ℕ) (look : Option Look) (s t : Transmission) → t.seq ≡ s.seq → t.len ≡ s.len → t.at ≡ s.at →
     t.sent + boxed t.phase (next_part set t) + length t.carried ≡ s.sent + boxed s.phase (next_part set s) + length s.carried → (t.phase ≡ Start → ⊥) →
     ReadsIn set ended v records next (Some s) (SeenBy look) → ReadsIn set ended v (records ++ []) next (Some t) (SeenBy look)
 on set ended v records next look s t seq len at held begun reads =
     rw append-nil (reads-like set ended (v.readings set.path.0 set.dest.0) records next s t (SeenBy look) (SeenBy look) seq len at held (λ early is. absurd (begun is)) (λ r so. so) reads)
 
-leaves : (set : TxSet) (ended : Bool) (v : View) (records : List DestRecord) (next tick sent number block : ℕ) (look : Option Seen) (s : Transmission) (phase : Phase) → s.phase ≡ Box → AwaitsNext set tick s sent number block phase →
+leaves : (set : TxSet) (ended : Bool) (v : View) (records : List DestRecord) (next tick sent number block : ℕ) (look : Option Look) (s : Transmission) (phase : Phase) → s.phase ≡ Box → AwaitsNext set tick s sent number block phase →
     ReadsIn set ended v records next (Some s) (SeenBy look) → ReadsIn set ended v (records ++ []) next (Some (once_left tick sent number block phase s)) (SeenBy look)
 leaves set ended v records next tick sent number block look s phase box (AfterFirst first more same kept is) reads =
     let part : ℕ = next_part set s in
@@ -118,7 +118,7 @@ leaves set ended v records next tick sent number block look s phase box (AfterNe
     let part : ℕ = next_part set s in
     on set ended v records next look s (once_left tick sent number block phase s) refl refl refl (rw (is, box) (omega (arith, one.sent_is))) (λ start. let no : Gap (record { 0 = tick + s.gap }) ≡ Start = sym is ∙ start in cc) reads
 
-waits : (set : TxSet) (ended : Bool) (v : View) (records : List DestRecord) (next tick : ℕ) (look : Option Seen) (s : Transmission) (phase : Phase) (block gap : ℕ) (event : TxEvent) → MayWait set tick event s phase block gap →
+waits : (set : TxSet) (ended : Bool) (v : View) (records : List DestRecord) (next tick : ℕ) (look : Option Look) (s : Transmission) (phase : Phase) (block gap : ℕ) (event : TxEvent) → MayWait set tick event s phase block gap →
     ReadsIn set ended v records next (Some s) (SeenBy look) → ReadsIn set ended v (records ++ []) next (Some (once_waiting tick phase block gap s)) (SeenBy look)
 waits set ended v records next tick look s phase block gap event (IsReached at was is kept) reads = on set ended v records next look s (once_waiting tick phase block gap s) refl refl refl (rw (is, was) refl) (λ start. let no : Bytes ≡ Start = sym is ∙ start in cc) reads
 waits set ended v records next tick look s phase block gap event (GapIsOver until at was le is kept) reads = on set ended v records next look s (once_waiting tick phase block gap s) refl refl refl (rw (is, was) refl) (λ start. let no : Bytes ≡ Start = sym is ∙ start in cc) reads
@@ -132,7 +132,7 @@ told-on set tick event s now block gap (IsContinued bs st at is same size gap_is
 told-on set tick event s now block gap (IsPaused bs st at is same kept) told = let no : once_waited (Some (CameFc 1 bs st)) ≡ Some RunEnd = ap (λ e. once_waited (Some e)) (sym at) ∙ told in cc
 
 -- fewer bytes than the next frame takes
-scant : (set : TxSet) (s : Transmission) (look : Seen) (r : Reading) → s.at ≡ look.cells → length s.carried < next_part set s → boxed s.phase (next_part set s) ≡ 0 → r.len ≡ s.len → length r.cells ≡ s.at →
+scant : (set : TxSet) (s : Transmission) (look : Look) (r : Reading) → s.at ≡ look.cells → length s.carried < next_part set s → boxed s.phase (next_part set s) ≡ 0 → r.len ≡ s.len → length r.cells ≡ s.at →
     s.sent + boxed s.phase (next_part set s) + length s.carried ≡ counted r.cells → r.seen ≡ look.cells → IsScant set s.sent r
 scant set s look r all few clear len at held seen =
     let sum : s.sent + length s.carried ≡ counted r.cells = (let plain : s.sent + 0 + length s.carried ≡ counted r.cells = rw clear at held in omega (arith, plain)) in
@@ -148,16 +148,16 @@ record IsHeld (set : TxSet) (s : Transmission) (r : Reading) : Type 0 where
   held : s.sent + boxed s.phase (next_part set s) + length s.carried ≡ counted r.cells
   early : s.phase ≡ Start → s.sent ≡ 0
 
-short : (set : TxSet) (s : Transmission) (look : Seen) (r : Reading) → IsShort set s look → IsHeld set s r → Looked look r → IsScant set s.sent (record r { stands = false })
+short : (set : TxSet) (s : Transmission) (look : Look) (r : Reading) → IsShort set s look → IsHeld set s r → Looked look r → IsScant set s.sent (record r { stands = false })
 short set s look r is held so = scant set s look (record r { stands = false }) is.all is.few (ap (λ p. boxed p (next_part set s)) is.phase) held.len held.at held.held so.0
 
-wants : (set : TxSet) (s : Transmission) (look : Seen) (r : Reading) → NeverComes set s look → IsHeld set s r → Looked look r → IsWant set s.sent (record r { stands = false })
+wants : (set : TxSet) (s : Transmission) (look : Look) (r : Reading) → NeverComes set s look → IsHeld set s r → Looked look r → IsWant set s.sent (record r { stands = false })
 wants set s look r (NoNext is) held so = WantsNext (short set s look r is held so)
 wants set s look r (NoStart start reached) held so =
     let never : (look.bytes ≢ s.len) × (set.store ≡ false → look.cells < set.threshold) = never-reached look.bytes s.len set.threshold look.cells set.store reached in
     WantsStart (held.early start) (λ same. never.0 (sym so.1 ∙ same ∙ held.len)) (λ none. omega (arith, never.1 none, so.0))
 
-shows : (set : TxSet) (ended : Bool) (event : TxEvent) (look : Option Seen) (s : Transmission) (result : DestResult) (r : Reading) → (Some event ≡ Some RunEnd → ended ≡ true) → ShowsEnd set event look s result → IsHeld set s r → SeenBy look r →
+shows : (set : TxSet) (ended : Bool) (event : TxEvent) (look : Option Look) (s : Transmission) (result : DestResult) (r : Reading) → (Some event ≡ Some RunEnd → ended ≡ true) → ShowsEnd set event look s result → IsHeld set s r → SeenBy look r →
     ShowsBy set ended s.sent (record r { stands = false }) result
 shows set ended event look s Sent r told is held so = absurd is
 shows set ended event None s SourceEnded r told is held so = absurd is
@@ -171,7 +171,7 @@ shows set ended event look s AsTimeout r told is held so = tt
 shows set ended event look s Cancelled r told is held so = tt
 shows set ended event look s (EndOfRun wait since) r told is held so = told (ap (λ e. Some e) is)
 
-shows-end : (set : TxSet) (ended : Bool) (event : TxEvent) (look : Option Seen) (s : Transmission) (sent : ℕ) (act : BoxMeaning) (result : DestResult) (r : Reading) → (Some event ≡ Some RunEnd → ended ≡ true) → MayEnd set event look s sent act result → IsHeld set s r → SeenBy look r →
+shows-end : (set : TxSet) (ended : Bool) (event : TxEvent) (look : Option Look) (s : Transmission) (sent : ℕ) (act : BoxMeaning) (result : DestResult) (r : Reading) → (Some event ≡ Some RunEnd → ended ≡ true) → MayEnd set event look s sent act result → IsHeld set s r → SeenBy look r →
     ShowsBy set ended sent (record r { stands = false }) result
 shows-end set ended event look s sent act result r told (IsWhole left box whole all keeps is) held so =
     let part : ℕ = next_part set s in
@@ -179,7 +179,7 @@ shows-end set ended event look s sent act result r told (IsWhole left box whole 
     rw (is, all) (sym held.len, omega (arith, whole, sum))
 shows-end set ended event look s sent act result r told (IsCut out other same keeps is) held so = rw same (shows set ended event look s result r told is held so)
 
-ends : (set : TxSet) (ended : Bool) (v : View) (records : List DestRecord) (next tick sent : ℕ) (look : Option Seen) (s : Transmission) (act : BoxMeaning) (result : DestResult) (left : LeftOver) (event : TxEvent) → (Some event ≡ Some RunEnd → ended ≡ true) → MayEnd set event look s sent act result →
+ends : (set : TxSet) (ended : Bool) (v : View) (records : List DestRecord) (next tick sent : ℕ) (look : Option Look) (s : Transmission) (act : BoxMeaning) (result : DestResult) (left : LeftOver) (event : TxEvent) → (Some event ≡ Some RunEnd → ended ≡ true) → MayEnd set event look s sent act result →
     ReadsIn set ended v records next (Some s) (SeenBy look) → ReadsIn set ended (grow (Parted set.path.0 set.dest.0 s.seq (freed_by left)) v) (records ++ record_of set tick s sent result ∷ []) next None (SeenBy look)
 ends set ended v records next tick sent look s act result left event told may reads =
     idle-too set ended (grow (Parted set.path.0 set.dest.0 s.seq (freed_by left)) v) (records ++ record_of set tick s sent result ∷ []) next NoMore (SeenBy look)
@@ -187,7 +187,7 @@ ends set ended v records next tick sent look s act result left event told may re
     (λ r len at held early so. shows-end set ended event look s sent act result r told may (record { len = len; at = at; held = held; early = early }) so) reads))
 
 -- each effect
-each : (set : TxSet) (tick : ℕ) (event : TxEvent) (look : Option Seen) (next : ℕ) (effect : TxEffect) → MayBe set tick event look effect → ReadsBy set (amid event look next (found_by effect)) (done_by set tick (amid event look next (found_by effect)) effect)
+each : (set : TxSet) (tick : ℕ) (event : TxEvent) (look : Option Look) (next : ℕ) (effect : TxEffect) → MayBe set tick event look effect → ReadsBy set (amid event look next (found_by effect)) (done_by set tick (amid event look next (found_by effect)) effect)
 each set tick event look next Misses may v records ended told reads = record {
   told = λ no. cc;
   reads = rw (append-nil, grow-missed set.group.0 set.path.0 set.dest.0 next v) reads;

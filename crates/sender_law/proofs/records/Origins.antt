@@ -3,7 +3,7 @@ use Rattle.std.proofs.Common.{◌≡◌, ◌⊎◌, inl, inr, ℕ, ◌<◌, ◌�
 use Rattle.tp_sender.specs.Runs.{HasSent}
 use Rattle.hub_core.specs.Turns.{state_after, records_by}
 use Rattle.std.specs.List.{AllByRecursion}
-use Rattle.hub_core.specs.declared.port.Seen.{Seen}
+use Rattle.hub_core.specs.declared.port.Seen.{Seen as Look}
 use Rattle.hub_core.specs.declared.record.DestRecord.{DestRecord}
 use Rattle.tp_sender.specs.declared.event.TxEvent.{TxEvent}
 use Rattle.tp_sender.specs.declared.set.TxSet.{TxSet}
@@ -35,7 +35,7 @@ record Keeps (Q : ℕ → ℕ → Type 0) (tick : ℕ) (p : TxStage) (d : TxDone
   told : OfJoins Q tick p.next d.new.next → OfLive Q p.live → AllByRecursion (OfTold Q) d.records
   live : OfJoins Q tick p.next d.new.next → OfLive Q p.live → OfLive Q d.new.live
 
-each : (Q : ℕ → ℕ → Type 0) (set : TxSet) (tick : ℕ) (event : TxEvent) (look : Option Seen) (next : ℕ) (effect : TxEffect) → MayBe set tick event look effect → Keeps Q tick (amid event look next (found_by effect)) (done_by set tick (amid event look next (found_by effect)) effect)
+each : (Q : ℕ → ℕ → Type 0) (set : TxSet) (tick : ℕ) (event : TxEvent) (look : Option Look) (next : ℕ) (effect : TxEffect) → MayBe set tick event look effect → Keeps Q tick (amid event look next (found_by effect)) (done_by set tick (amid event look next (found_by effect)) effect)
 each Q set tick event look next Misses may = record { next = omega arith; told = λ joins live. tt; live = λ joins live. live }
 each Q set tick event look next (Joins buf len) may = record { next = omega arith; told = λ joins live. tt; live = λ joins live. joins next (omega arith) (omega arith) }
 each Q set tick event look next (Looks s seen) may = record { next = omega arith; told = λ joins live. tt; live = λ joins live. live }

@@ -7,7 +7,7 @@ use Rattle.hub_core.specs.Calls.{freed_by}
 use Rattle.std.specs.Prelude.{false, map}
 use Rattle.std.specs.List.{AllByRecursion}
 use Rattle.hub_core.specs.View.{View, Event, Reading, at_two, change_at, reading_new, grow, grows, Joining, Missed, Read, Parted}
-use Rattle.hub_core.specs.declared.port.Seen.{Seen}
+use Rattle.hub_core.specs.declared.port.Seen.{Seen as Look}
 use Rattle.hub_core.specs.declared.port.Left.{Left as LeftOver}
 use Rattle.hub_core.specs.declared.port.Left.TheVariants.{Others, Last}
 use Rattle.tp_sender.specs.declared.event.TxEvent.{TxEvent}
@@ -61,7 +61,7 @@ joining set m seq buf len dests n writes v so =
     let known : List Reading = v.readings set.path.0 set.dest.0 in
     anew set dests n m (m + 1) writes None (Some m) v (grow (Joining set.path.0 set.dest.0 seq buf len) v) (known ++ reading_new buf len ∷ []) refl refl refl (read-joined m (reading_new buf len) known so.read) so
 
-saw : (set : TxSet) (m : ℕ) (going : Option ℕ) (s : Transmission) (look : Seen) → Steps set m going (look_at set s look ∷ []) m going
+saw : (set : TxSet) (m : ℕ) (going : Option ℕ) (s : Transmission) (look : Look) → Steps set m going (look_at set s look ∷ []) m going
 unfolding grow
 saw set m going s look dests n writes v so =
     let f : Reading → Reading = λ r. record r { seen = look.cells; bytes = look.bytes; writer = look.writer } in
@@ -89,7 +89,7 @@ reads set m seq going (cell ∷ cells) =
     parts set m m m going going going (map (Read set.path.0 set.dest.0 seq) (cell ∷ cells)) (Read set.path.0 set.dest.0 seq cell ∷ []) (map (Read set.path.0 set.dest.0 seq) cells) refl (read set m seq cell going) (reads set m seq going cells)
 
 -- each effect
-each : (set : TxSet) (tick : ℕ) (event : TxEvent) (look : Option Seen) (next : ℕ) (effect : TxEffect) → MayBe set tick event look effect → StepsOf set (amid event look next (found_by effect)) (done_by set tick (amid event look next (found_by effect)) effect)
+each : (set : TxSet) (tick : ℕ) (event : TxEvent) (look : Option Look) (next : ℕ) (effect : TxEffect) → MayBe set tick event look effect → StepsOf set (amid event look next (found_by effect)) (done_by set tick (amid event look next (found_by effect)) effect)
 each set tick event look next Misses may = missed set next next None
 each set tick event look next (Joins buf len) may = joining set next next buf len
 each set tick event look next (Looks s seen) may = saw set next (Some s.seq) s seen

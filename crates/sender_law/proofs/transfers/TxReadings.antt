@@ -6,7 +6,7 @@ use Rattle.tp_sender.specs.Runs.{HasSent, cell_read, len_joined}
 use Rattle.tp_sender.specs.State.{TxTurn, tx_new, Transmission}
 use Rattle.hub_core.specs.Turns.{calls_by, state_after}
 use Rattle.hub_core.specs.View.{Event, Change, Reading, reading_new, grow, Joining, Missed, Saw, Read, Parted}
-use Rattle.hub_core.specs.declared.port.Seen.{Seen}
+use Rattle.hub_core.specs.declared.port.Seen.{Seen as Look}
 use Rattle.tp_sender.specs.declared.event.TxEvent.{TxEvent}
 use Rattle.tp_sender.specs.declared.set.TxSet.{TxSet}
 use Rattle.tp_sender.specs.Effects.{MayBe, TxStage, TxDone, TxEffect, done_by, found_by}
@@ -36,7 +36,7 @@ unfolding grow
 fill-parted set n seq freed =
     fill-changes (reading set.path.0 set.dest.0) n seq (Parted set.path.0 set.dest.0 seq freed) (λ r. record r { stands = false }) refl (λ k. refl) (λ v. at_two-same set.path.0 set.dest.0 _ v.readings) (λ r. refl) (λ r. refl)
 
-fill-saw : (set : TxSet) (n seq : ℕ) (look : Seen) → FillBy set n (Saw set.path.0 set.dest.0 seq look.cells look.bytes look.writer ∷ [])
+fill-saw : (set : TxSet) (n seq : ℕ) (look : Look) → FillBy set n (Saw set.path.0 set.dest.0 seq look.cells look.bytes look.writer ∷ [])
 unfolding grow
 fill-saw set n seq look =
     fill-changes (reading set.path.0 set.dest.0) n seq (Saw set.path.0 set.dest.0 seq look.cells look.bytes look.writer) (λ r. record r { seen = look.cells; bytes = look.bytes; writer = look.writer }) refl (λ k. refl)
@@ -81,7 +81,7 @@ joins-both set next mid last calls more live after one two = record {
 }
 
 -- each effect
-each : (set : TxSet) (tick : ℕ) (event : TxEvent) (look : Option Seen) (next : ℕ) (effect : TxEffect) → MayBe set tick event look effect → FilledBy set (amid event look next (found_by effect)) (done_by set tick (amid event look next (found_by effect)) effect)
+each : (set : TxSet) (tick : ℕ) (event : TxEvent) (look : Option Look) (next : ℕ) (effect : TxEffect) → MayBe set tick event look effect → FilledBy set (amid event look next (found_by effect)) (done_by set tick (amid event look next (found_by effect)) effect)
 each set tick event look next Misses may below = record { fill = fill-missed set next next; number = omega arith; joined = tt }
 each set tick event look next (Joins buf len) may below = record { fill = fill-joining set next next buf len; number = omega arith; joined = omega arith }
 each set tick event look next (Looks s seen) may below = record { fill = fill-saw set next s.seq seen; number = omega arith; joined = below }

@@ -3,7 +3,7 @@ use Rattle.std.proofs.Common.{◌≡◌, ℕ, true, Option, None, Some, List, []
 use Rattle.std.specs.Prelude.{map}
 use Rattle.hub_core.specs.View.{Event, Joining, Read}
 use Rattle.hub_core.specs.Turns.{state_after}
-use Rattle.hub_core.specs.declared.port.Seen.{Seen}
+use Rattle.hub_core.specs.declared.port.Seen.{Seen as Look}
 use Rattle.hub_core.specs.declared.record.DestResult.{DestResult}
 use Rattle.tp_sender.specs.Runs.{HasSent}
 use Rattle.tp_sender.specs.State.{Transmission, TxDid, TxTurn, tx_new}
@@ -21,7 +21,7 @@ abbrev Sees : TxSet → List Event → Option Transmission → Type 0
 Sees set calls live = (s : Transmission) → live ≡ Some s → IsLacking s.phase → SawSource set calls s.seq
 
 -- earlier calls of the turn
-saw-more : (set : TxSet) (front calls : List Event) (seq : ℕ) → SawSource set calls seq → SawSource set (front ++ calls) seq
+pub saw-more : (set : TxSet) (front calls : List Event) (seq : ℕ) → SawSource set calls seq → SawSource set (front ++ calls) seq
 saw-more set front calls seq saw = record {
   look = saw.look;
   among = record { before = front ++ saw.among.before; after = saw.among.after; are = ap (λ l. front ++ l) saw.among.are ∙ sym (append_assoc front saw.among.before (look_of set seq saw.look ∷ saw.among.after)) };
@@ -47,7 +47,7 @@ other set calls live t phase is at out s some lacks =
     absurd (out (subst Q at (subst P (sym same) lacks)))
 
 -- the look shows it
-looks : (set : TxSet) (calls more : List Event) (s : Transmission) (look : Seen) (live : Option Transmission) (t : Transmission) → calls ≡ look_at set s look ∷ more → look.writer ≡ true → live ≡ Some t → t.seq ≡ s.seq → Sees set calls live
+looks : (set : TxSet) (calls more : List Event) (s : Transmission) (look : Look) (live : Option Transmission) (t : Transmission) → calls ≡ look_at set s look ∷ more → look.writer ≡ true → live ≡ Some t → t.seq ≡ s.seq → Sees set calls live
 looks set calls more s look live t are writes is seq u some lacks =
     let both : Some t ≡ Some u = sym is ∙ some in
     let same : t ≡ u = cc in
@@ -55,7 +55,7 @@ looks set calls more s look live t are writes is seq u some lacks =
     let P : ℕ → Type 0 = λ n. SawSource set calls n in
     subst P number (record { look = look; among = record { before = []; after = more; are = are }; writes = writes })
 
-of-lacks : (set : TxSet) (s : Transmission) (look : Seen) (calls more rest : List Event) (did : TxDid) → calls ≡ look_at set s look ∷ rest → Lacks set s look more did → Sees set calls did.new.live
+of-lacks : (set : TxSet) (s : Transmission) (look : Look) (calls more rest : List Event) (did : TxDid) → calls ≡ look_at set s look ∷ rest → Lacks set s look more did → Sees set calls did.new.live
 of-lacks set s look calls more rest did are (WriterGone gone row) = none set calls did.new.live row.live
 of-lacks set s look calls more rest did are (TooLate there late row) = none set calls did.new.live row.live
 of-lacks set s look calls more rest did are (MayCome there early row) = looks set calls rest s look did.new.live s are there row.live refl

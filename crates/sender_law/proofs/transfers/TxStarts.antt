@@ -4,7 +4,7 @@ use Rattle.std.specs.Prelude.{◌==◌, ◌&&◌, ◌||◌, nat_le, not}
 use Rattle.std.proofs.lemmas.Bool.Decides.{nat_tests}
 use Rattle.hub_core.specs.Turns.{calls_by, state_after}
 use Rattle.hub_core.specs.View.{Event, Joining}
-use Rattle.hub_core.specs.declared.port.Seen.{Seen}
+use Rattle.hub_core.specs.declared.port.Seen.{Seen as Look}
 use Rattle.hub_core.specs.declared.record.DestResult.{DestResult}
 use Rattle.tp_sender.specs.Runs.{HasSent}
 use Rattle.tp_sender.specs.State.{Transmission, TxDid, TxTurn, tx_new}
@@ -18,7 +18,7 @@ use Rattle.tp_sender.specs.declared.transmission.Phase.TheVariants.{Start, Bytes
 use Rattle.sender_law.specs.Starts.{HasLooked, IsBegun, StartLaw, look_of}
 
 -- more calls
-looked-more : (set : TxSet) (calls more : List Event) (seq len : ℕ) → HasLooked set calls seq len → HasLooked set (calls ++ more) seq len
+pub looked-more : (set : TxSet) (calls more : List Event) (seq len : ℕ) → HasLooked set calls seq len → HasLooked set (calls ++ more) seq len
 looked-more set calls more seq len has = record {
   look = has.look;
   among = record { before = has.among.before; after = has.among.after ++ more; are = ap (λ l. l ++ more) has.among.are ∙ append_assoc has.among.before (look_of set seq has.look ∷ has.among.after) more };
@@ -30,11 +30,11 @@ enough-by bytes len threshold cells true is = inl (grind (arith, nat_tests))
 enough-by bytes len threshold cells false is = grind (arith, nat_tests)
 
 -- a look that shows it
-looked-now : (set : TxSet) (calls more : List Event) (s : Transmission) (look : Seen) → is_reached set s look ≡ true → HasLooked set (calls ++ look_at set s look ∷ more) s.seq s.len
+looked-now : (set : TxSet) (calls more : List Event) (s : Transmission) (look : Look) → is_reached set s look ≡ true → HasLooked set (calls ++ look_at set s look ∷ more) s.seq s.len
 looked-now set calls more s look is = record { look = look; among = record { before = calls; after = more; are = refl }; enough = enough-by look.bytes s.len set.threshold look.cells set.store is }
 
 -- of the session that is sent, unless it still waits to be begun
-abbrev Looks : TxSet → List Event → Option Transmission → Type 0
+abbrev pub Looks : TxSet → List Event → Option Transmission → Type 0
 Looks set calls None = Unit {0}
 Looks set calls (Some s) = (s.phase ≡ Start) ⊎ HasLooked set calls s.seq s.len
 
@@ -50,7 +50,7 @@ looks-kept : (set : TxSet) (calls : List Event) (s : Transmission) (live : Optio
 looks-kept set calls s live has (IsOver is) = looks-at set calls live None is tt
 looks-kept set calls s live has (IsSame t is seq len) = looks-at set calls live (Some t) is (inr (rw (seq, len) has))
 
-of-lacks : (set : TxSet) (s : Transmission) (look : Seen) (calls : List Event) (did : TxDid) → Lacks set s look calls did → Keeps s.seq s.len did.new.live
+of-lacks : (set : TxSet) (s : Transmission) (look : Look) (calls : List Event) (did : TxDid) → Lacks set s look calls did → Keeps s.seq s.len did.new.live
 of-lacks set s look calls did (WriterGone gone row) = IsOver row.live
 of-lacks set s look calls did (TooLate there late row) = IsOver row.live
 of-lacks set s look calls did (MayCome there early row) = IsSame s row.live refl refl
@@ -133,7 +133,7 @@ of-row : (set : TxSet) (before : List Event) (next : ℕ) (live : Option Transmi
 of-row set before next None event did looks row = of-idle set before next event did row
 of-row set before next (Some s) event did looks row = of-live set before s event did.calls did looks row.0
 
-looks : (set : TxSet) (turns : List TxTurn) → HasSent set turns → Looks set (calls_by turns) (state_after tx_new turns).live
+pub looks : (set : TxSet) (turns : List TxTurn) → HasSent set turns → Looks set (calls_by turns) (state_after tx_new turns).live
 looks set [] happened = tt
 looks set (turn ∷ earlier) happened = of-row set (calls_by earlier) (state_after tx_new earlier).next (state_after tx_new earlier).live turn.event turn.did (looks set earlier happened.2) happened.1.1
 

@@ -1,7 +1,7 @@
 -- Each read adds the next bytes of the file, and the last one ends the log.
 use Rattle.std.proofs.Common.{◌∙◌, length-take, arith}
 use Rattle.std.proofs.lemmas.Result.{err_from_is_err_and}
-use Rattle.candump_log.proofs.Logs.{log-supported, log-dated, read_to_end, read_more}
+use Rattle.candump_log.proofs.Logs.{read_to_end, read_more}
 use Rattle.candump_log.proofs.Stopping.{stops_at_end, stops_in_read}
 use Rattle.candump_log.proofs.reading.read_log.Goals as goal
 
@@ -25,10 +25,7 @@ returns-then-count-eq0-clause-read g c =
     c.in_ok-finish.ensures.read
 
 pub returns-then-count-eq0-clause-dated : goal.returns-then-count-eq0-clause-dated
-returns-then-count-eq0-clause-dated g c = log-dated (g.S.LogSource.source c.args.source.now) _ (c.in_ok-finish.ensures.supported _ c.loop-count.invariant.4.so_far)
-
-pub returns-then-count-eq0-clause-supported : goal.returns-then-count-eq0-clause-supported
-returns-then-count-eq0-clause-supported g c = log-supported (g.S.LogSource.source c.args.source.now) _ (c.in_ok-finish.ensures.supported _ c.loop-count.invariant.4.so_far)
+returns-then-count-eq0-clause-dated g c = c.in_ok-finish.ensures.dated _ c.loop-count.invariant.4.so_far
 
 pub returns-in_err-finish-clause-stops : goal.returns-in_err-finish-clause-stops
 returns-in_err-finish-clause-stops g c =

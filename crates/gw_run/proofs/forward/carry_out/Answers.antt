@@ -9,12 +9,6 @@ pub returns-in-Err-read_log-clause-cause : goal.returns-in-Err-read_log-clause-c
 returns-in-Err-read_log-clause-cause g c config is configured =
     second-cause (g.D.Depot.state c.args.depot.now).told (g.D.Depot.state c.args.depot.now).files config c.args.report.now c.args.setup.now c.in-Ok.source.lines c.in-Ok.source.frames c.in-Err-read_log.stop _ c.refused_log-in-Err-read_log.ensures is configured (search rules) (search rules) (search rules)
 
-pub plan_results-requires-clause-units : goal.plan_results-requires-clause-units
-plan_results-requires-clause-units g c = rw (c.items.ensures, ← c.source.ensures.bus) c.in-Ok.ensures.supported
-
-pub plan_results-requires-clause-answers : goal.plan_results-requires-clause-answers
-plan_results-requires-clause-answers g c = rw (c.items-2.ensures, ← c.destination.ensures) c.in-Ok-read_log.ensures.supported
-
 pub returns-in-Err-plan_results-clause-cause : goal.returns-in-Err-plan_results-clause-cause
 returns-in-Err-plan_results-clause-cause g c config is configured =
     plan-cause (g.D.Depot.state c.args.depot.now).told _ _ _ _ _ _ _ _ _ is configured (rw c.source.ensures.bus at c.in-Ok.ensures.read)

@@ -2,4 +2,4 @@ use Rattle.gw_run.proofs.Outputs.{output-log}
 use Rattle.gw_run.proofs.law.output_law.Goals as goal
 
 pub returns : goal.returns
-returns c start period interface written name all = output-log start period interface name written all
+returns c start period interface fd written name all = output-log start period interface fd name written all

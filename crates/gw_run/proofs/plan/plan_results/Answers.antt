@@ -1,31 +1,19 @@
 -- What the machines tell keeps the laws, and is what is printed.
-use Rattle.std.proofs.Common.{◌≡◌, ◌+◌, refl, subst}
-use Rattle.std.specs.Prelude.{All}
-use Rattle.std.proofs.lemmas.List.Elements.{All-weaker}
-use Rattle.gw_run.specs.declared.setup.Side.TheVariants.{Destination}
-use Rattle.gw_run.specs.Answers.{IsPlainAnswer}
+use Rattle.std.proofs.Common.{◌≡◌, ◌+◌, refl}
 use Rattle.gw_run.specs.Forwarded.{last_of}
-use Rattle.gw_run.specs.Frames.{address_of}
-use Rattle.gw_run.specs.Setup.{IsBuiltFrame}
 use Rattle.gw_run.proofs.Outputs.{written-log}
-use Rattle.gw_run.proofs.Telling.{controls-within, frames-within, lawful_of, plain-answer, tells_of, told-controls, told-frames}
+use Rattle.gw_run.proofs.Telling.{controls-within, frames-within, lawful_of, tells_of, told-controls, told-frames}
 use Rattle.gw_run.proofs.plan.plan_results.Goals as goal
-
-pub play-requires-clause-answers : goal.play-requires-clause-answers
-play-requires-clause-answers c =
-    let address = c.machines-machines.result.destination in
-    All-weaker (λ s. IsBuiltFrame (Destination address) s.frame) (λ s. IsPlainAnswer (address_of address) s.frame) (λ s built. plain-answer address s.frame built) c.args.destination.now
-    (subst (λ side. All (λ s. IsBuiltFrame side s.frame) c.args.destination.now) c.machines-machines.ensures.destination c.requires.answers)
 
 pub print_all-requires-clause-controls : goal.print_all-requires-clause-controls
 print_all-requires-clause-controls c =
     controls-within c.machines-machines.result c.start_of.result.0 c.period.result (c.max.result + c.from.result) c.args.source.now c.args.destination.now c.in-Ok.played c.if-last-gt-MOST_TICKS.false
-    (lawful_of c.machines-machines.result _ (c.max.result + c.from.result) c.args.source.now c.args.destination.now c.in-Ok.played c.machines-machines.result.are (subst (λ side. All (λ s. IsBuiltFrame side s.frame) c.args.source.now) c.machines-machines.ensures.source c.requires.units) c.in-Ok.ensures)
+    (lawful_of c.machines-machines.result _ (c.max.result + c.from.result) c.args.source.now c.args.destination.now c.in-Ok.played c.machines-machines.result.are c.in-Ok.ensures)
 
 pub print_all-requires-clause-frames : goal.print_all-requires-clause-frames
 print_all-requires-clause-frames c =
     frames-within c.machines-machines.result c.start_of.result.0 c.period.result (c.max.result + c.from.result) c.args.source.now c.args.destination.now c.in-Ok.played c.if-last-gt-MOST_TICKS.false
-    (lawful_of c.machines-machines.result _ (c.max.result + c.from.result) c.args.source.now c.args.destination.now c.in-Ok.played c.machines-machines.result.are (subst (λ side. All (λ s. IsBuiltFrame side s.frame) c.args.source.now) c.machines-machines.ensures.source c.requires.units) c.in-Ok.ensures)
+    (lawful_of c.machines-machines.result _ (c.max.result + c.from.result) c.args.source.now c.args.destination.now c.in-Ok.played c.machines-machines.result.are c.in-Ok.ensures)
 
 pub returns-clause-planned : goal.returns-clause-planned
 returns-clause-planned c =
@@ -36,11 +24,11 @@ returns-clause-planned c =
       ticks = record { begins = c.start_of.ensures.start; in_time = rw (← last_is) c.if-last-gt-MOST_TICKS.false };
       told = c.in-Ok.played;
       tells = tells_of c.args.setup.now c.machines-machines.result _ (c.max.result + c.from.result) c.args.source.now c.args.destination.now c.in-Ok.played c.machines-machines.ensures.are c.period.ensures.period last_is
-          (lawful_of c.machines-machines.result _ (c.max.result + c.from.result) c.args.source.now c.args.destination.now c.in-Ok.played c.machines-machines.result.are (subst (λ side. All (λ s. IsBuiltFrame side s.frame) c.args.source.now) c.machines-machines.ensures.source c.requires.units) c.in-Ok.ensures)
+          (lawful_of c.machines-machines.result _ (c.max.result + c.from.result) c.args.source.now c.args.destination.now c.in-Ok.played c.machines-machines.result.are c.in-Ok.ensures)
           c.in-Ok.ensures;
       prints = c.in-Ok-print_all.ensures;
-      source_log = written-log c.start_of.result.0 c.args.setup.now.period c.args.setup.now.source.interface c.in-Ok.played.controls c.in-Ok-print_all.ensures.source_lines
-          (told-controls c.machines-machines.result _ _ c.args.source.now c.args.destination.now c.in-Ok.played c.machines-machines.result.are c.in-Ok.ensures);
-      log = written-log c.start_of.result.0 c.args.setup.now.period c.args.setup.now.destination.interface c.in-Ok.played.frames c.in-Ok-print_all.ensures.lines
-          (told-frames c.machines-machines.result _ _ c.args.source.now c.args.destination.now c.in-Ok.played c.machines-machines.result.are c.in-Ok.ensures);
+      source_log = written-log c.start_of.result.0 c.args.setup.now.period c.args.setup.now.source.interface c.args.setup.now.source.fd c.in-Ok.played.controls c.in-Ok-print_all.ensures.source_lines
+          (told-controls _ c.machines-machines.result _ _ c.args.source.now c.args.destination.now c.in-Ok.played (rw c.machines-machines.ensures.are.shape c.machines-machines.ensures.source) c.in-Ok.ensures);
+      log = written-log c.start_of.result.0 c.args.setup.now.period c.args.setup.now.destination.interface c.args.setup.now.destination.fd c.in-Ok.played.frames c.in-Ok-print_all.ensures.lines
+          (told-frames _ c.machines-machines.result _ _ c.args.source.now c.args.destination.now c.in-Ok.played (rw c.machines-machines.ensures.are.tx c.machines-machines.ensures.destination) c.in-Ok.ensures);
     }

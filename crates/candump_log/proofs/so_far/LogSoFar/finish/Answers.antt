@@ -1,7 +1,7 @@
 -- The end of the file ends the log, or its last line.
 use Rattle.std.proofs.Common.{[], inl, refl, append-nil}
 use Rattle.std.proofs.lemmas.Result.{err_from_is_err_and}
-use Rattle.candump_log.proofs.Logs.{supported-push, holds_some, last_line_ended, not_empty}
+use Rattle.candump_log.proofs.Logs.{dated-push, holds_some, last_line_ended, not_empty}
 use Rattle.candump_log.proofs.Stopping.{stops_here}
 use Rattle.candump_log.proofs.so_far.LogSoFar.finish.Goals as goal
 
@@ -9,8 +9,8 @@ pub returns-clause-read : goal.returns-clause-read
 returns-clause-read g c content so_far =
     last_line_ended _ _ _ _ _ _ so_far (rw c.as_slice-last.ensures.value at (not_empty _ c.if-is_empty.ensures)) (rw c.as_slice-last.ensures.value at c.in_ok-push_line.ensures.ok)
 
-pub returns-clause-supported : goal.returns-clause-supported
-returns-clause-supported g c content so_far = supported-push _ _ _ _ so_far.supported (rw c.as_slice-last.ensures.value at c.in_ok-push_line.ensures.ok)
+pub returns-clause-dated : goal.returns-clause-dated
+returns-clause-dated g c content so_far = dated-push _ _ _ _ so_far.dated (rw c.as_slice-last.ensures.value at c.in_ok-push_line.ensures.ok)
 
 pub returns-in_err-push_line-clause-stops : goal.returns-in_err-push_line-clause-stops
 returns-in_err-push_line-clause-stops g c =

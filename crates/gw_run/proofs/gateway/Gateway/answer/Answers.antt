@@ -11,19 +11,19 @@ use Rattle.gw_run.proofs.gateway.Gateway.answer.Goals as goal
 
 pub tell_sender-requires : goal.tell_sender-requires
 tell_sender-requires c =
-    can-tell-sender c.args.self.now c.args.tick.0 c.args.tick.0 _ _ _ (Fc c.in-Fc.fs c.in-Fc.bs c.in-Fc.st) c.requires.at.2.stands (omega arith) c.requires.tick (λ e. cc)
+    can-tell-sender c.requires.at.2 c.args.self.now c.args.tick.0 c.args.tick.0 _ _ _ (Fc c.in-Fc.fs c.in-Fc.bs c.in-Fc.st) c.requires.at.3.stands (omega arith) c.requires.tick (λ e. cc)
 
 pub returns-in_ok-tell_sender-in-Fc-clause-step : goal.returns-in_ok-tell_sender-in-Fc-clause-step
-returns-in_ok-tell_sender-in-Fc-clause-step c = λ seen answers at.
+returns-in_ok-tell_sender-in-Fc-clause-step c = λ sizes seen answers at.
     let is : FlowControl c.in-Fc.fs c.in-Fc.bs c.in-Fc.st ≡ unit_for (address_of c.args.address) c.args.frame.now = sym (ap meaning_of c.in-Fc.is) ∙ c.unit.ensures in
-    let P : Meaning → Type 0 = λ m. InDestination c.tell_sender.new.self seen (answers ++ answer_in c.args.tick.0 m) c.args.tick.0 in
-    subst P is (answered c.args.self.now c.tell_sender.new.self seen answers c.args.tick.0 c.in-Fc.fs c.in-Fc.bs c.in-Fc.st at c.in_ok-tell_sender-in-Fc.ensures)
+    let P : Meaning → Type 0 = λ m. InDestination sizes c.tell_sender.new.self seen (answers ++ answer_in c.args.tick.0 m) c.args.tick.0 in
+    subst P is (answered sizes c.args.self.now c.tell_sender.new.self seen answers c.args.tick.0 c.in-Fc.fs c.in-Fc.bs c.in-Fc.st at c.in_ok-tell_sender-in-Fc.ensures)
 
 -- no other frame is an answer
 pub returns-in-Sf : goal.returns-in-Sf
 returns-in-Sf c = record {
   machines = refl;
-  step = λ seen answers at.
+  step = λ sizes seen answers at.
       let said = c.unit.ensures in
       let none : [] ≡ answer_in c.args.tick.0 (unit_for (address_of c.args.address) c.args.frame.now) = elim c.in-Sf.is [
         | inl single ↦ ap (answer_in c.args.tick.0) (sym (ap meaning_of single.1) ∙ said)
@@ -35,6 +35,6 @@ returns-in-Sf c = record {
           ]
         ]
       ] in
-      let P : List Answer → Type 0 = λ l. InDestination c.args.self.now seen l c.args.tick.0 in
+      let P : List Answer → Type 0 = λ l. InDestination sizes c.args.self.now seen l c.args.tick.0 in
       subst P (sym (append-nil answers) ∙ ap (λ (l : List Answer). answers ++ l) none) at;
 }

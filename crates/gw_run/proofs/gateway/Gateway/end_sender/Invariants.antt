@@ -1,4 +1,4 @@
-use Rattle.std.proofs.Common.{◌≡◌, List}
+use Rattle.std.proofs.Common.{◌≡◌, List, ℕ}
 use Rattle.tp_sender.specs.State.{TxTurn}
 use Rattle.tp_receiver.specs.State.{RxTurn}
 use Rattle.hub_core.specs.View.{View}
@@ -10,7 +10,7 @@ use Rattle.gw_run.proofs.gateway.Gateway.end_sender.Given as goal
 abbrev pub invariant-loop : goal.invariant-loop
 invariant-loop l = record {
   machines : l.self.machines ≡ l.initial.self.machines;
-  ends : (turns : List RxTurn) (moments : List TxTurn) (view : View) → Stands l.initial.self l.last.0 turns moments view → EndsTelling l.self l.last.0 turns moments view;
+  ends : (sizes : List ℕ) (turns : List RxTurn) (moments : List TxTurn) (view : View) → Stands sizes l.initial.self l.last.0 turns moments view → EndsTelling sizes l.self l.last.0 turns moments view;
 }
 
 abbrev pub decreases-loop : goal.decreases-loop

@@ -55,7 +55,7 @@ returns-clause-writes c =
     writes-asked _ _ _ _ c.room_left-room.result c.requires bounds.0 bounds.1 (ap view_after c.note.ensures) (same-opened _ _ refl)
 
 pub returns-clause-fresh : goal.returns-clause-fresh
-returns-clause-fresh c = room-fresh (groups_of c.args.self.now) (view_after c.args.self.now.past.seat.me.0.deeds) c.args.at.now.path.0 c.args.at.now.seq c.room_left-room.result (returns-clause-exact c)
+returns-clause-fresh c = room-fresh (groups_of c.args.self.now) (view_after c.args.self.now.past.seat.me.0.deeds) c.args.at.now c.room_left-room.result c.requires (returns-clause-exact c) (returns-clause-cells c)
 
 pub returns-clause-stays : goal.returns-clause-stays
 returns-clause-stays c = stays-same c.args.self.now (Asked c.args.at.now.path.0 c.args.at.now.seq c.room_left-room.result.cells c.room_left-room.result.readers) _ (ap view_after c.note.ensures) (by-asked _ _ _ _ _ _ (ap view_after c.note.ensures))

@@ -1,9 +1,0 @@
-pub mod Effects
-pub mod Grant
-pub mod Own
-pub mod Port
-pub mod Receptions
-pub mod Runs
-pub mod Set
-pub mod State
-pub mod Table

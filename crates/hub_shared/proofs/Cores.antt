@@ -7,6 +7,7 @@ use Rattle.atomic_table.specs.Table.{State}
 use Rattle.hub_core.proofs.EveryStep.{Lawful, lawful-of, joint}
 use Rattle.hub_core.proofs.Grouped.{pushed-same, pushed-else}
 use Rattle.hub_core.proofs.Numbered.{numbered-old, replay-old, taken-clear}
+use Rattle.hub_core.proofs.Owning.{held-last, held-taken}
 use Rattle.hub_core.proofs.Pools.{fewer-changes}
 use Rattle.hub_core.specs.Core.{AreJoint}
 use Rattle.hub_core.specs.Groups.{free_in, group_of, place_of, sizes_of, in_group, journal_of, changes_in}
@@ -67,8 +68,8 @@ free-unheld groups s k buf free = go (k.core.held buf) refl
     go None is = is
     go (Some t) is =
         let so = lawful groups s k in
-        let takes = so.owned.held_is buf t is in
-        absurd (taken-clear (sizes_of groups (group_of groups buf)) (changes_in groups (group_of groups buf) k.core) t.number (place_of groups buf) takes.need (so.journals.order (group_of groups buf)) (so.journals.lawful (group_of groups buf)) takes.take (so.owned.held_last buf t is) free)
+        let takes = held-taken groups k.core so.owned buf t is in
+        absurd (taken-clear (sizes_of groups (group_of groups buf)) (changes_in groups (group_of groups buf) k.core) t.number (place_of groups buf) takes.need (so.journals (group_of groups buf)) takes.take (held-last groups k.core so.owned buf t is) free)
 
 -- the words of the sessions are as before as a pool word changes, and no party's list
 pub shown-on : (groups : List (List ℕ)) (words : List ℕ) (group word : ℕ) (core next : View) → group < length groups → next.sessions ≡ core.sessions → next.readings ≡ core.readings → ShowCards groups words core → ShowCards groups (set words group word) next

@@ -10,7 +10,7 @@ use Rattle.atomic_table.specs.Table.{step, keeps, Allows}
 use Rattle.hub_core.proofs.Fresh.{rise-grow, rise-twice}
 use Rattle.hub_core.proofs.Growing.{at_one-same, at_one-other, slice_get-pushed}
 use Rattle.hub_core.proofs.Led.{leads-more}
-use Rattle.hub_core.proofs.Places.{session-pushed}
+use Rattle.hub_core.proofs.Kept.{session-pushed}
 use Rattle.hub_core.specs.Core.{Does, MayDo}
 use Rattle.hub_core.specs.Floors.{Rise, floors_of, has_left}
 use Rattle.hub_core.specs.Groups.{all_sizes}

@@ -10,7 +10,7 @@ use Rattle.atomic_table.proofs.Lists.{exchanged}
 use Rattle.atomic_table.specs.Table.{step, keeps, Allows}
 use Rattle.hub_core.proofs.Cut.{size-in}
 use Rattle.hub_core.proofs.Fresh.{rise-same}
-use Rattle.hub_core.proofs.Owning.{Takes as OwnTake}
+use Rattle.hub_core.proofs.Owning.{OwnedIn, held-last, held-taken, held-unused, session-taken, session-turn}
 use Rattle.hub_core.specs.Floors.{has_left, floors_of}
 use Rattle.hub_core.specs.Groups.{all_sizes, group_of, place_of, journal_of}
 use Rattle.hub_core.specs.Joint.{IsOver}
@@ -50,14 +50,14 @@ none-left v path seq s over = let d = dests s.dests (λ dest below. over.dests d
 
 module _ (groups : List (List ℕ)) (s : HubState) (k : Kept groups s) where
   -- a buffer of a session is one of the groups', and so is one that is held
-  bought : (buf number size : ℕ) → OwnTake groups k.core.changes buf number size → buf < length (all_sizes groups)
-  bought buf number size takes = slice_get_within (all_sizes groups) buf size (sym (size-in groups buf) ∙ takes.size_is)
+  owned : OwnedIn groups k.core
+  owned = (lawful groups s k).owned
 
   pub session-there : (path seq : ℕ) (t : Session) → session_at k.core path seq ≡ Some t → t.buf < length (all_sizes groups)
-  session-there path seq t at = bought t.buf t.number t.size ((lawful groups s k).owned.taken path seq t at)
+  session-there path seq t at = slice_get_within (all_sizes groups) t.buf t.size (sym (size-in groups t.buf) ∙ (session-taken groups k.core owned path seq t at).size)
 
   pub held-there : (buf : ℕ) (t : Taking) → k.core.held buf ≡ Some t → buf < length (all_sizes groups)
-  held-there buf t is = bought buf t.number t.size ((lawful groups s k).owned.held_is buf t is)
+  held-there buf t is = slice_get_within (all_sizes groups) buf t.size (sym (size-in groups buf) ∙ (held-taken groups k.core owned buf t is).size_is)
 
   -- what a seat holds is held
   pub held-whole : (j : ℕ) (u : Sight) → get_elem? s.views j ≡ some u → (buf : ℕ) (t : Taking) → (view_of u).held buf ≡ Some t → k.core.held buf ≡ Some t
@@ -65,18 +65,15 @@ module _ (groups : List (List ℕ)) (s : HubState) (k : Kept groups s) where
 
   -- a session of which a party takes part isn't in a buffer that is held
   pub apart : (buf : ℕ) (h : Taking) → k.core.held buf ≡ Some h → (path seq : ℕ) (t : Session) → session_at k.core path seq ≡ Some t → 0 < parties_of k.core path seq t → t.buf ≢ buf
-  apart buf h is path seq t at stands same = elim (so.turn path seq t at) [
+  apart buf h is path seq t at stands same = elim (session-turn groups k.core owned path seq t at) [
     | inl last ↦
-        let mine : ChangesBuf (journal_of groups (group_of groups buf) k.core.changes) (place_of groups buf) h.number = (Taken h.number (place_of groups buf) (so.held_is buf h is).need, (so.held_is buf h is).take, refl) in
-        let theirs : ChangesBuf (journal_of groups (group_of groups t.buf) k.core.changes) (place_of groups t.buf) t.number = (Taken t.number (place_of groups t.buf) (so.taken path seq t at).need, (so.taken path seq t at).take, refl) in
-        let low = so.held_last buf h is t.number (subst (λ (b : ℕ). ChangesBuf (journal_of groups (group_of groups b) k.core.changes) (place_of groups b) t.number) same theirs) in
+        let mine : ChangesBuf (journal_of groups (group_of groups buf) k.core.changes) (place_of groups buf) h.number = (Taken h.number (place_of groups buf) (held-taken groups k.core owned buf h is).need, (held-taken groups k.core owned buf h is).take, refl) in
+        let theirs : ChangesBuf (journal_of groups (group_of groups t.buf) k.core.changes) (place_of groups t.buf) t.number = (Taken t.number (place_of groups t.buf) (session-taken groups k.core owned path seq t at).need, (session-taken groups k.core owned path seq t at).take, refl) in
+        let low = held-last groups k.core owned buf h is t.number (subst (λ (b : ℕ). ChangesBuf (journal_of groups (group_of groups b) k.core.changes) (place_of groups b) t.number) same theirs) in
         let high = last h.number (subst (λ (b : ℕ). ChangesBuf (journal_of groups (group_of groups b) k.core.changes) (place_of groups b) h.number) (sym same) mine) in
-        so.held_unused buf h is path seq t at (ap (group_of groups) same, omega (arith, low, high))
+        held-unused groups k.core owned buf h is path seq t at (ap (group_of groups) same, omega (arith, low, high))
     | inr over ↦ absurd (omega (arith, stands, none-left k.core path seq t over.0))
   ]
-    where
-      so : Rattle.hub_core.proofs.Owning.Owned groups k.core.changes k.core.held k.core
-      so = (lawful groups s k).owned
 
 -- two words of buffers that are there
 pub card-length : (groups : List (List ℕ)) (a b : ℕ) → a < length (all_sizes groups) → b < length (all_sizes groups) → place_of_word groups (Card a) ≢ place_of_word groups (Length b)

@@ -10,8 +10,8 @@ mod Leaving
 mod Ledger
 mod Looks
 mod Merging
-mod Owning
-mod Places
+pub mod Owning
+pub mod Places
 pub mod Pools
 mod Positions
 pub mod Quiet

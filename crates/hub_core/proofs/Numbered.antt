@@ -13,7 +13,7 @@ use Rattle.hub_core.specs.View.{Change, Taken, Freed, Refusal}
 use Rattle.pool_words.proofs.Bits.{take-clears, take-leaves, free-leaves}
 
 -- a change is found by its number, and has it
-numbered-number : (changes : List Change) (n : ℕ) (d : Change) → numbered changes n ≡ Some d → number_of d ≡ n
+pub numbered-number : (changes : List Change) (n : ℕ) (d : Change) → numbered changes n ≡ Some d → number_of d ≡ n
 numbered-number [] n d is = absurd cc
 numbered-number (c ∷ changes) n d is = grind (arith, numbered-number changes n d)
 

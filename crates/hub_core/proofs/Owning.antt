@@ -1,5 +1,5 @@
 -- Who has each buffer: as one more change comes, as a session is entered, and as parties go on.
-use Rattle.std.proofs.Common.{◌≡◌, ℕ, ◌≤◌, ◌⊎◌, inl, inr, List, [], ◌∷◌, ◌++◌, length, Option, Some, None, refl, ap, subst, arith}
+use Rattle.std.proofs.Common.{◌≡◌, ℕ, ◌≤◌, ◌⊎◌, inl, inr, List, [], ◌∷◌, ◌++◌, length, Option, Some, None, refl, ap, sym, subst, arith}
 use Rattle.std.specs.Prelude.{slice_get, option_map}
 use Rattle.gw_base.proofs.Lists.{same-some}
 use Rattle.hub_core.proofs.Grouped.{Journals, ComesNext, pushed-same, each-group, found-old}
@@ -258,6 +258,24 @@ module _ (groups : List (List ℕ)) (v : View) (owned : OwnedIn groups v) where
     | inl last ↦ last later changed
     | inr e ↦ absurd (let is = done-session g n e.0 in none is.0 is.1 is.2 is.3 is.4)
   ]
+
+  -- what is held has its take, which no session has and which is its buffer's last change
+  pub held-taken : (buf : ℕ) (t : Taking) → v.held buf ≡ Some t → IsTake groups v.changes (take_held buf t)
+  held-taken buf t held = owned.taken (Holder buf) (take_held buf t) (ap (option_map (take_held buf)) held)
+
+  pub held-unused : (buf : ℕ) (t : Taking) → v.held buf ≡ Some t → (path seq : ℕ) (s : Session) →
+      session_at v path seq ≡ Some s → IsSessionOf groups (group_of groups buf) t.number s → ⊥
+  held-unused buf t held path seq s at its =
+      let mine = ap (option_map (take_held buf)) held in
+      let theirs = ap (option_map take_of) at in
+      let same = owned.own (Holder buf) (Writer path seq) (take_held buf t) (take_of s) mine theirs
+      (sym its.0, sym its.1) in cc
+
+  pub held-last : (buf : ℕ) (t : Taking) → v.held buf ≡ Some t →
+      IsLast (changes_in groups (group_of groups buf) v) (place_of groups buf) t.number
+  held-last buf t held later changed =
+      let its = held-taken buf t held in
+      unused (group_of groups buf) t.number (place_of groups buf) its.need later its.take (held-unused buf t held) changed
 
   pub free-next : (group number place need next : ℕ) →
       numbered (changes_in groups group v) number ≡ Some (Taken number place need) →

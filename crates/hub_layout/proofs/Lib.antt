@@ -1,2 +1,2 @@
 mod Firsts
-mod Places
+pub mod Places

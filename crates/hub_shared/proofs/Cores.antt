@@ -1,21 +1,24 @@
 -- The state of the plain machine that the words show, and what one more change leaves of what was known.
-use Rattle.std.proofs.Common.{◌≡◌, ◌≢◌, ℕ, ◌+◌, ◌/◌, ◌^◌, ◌<◌, ◌≤◌, inl, inr, List, [], ◌∷◌, ◌++◌, length, set, get_or, get_or-set_same, Some, ap, sym, ◌∙◌, subst, arith, length-append}
+use Rattle.std.proofs.Common.{◌≡◌, ◌≢◌, ℕ, ◌+◌, ◌/◌, ◌%◌, ◌^◌, ◌<◌, ◌≤◌, inl, inr, zero, suc, List, [], ◌∷◌, ◌++◌, length, set, get_or, get_or-set_same, Some, refl, ap, sym, ◌∙◌, subst, arith, length-append}
 use Rattle.std.proofs.lemmas.Bool.Decides.{eqb_tells}
 use Rattle.std.proofs.lemmas.List.{get_or-set_other}
-use Rattle.std.specs.Prelude.{slice_index}
+use Rattle.std.specs.Prelude.{slice_index, replicate, IsBitSet, Option, None}
 use Rattle.atomic_table.specs.Table.{State}
 use Rattle.hub_core.proofs.EveryStep.{Lawful, lawful-of, joint}
 use Rattle.hub_core.proofs.Grouped.{pushed-same, pushed-else}
-use Rattle.hub_core.proofs.Numbered.{numbered-old, replay-old}
+use Rattle.hub_core.proofs.Numbered.{numbered-old, replay-old, taken-clear}
+use Rattle.hub_core.proofs.Owning.{held-last, held-taken}
 use Rattle.hub_core.proofs.Pools.{fewer-changes}
 use Rattle.hub_core.specs.Core.{AreJoint}
-use Rattle.hub_core.specs.Groups.{group_of, place_of, sizes_of, in_group, journal_of, changes_in}
+use Rattle.hub_core.specs.Groups.{free_in, group_of, place_of, sizes_of, in_group, journal_of, changes_in}
 use Rattle.hub_core.specs.Joint.{IsFreed}
 use Rattle.hub_core.specs.Journal.{AreInOrder, numbered, replay, changed_buf}
-use Rattle.hub_core.specs.View.{View, Change, Freed, Session}
+use Rattle.hub_core.specs.View.{View, Change, Freed, Taking, Session, Reading}
 use Rattle.pool_words.specs.Pools.{full_pool, pool_of}
 use Rattle.pool_words.specs.declared.pool.Pool.{Pool}
-use Rattle.hub_shared.specs.Rule.{IsPast, WasWord, Kept}
+use Rattle.hub_layout.specs.Places.{Card, Length}
+use Rattle.hub_shared.specs.Cards.{ShowCards, place_of_word}
+use Rattle.hub_shared.specs.Rule.{AreClear, IsPast, WasWord, Kept}
 use Rattle.hub_shared.specs.declared.sight.Note.{Note}
 use Rattle.hub_shared.specs.declared.sight.Sight.{Sight}
 
@@ -57,6 +60,31 @@ module _ (groups : List (List ℕ)) (s : HubState) (k : Kept groups s) where
     | inr apart ↦ omega (arith, was.there, count-now group there, apart.1)
   ]
 
+-- a free buffer isn't held
+pub free-unheld : (groups : List (List ℕ)) (s : HubState) (k : Kept groups s) (buf : ℕ) → IsBitSet (free_in groups (group_of groups buf) k.core) (place_of groups buf) → k.core.held buf ≡ None
+free-unheld groups s k buf free = go (k.core.held buf) refl
+  where
+    go : (found : Option Taking) → k.core.held buf ≡ found → k.core.held buf ≡ None
+    go None is = is
+    go (Some t) is =
+        let so = lawful groups s k in
+        let takes = held-taken groups k.core so.owned buf t is in
+        absurd (taken-clear (sizes_of groups (group_of groups buf)) (changes_in groups (group_of groups buf) k.core) t.number (place_of groups buf) takes.need (so.journals (group_of groups buf)) takes.take (held-last groups k.core so.owned buf t is) free)
+
+-- the words of the sessions are as before as a pool word changes, and no party's list
+pub shown-on : (groups : List (List ℕ)) (words : List ℕ) (group word : ℕ) (core next : View) → group < length groups → next.sessions ≡ core.sessions → next.readings ≡ core.readings → ShowCards groups words core → ShowCards groups (set words group word) next
+shown-on groups words group word core next there sessions readings so = subst (λ (x : (ℕ → List Session) × (ℕ → ℕ → List Reading)). ShowCards groups (set words group word) (record next { sessions = x.0; readings = x.1 })) (λ i. (sym sessions i, sym readings i)) (record {
+  cards = λ path seq s at some. get_or-set_other words group (place_of_word groups (Card s.buf)) word 0 (λ e. past-card s.buf e) ∙ so.cards path seq s at some;
+  lengths = λ path seq s at some. get_or-set_other words group (place_of_word groups (Length s.buf)) word 0 (λ e. past-length s.buf e) ∙ so.lengths path seq s at some;
+  empty = λ buf below none. ap (λ (n : ℕ). n % 2 ^ 9) (get_or-set_other words group (place_of_word groups (Card buf)) word 0 (λ e. past-card buf e)) ∙ so.empty buf below none;
+})
+  where
+    past-card : (buf : ℕ) → place_of_word groups (Card buf) ≡ group → ⊥
+    past-card buf is = omega (arith, is, there)
+
+    past-length : (buf : ℕ) → place_of_word groups (Length buf) ≡ group → ⊥
+    past-length buf is = omega (arith, is, there)
+
 -- one more change of a group
 module _ (groups : List (List ℕ)) (core next : View) (c : Change) (pushed : next.changes ≡ core.changes ++ c ∷ []) (order : (group : ℕ) → AreInOrder (changes_in groups group core)) where
   -- a group's changes are as before, or one more
@@ -80,3 +108,12 @@ module _ (groups : List (List ℕ)) (core next : View) (c : Change) (pushed : ne
     journal-next (group_of groups t.buf) (λ js. numbered js freed.0 ≡ Some (Freed freed.0 (place_of groups t.buf))) freed.2
         (λ its. numbered-old (changes_in groups (group_of groups t.buf) core) (in_group groups c) freed.0 (Freed freed.0 (place_of groups t.buf)) freed.2),
   )
+
+-- words that are all 0
+pub all-clear : (first count : ℕ) (words : List ℕ) → words ≡ replicate count 0 → AreClear first words
+all-clear first count words is at past = ap (λ (l : List ℕ). get_or l at 0) is ∙ zeros count at
+  where
+    zeros : (n i : ℕ) → ◌≡◌ {A = ℕ} (get_or (replicate n 0) i 0) 0
+    zeros zero i = refl
+    zeros (suc n) zero = refl
+    zeros (suc n) (suc i) = zeros n i

@@ -3,7 +3,7 @@ use Rattle.std.proofs.Common.{◌≡◌, ◌≢◌, ℕ, zero, suc, ◌+◌, ◌
 use mathlib.Core.Option.{some}
 use lib.ListN.{get_elem?}
 use Rattle.atomic_table.proofs.Lists.{at_set}
-use Rattle.hub_shared.specs.Rule.{weigh, total, AreDealt}
+use Rattle.hub_shared.specs.Counts.{weigh, total, AreDealt}
 use Rattle.hub_shared.specs.declared.sight.Sight.{Sight}
 
 -- what holds of each view

@@ -10,7 +10,7 @@ use Rattle.hub_core.specs.Groups.{first_of, group_of, place_of, sizes_of}
 use Rattle.pool_words.specs.Pools.{pool_of}
 use Rattle.pool_words.specs.declared.pool.Pool.{Pool}
 use Rattle.hub_shared.proofs.Hubs.{of_rule, rule-groups, buffer-from, buffer-of}
-use Rattle.hub_shared.proofs.Steps.{IsTaking, takes, refuses}
+use Rattle.hub_shared.proofs.Takes.{IsTaking, takes, refuses}
 use Rattle.hub_shared.specs.Plays.{taking, refusing}
 use Rattle.hub_shared.specs.Rule.{Kept}
 use Rattle.hub_shared.specs.Seats.{groups_of}

@@ -1,11 +1,14 @@
 -- What a hub keeps of its memory, named by the hub.
-use Rattle.std.proofs.Common.{◌≡◌, ℕ, ◌+◌, ◌-◌, ◌<◌, ◌≤◌, List, length, take, drop, Some, ap, arith}
+use Rattle.std.proofs.Common.{◌≡◌, ℕ, ◌+◌, ◌-◌, ◌<◌, ◌≤◌, List, length, take, drop, Some, ap, arith, sym, ◌∙◌}
 use Rattle.std.specs.Prelude.{get_or, slice_get}
 use Rattle.std.specs.Vec.{vec_len}
-use Rattle.hub_core.proofs.Cut.{groups-cut}
+use Rattle.hub_core.proofs.Cut.{all-cut, groups-cut}
 use Rattle.hub_core.proofs.GroupReads.{few-cells, is-buffer, read-cells, few-in, read-count, within-cells, buffer-by}
 use Rattle.hub_core.specs.Calls.{IsBufferOf}
-use Rattle.hub_core.specs.Groups.{first_of, group_of, grouped, place_of, sizes_of}
+use Rattle.hub_core.specs.Groups.{all_sizes, first_of, group_of, grouped, place_of, sizes_of}
+use Rattle.hub_layout.proofs.Places.{within}
+use Rattle.hub_layout.specs.Places.{IsThere, Place, place_at, words_in}
+use Rattle.hub_shared.specs.Cards.{place_of_word}
 use Rattle.hub_shared.specs.Seats.{groups_of}
 use Rattle.hub_shared.specs.declared.hub.SharedHub.{SharedHub}
 
@@ -68,3 +71,19 @@ module _ (hub : SharedHub) where
 
   pub buffer-of : (group buf size : ℕ) → group_of (groups_of hub) buf ≡ group → slice_get cells buf ≡ Some size → IsBufferOf (groups_of hub) group buf size
   buffer-of = is-buffer counts cells hub.pool.few hub.pool.groups_are hub.pool.all
+
+  -- the words of a buffer
+  pub place-is : (p : Place) → place_at hub.layout.groups hub.layout.cells p ≡ place_of_word of_rule p
+  place-is p =
+      let groups-are : hub.layout.groups ≡ length of_rule = ap (λ (l : Rattle.hub_layout.specs.Pool.Pool). l.groups) hub.laid ∙ sym groups-long ∙ ap (λ (l : List (List ℕ)). length l) (sym rule-groups) in
+      let cells-are : hub.layout.cells ≡ all_sizes of_rule = ap (λ (l : Rattle.hub_layout.specs.Pool.Pool). l.cells) hub.laid ∙ sym (all-cut counts cells hub.pool.all) ∙ ap all_sizes (sym rule-groups) in
+      λ i. place_at (groups-are i) (cells-are i) p
+
+  pub in-cells : (buf : ℕ) (groups : List (List ℕ)) → groups ≡ groups_of hub → buf < length (all_sizes groups) → buf < length hub.layout.cells
+  in-cells buf groups same below = omega (arith, below, ap (λ (g : List (List ℕ)). length (all_sizes g)) same, ap (λ (l : List ℕ). length l) (all-cut counts cells hub.pool.all), ap (λ (l : Rattle.hub_layout.specs.Pool.Pool). length l.cells) hub.laid)
+
+  pub buffer-words : (p : Place) (at : ℕ) → at ≡ place_at hub.layout.groups hub.layout.cells p → IsThere hub.layout.groups hub.layout.cells p → at < hub.table.shared.table_id.words
+  buffer-words p at is there =
+      let low = within hub.layout.groups hub.layout.cells p there in
+      let all : words_in hub.layout.groups hub.layout.cells ≡ words_in (length counts) cells = ap (λ (l : Rattle.hub_layout.specs.Pool.Pool). words_in l.groups l.cells) hub.laid in
+      omega (arith, is, low, all, hub.wide)

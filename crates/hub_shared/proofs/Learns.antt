@@ -17,14 +17,15 @@ use Rattle.hub_shared.proofs.Weights.{WeighSame}
 use Rattle.hub_shared.proofs.Wholes.{joint-same, word-same}
 use Rattle.hub_shared.specs.History.{state_of}
 use Rattle.hub_shared.specs.Plays.{SeatMe, KnowsWhole, learned}
-use Rattle.hub_shared.specs.Rule.{counts_one, weigh, AreDealt, IsOfOne, Knows, Kept}
+use Rattle.hub_shared.specs.Counts.{counts_one, weigh, AreDealt, IsOfOne}
+use Rattle.hub_shared.specs.Rule.{Knows, Kept}
 use Rattle.hub_shared.specs.Sights.{view_of}
 use Rattle.hub_shared.specs.declared.sight.Entry.{Entry}
 use Rattle.hub_shared.specs.declared.sight.Sight.{Sight}
 
 module _ (groups : List (List ℕ)) (s : HubState) (k : Kept groups s) (id : ℕ) (v : Sight) (at : get_elem? s.views id ≡ some v) (all : v.parts ≡ 1024) where
   -- a number that is 0 without a history is the one seat's
-  alone : (f : List Entry → ℕ) → f [] ≡ 0 → Rattle.hub_shared.specs.Rule.total (λ u. f u.entries) s.views ≡ f v.entries
+  alone : (f : List Entry → ℕ) → f [] ≡ 0 → Rattle.hub_shared.specs.Counts.total (λ u. f u.entries) s.views ≡ f v.entries
   alone f empty = total-alone (λ u. f u.entries) (λ u. u.parts) s.views id v at (omega (arith, k.parts, all)) (λ j u is nothing. ap f (k.spent_is j u is nothing) ∙ empty)
 
   alone-dealt : {A : Type 0} (own : View → List A) (whole : List A) → own (state_of []).view ≡ [] → AreDealt (λ u. own (view_of u)) whole s.views → WeighSame (own (view_of v)) whole
@@ -60,7 +61,7 @@ module _ (groups : List (List ℕ)) (s : HubState) (k : Kept groups s) (id : ℕ
     joint = subst (λ (g : List (List ℕ)). Joint g (view_of v)) (sym known.groups_are) (joint-same groups k.core (view_of v) joint-core changes refused sessions readings);
   }
     where
-      known : Knows groups k.core v
+      known : Knows groups k.core s.words v
       known = k.each id v at (omega (arith, all))
 
 -- a look at a pool word by a seat that may have all parts

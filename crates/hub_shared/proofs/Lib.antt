@@ -2,12 +2,17 @@ mod Answering
 mod Closings
 mod Cores
 mod Dealt
+mod Entered
+mod Enters
 mod Exchanges
 mod Histories
+mod Holding
 mod Hubs
 mod Learns
+mod Opened
 mod Parties
 mod Seats
 mod Steps
+mod Takes
 mod Weights
 mod Wholes

@@ -5,7 +5,7 @@ use mathlib.Core.Option.{some}
 use lib.ListN.{get_elem?}
 use Rattle.atomic_table.proofs.Lists.{at_set}
 use Rattle.hub_shared.proofs.Dealt.{each-set, each-added, total-set, total-two, total-added}
-use Rattle.hub_shared.specs.Rule.{counts_one, IsOfOne}
+use Rattle.hub_shared.specs.Counts.{counts_one, IsOfOne}
 use Rattle.hub_shared.specs.declared.sight.Sight.{Sight}
 
 module _ {A : Type 0} (acts : Sight → Bool) (own : Sight → List A) (whole : List A) (views : List Sight) (so : IsOfOne acts own whole views) (id : ℕ) (v : Sight) (at : get_elem? views id ≡ some v) where
@@ -18,6 +18,18 @@ module _ {A : Type 0} (acts : Sight → Bool) (own : Sight → List A) (whole : 
     one = let t = total-set (λ u. counts_one (acts u)) views id v w at in omega (arith, t, so.one, ap counts_one role);
     each = each-set (λ j u. Has u) views id w (list ∙ so.each id v at ∙ ap (λ b. if b then whole else []) (sym role)) (λ j u other is. so.each j u is);
   }
+
+  -- the seat that acts for the party changes its list
+  pub of-one-own : (w : Sight) (more : List A) → acts v ≡ true → acts w ≡ true → own w ≡ more → IsOfOne acts own more (set views id w)
+  of-one-own w more is role list = record {
+    one = let t = total-set (λ u. counts_one (acts u)) views id v w at in omega (arith, t, so.one, ap counts_one role, ap counts_one is);
+    each = each-set (λ j u. own u ≡ (if acts u then more else [])) views id w (list ∙ ap (λ b. if b then more else []) (sym role))
+        (λ j u other there. so.each j u there ∙ ap (λ b. if b then whole else []) (not-two (acts u) j u other there refl) ∙ sym (ap (λ b. if b then more else []) (not-two (acts u) j u other there refl)));
+  }
+    where
+      not-two : (b : Bool) (j : ℕ) (u : Sight) → j ≢ id → get_elem? views j ≡ some u → acts u ≡ b → acts u ≡ false
+      not-two false j u other there role = role
+      not-two true j u other there role = absurd (let h = total-two (λ x. counts_one (acts x)) views id j v u (λ e. other (sym e)) at there in omega (arith, h, so.one, ap counts_one is, ap counts_one role))
 
   -- a seat is divided, and the party goes to the new seat where it is named
   pub of-one-divided : (named : Bool) (l r : Sight) → acts l ≡ (if named then false else acts v) → acts r ≡ (if named then acts v else false) → own l ≡ (if named then [] else own v) → own r ≡ (if named then own v else []) →

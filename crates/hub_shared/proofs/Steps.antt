@@ -1,64 +1,71 @@
 -- Each step of a seat keeps the rule.
-use Rattle.std.proofs.Common.{◌≡◌, ◌≢◌, ℕ, ◌+◌, ◌-◌, ◌/◌, ◌%◌, ◌^◌, ◌<◌, ◌≤◌, inl, inr, List, [], ◌∷◌, ◌++◌, length, set, get_or, Some, refl, ap, sym, ◌∙◌, subst, arith, eqb, append-nil, length-append, length-set, get_or-set_same}
-use Rattle.std.proofs.lemmas.Bool.Decides.{eqb_tells}
-use Rattle.std.proofs.lemmas.List.{get_or-set_other, set-get_or}
-use Rattle.std.specs.Prelude.{slice_get}
+use Rattle.std.proofs.Common.{◌≡◌, ◌≢◌, ℕ, ◌-◌, ◌<◌, ◌≤◌, List, [], ◌∷◌, ◌++◌, length, set, get_or, Some, refl, ap, sym, ◌∙◌, subst, arith, eqb, length-append}
+use Rattle.std.proofs.lemmas.List.{set-get_or}
 use mathlib.Core.Option.{none, some}
 use lib.ListN.{get_elem?}
 use prog.Atomic.{either}
 use Rattle.atomic_table.specs.Table.{Act, step, keeps, stepped, carried_after, Valid, Allows}
 use Rattle.atomic_table.proofs.Lists.{exchanged}
-use Rattle.gw_base.specs.Fit.{IsSmallest, NoneFits}
 use Rattle.hub_core.proofs.Fresh.{rise-twice, rise-grow}
 use Rattle.hub_core.proofs.Led.{leads-more}
-use Rattle.hub_core.proofs.Pools.{pool-pushed, pool-beside}
 use Rattle.hub_core.specs.Core.{Step as CoreStep, Takes as TakesStep, Refuses as RefusesStep, May, after}
 use Rattle.hub_core.specs.Floors.{Rise, floors_of}
-use Rattle.hub_core.specs.Groups.{group_of, place_of, sizes_of, changes_in}
+use Rattle.hub_core.specs.Groups.{all_sizes}
 use Rattle.hub_core.specs.Joint.{IsQuiet}
 use Rattle.hub_core.specs.Past.{event_of}
 use Rattle.hub_core.specs.Plain.{pool_after}
-use Rattle.hub_core.specs.View.{View, Change, Taken, Refusal, Took as TookEvent, Refused as RefusedEvent, grow}
+use Rattle.hub_core.specs.View.{View, Change, Taken, Taking, Refusal, at_one, Took as TookEvent, Refused as RefusedEvent, grow}
 use Rattle.hub_core.specs.declared.history.Deed.{Deed}
-use Rattle.hub_core.specs.declared.history.Deed.TheVariants.{Took, Refused}
+use Rattle.hub_layout.specs.Places.{Length, words_in}
 use Rattle.pool_words.specs.Pools.{pool_of}
-use Rattle.pool_words.specs.declared.pool.Pool.{Pool}
-use Rattle.hub_shared.proofs.Cores.{HubState, law, few-now, count-now, was-now, fewer-then, was-pushed, freed-pushed}
+use Rattle.hub_shared.proofs.Cores.{HubState, law, few-now, count-now, was-now, fewer-then}
 use Rattle.hub_shared.proofs.Dealt.{each-set, total-set, dealt-more, dealt-same}
+use Rattle.hub_shared.proofs.Holding.{held-same}
 use Rattle.hub_shared.proofs.Histories.{goes-did}
 use Rattle.hub_shared.proofs.Parties.{of-one-same}
 use Rattle.hub_shared.specs.History.{state_of}
-use Rattle.hub_shared.specs.Plays.{SeatMe, with_look, IsSeen, Lost, looked, with_deed, with_take, with_overflow, taking, refusing, announced}
-use Rattle.hub_shared.specs.Rule.{total, WasWord, HandKnows, Knows, Kept}
+use Rattle.hub_shared.specs.Plays.{SeatMe, with_look, IsSeen, Lost, looked, with_deed, announced}
+use Rattle.hub_shared.specs.Counts.{total}
+use Rattle.hub_shared.specs.Cards.{ShowCards, place_of_word}
+use Rattle.hub_shared.specs.Counts.{IsHeldByOne}
+use Rattle.hub_shared.specs.Rule.{WasWord, HandKnows, Knows, Kept}
 use Rattle.hub_shared.specs.Sights.{view_of, floors_at}
 use Rattle.hub_shared.specs.declared.part.HubPart.{HubPart}
 use Rattle.hub_shared.specs.declared.sight.Entry.TheVariants.{Did}
 use Rattle.hub_shared.specs.declared.sight.Hand.{Hand}
-use Rattle.hub_shared.specs.declared.sight.Hand.TheVariants.{Idle, Looked, Parting}
+use Rattle.hub_shared.specs.declared.sight.Hand.TheVariants.{Idle, Looked, Parting, Entering, Prepared}
 use Rattle.hub_shared.specs.declared.sight.Note.{Note}
-use Rattle.hub_shared.specs.declared.sight.Note.TheVariants.{Takes, Refuses, Parts}
+use Rattle.hub_shared.specs.declared.sight.Note.TheVariants.{Parts}
+use Rattle.hub_shared.specs.declared.sight.Opening.{Opening}
 use Rattle.hub_shared.specs.declared.sight.Sight.{Sight}
 
 -- a state with other words, and another view of a seat
 abbrev changed : HubState → List ℕ → ℕ → Sight → HubState
 changed s words id w = record { words = words; homes = s.homes; views = set s.views id w }
 
--- what a seat knows as the machine goes on
-knows-on : (groups : List (List ℕ)) (core next : View) → Rise (floors_of groups core) (floors_of groups next) → ((group word : ℕ) → WasWord groups group core word → WasWord groups group next word) → (v : Sight) → Knows groups core v → Knows groups next v
-knows-on groups core next rise was v known = record { groups_are = known.groups_are; whole = known.whole; floors = rise-twice (floors_at v) (floors_of groups core) (floors_of groups next) known.floors rise; hand = on v.hand known.hand }
+-- the length of a session that is to be entered
+abbrev pub IsLength : List (List ℕ) → List ℕ → Opening → Type 0
+IsLength groups words o = get_or words (place_of_word groups (Length o.buf)) 0 ≡ o.len
+
+-- what a seat knows as the machine and the words go on
+pub knows-on : (groups : List (List ℕ)) (core next : View) (words more : List ℕ) → Rise (floors_of groups core) (floors_of groups next) → ((group word : ℕ) → WasWord groups group core word → WasWord groups group next word) → (v : Sight) →
+    ((o : Opening) → (view_of v).held o.buf ≡ Some (record { number = o.change; size = o.cells }) → IsLength groups words o → IsLength groups more o) → Knows groups core words v → Knows groups next more v
+knows-on groups core next words more rise was v length-on known = record { groups_are = known.groups_are; whole = known.whole; floors = rise-twice (floors_at v) (floors_of groups core) (floors_of groups next) known.floors rise; hand = on v.hand known.hand }
   where
-    on : (hand : Hand) → HandKnows groups core hand → HandKnows groups next hand
+    on : (hand : Hand) → HandKnows groups core words (view_of v).held hand → HandKnows groups next more (view_of v).held hand
     on Idle so = tt
     on (Looked group word) so = was group word so
     on (Parting named) so = tt
+    on (Entering opening) so = tt
+    on (Prepared opening) so = (so.0, length-on opening so.0 so.1)
 
 -- a step of a seat
 module _ (groups : List (List ℕ)) (s : HubState) (k : Kept groups s) (id : ℕ) (v : Sight) (at : get_elem? s.views id ≡ some v) (live : 0 < v.parts) where
-  known : Knows groups k.core v
+  known : Knows groups k.core s.words v
   known = k.each id v at live
 
   -- that leaves the machine
-  pub stays : (hand : Hand) → HandKnows groups k.core hand → Kept groups (changed s s.words id (record v { hand = hand }))
+  pub stays : (hand : Hand) → HandKnows groups k.core s.words (view_of v).held hand → Kept groups (changed s s.words id (record v { hand = hand }))
   stays hand so = record {
     core = k.core;
     steps = k.steps;
@@ -70,9 +77,11 @@ module _ (groups : List (List ℕ)) (s : HubState) (k : Kept groups s) (id : ℕ
     refused = dealt-same (λ u. (view_of u).refused) k.core.refused s.views id v w at refl k.refused;
     writers = λ path. of-one-same _ _ _ s.views (k.writers path) id v at w refl refl;
     readers = λ path dest. of-one-same _ _ _ s.views (k.readers path dest) id v at w refl refl;
+    holders = λ buf. held-same _ _ s.views (k.holders buf) id v at w refl;
+    shown = k.shown;
     takes = let t = total-set (λ u. u.takes) s.views id v w at in omega (arith, t, k.takes);
     parts = let t = total-set (λ u. u.parts) s.views id v w at in omega (arith, t, k.parts);
-    each = each-set (λ j u. 0 < u.parts → Knows groups k.core u) s.views id w (λ some-part. record { groups_are = known.groups_are; whole = known.whole; floors = known.floors; hand = so }) (λ j u other is. k.each j u is);
+    each = each-set (λ j u. 0 < u.parts → Knows groups k.core s.words u) s.views id w (λ some-part. record { groups_are = known.groups_are; whole = known.whole; floors = known.floors; hand = so }) (λ j u other is. k.each j u is);
     spent_is = each-set (λ j u. u.parts ≡ 0 → u.entries ≡ []) s.views id w (λ none. absurd (omega (arith, none, live))) (λ j u other is. k.spent_is j u is);
   }
     where
@@ -80,20 +89,23 @@ module _ (groups : List (List ℕ)) (s : HubState) (k : Kept groups s) (id : ℕ
       w = record v { hand = hand }
 
   -- that is a step of the machine, of no party
-  record IsDid (deed : Deed) (core-step : CoreStep) (made : List Change) (said : List Refusal) (words : List ℕ) : Type 0 where
-    may : May groups k.core core-step
-    is : after core-step k.core ≡ grow (event_of deed) k.core
-    changes : (u : View) → (grow (event_of deed) u).changes ≡ u.changes ++ made
-    refused : (u : View) → (grow (event_of deed) u).refused ≡ u.refused ++ said
-    sessions : (u : View) → (grow (event_of deed) u).sessions ≡ u.sessions
-    readings : (u : View) → (grow (event_of deed) u).readings ≡ u.readings
-    quiet : IsQuiet groups (grow (event_of deed) k.core)
-    was : (group word : ℕ) → WasWord groups group k.core word → WasWord groups group (grow (event_of deed) k.core) word
-    wide : length groups ≤ length words
-    pools : (group : ℕ) → group < length groups → pool_of (get_or words group 0) ≡ pool_after groups group (grow (event_of deed) k.core).changes
-    few : length made ≤ 1
+  pub record IsDid (deed : Deed) (core-step : CoreStep) (made : List Change) (said : List Refusal) (words : List ℕ) : Type 0 where
+    pub may : May groups k.core core-step
+    pub is : after core-step k.core ≡ grow (event_of deed) k.core
+    pub changes : (u : View) → (grow (event_of deed) u).changes ≡ u.changes ++ made
+    pub refused : (u : View) → (grow (event_of deed) u).refused ≡ u.refused ++ said
+    pub sessions : (u : View) → (grow (event_of deed) u).sessions ≡ u.sessions
+    pub readings : (u : View) → (grow (event_of deed) u).readings ≡ u.readings
+    pub quiet : IsQuiet groups (grow (event_of deed) k.core)
+    pub was : (group word : ℕ) → WasWord groups group k.core word → WasWord groups group (grow (event_of deed) k.core) word
+    pub holders : (w : Sight) → ((buf : ℕ) → (view_of w).held buf ≡ (grow (event_of deed) (view_of v)).held buf) → (buf : ℕ) → IsHeldByOne (λ u. (view_of u).held buf) ((grow (event_of deed) k.core).held buf) (set s.views id w)
+    pub shown : ShowCards groups words (grow (event_of deed) k.core)
+    pub lengths : (o : Opening) → IsLength groups s.words o → IsLength groups words o
+    pub wide : words_in (length groups) (all_sizes groups) ≤ length words
+    pub pools : (group : ℕ) → group < length groups → pool_of (get_or words group 0) ≡ pool_after groups group (grow (event_of deed) k.core).changes
+    pub few : length made ≤ 1
 
-  did : (deed : Deed) (core-step : CoreStep) (made : List Change) (said : List Refusal) (words : List ℕ) → IsDid deed core-step made said words → 0 < v.takes → Kept groups (changed s words id (record (with_deed deed v) { takes = v.takes - 1 }))
+  pub did : (deed : Deed) (core-step : CoreStep) (made : List Change) (said : List Refusal) (words : List ℕ) → IsDid deed core-step made said words → 0 < v.takes → Kept groups (changed s words id (record (with_deed deed v) { takes = v.takes - 1 }))
   did deed core-step made said words so spare = record {
     core = next;
     steps = k.steps ++ core-step ∷ [];
@@ -101,18 +113,20 @@ module _ (groups : List (List ℕ)) (s : HubState) (k : Kept groups s) (id : ℕ
     quiet = so.quiet;
     wide = so.wide;
     pools = so.pools;
-    changes = subst (λ (l : List Change). Rattle.hub_shared.specs.Rule.AreDealt (λ u. (view_of u).changes) l (set s.views id w)) (sym (so.changes k.core))
+    changes = subst (λ (l : List Change). Rattle.hub_shared.specs.Counts.AreDealt (λ u. (view_of u).changes) l (set s.views id w)) (sym (so.changes k.core))
         (dealt-more (λ u. (view_of u).changes) k.core.changes made s.views id v w at (ap (λ (u : View). u.changes) view-is ∙ so.changes (view_of v)) k.changes);
-    refused = subst (λ (l : List Refusal). Rattle.hub_shared.specs.Rule.AreDealt (λ u. (view_of u).refused) l (set s.views id w)) (sym (so.refused k.core))
+    refused = subst (λ (l : List Refusal). Rattle.hub_shared.specs.Counts.AreDealt (λ u. (view_of u).refused) l (set s.views id w)) (sym (so.refused k.core))
         (dealt-more (λ u. (view_of u).refused) k.core.refused said s.views id v w at (ap (λ (u : View). u.refused) view-is ∙ so.refused (view_of v)) k.refused);
-    writers = λ path. subst (λ l. Rattle.hub_shared.specs.Rule.IsOfOne (λ u. (state_of u.entries).part.writes path) (λ u. (view_of u).sessions path) l (set s.views id w)) (sym (ap (λ f. f path) (so.sessions k.core)))
+    writers = λ path. subst (λ l. Rattle.hub_shared.specs.Counts.IsOfOne (λ u. (state_of u.entries).part.writes path) (λ u. (view_of u).sessions path) l (set s.views id w)) (sym (ap (λ f. f path) (so.sessions k.core)))
         (of-one-same _ _ _ s.views (k.writers path) id v at w (ap (λ p. p.part.writes path) went.is) (ap (λ (u : View). u.sessions path) view-is ∙ ap (λ f. f path) (so.sessions (view_of v))));
-    readers = λ path dest. subst (λ l. Rattle.hub_shared.specs.Rule.IsOfOne (λ u. (state_of u.entries).part.reads path dest) (λ u. (view_of u).readings path dest) l (set s.views id w)) (sym (ap (λ f. f path dest) (so.readings k.core)))
+    readers = λ path dest. subst (λ l. Rattle.hub_shared.specs.Counts.IsOfOne (λ u. (state_of u.entries).part.reads path dest) (λ u. (view_of u).readings path dest) l (set s.views id w)) (sym (ap (λ f. f path dest) (so.readings k.core)))
         (of-one-same _ _ _ s.views (k.readers path dest) id v at w (ap (λ p. p.part.reads path dest) went.is) (ap (λ (u : View). u.readings path dest) view-is ∙ ap (λ f. f path dest) (so.readings (view_of v))));
+    holders = so.holders w (λ buf. ap (λ (u : View). u.held buf) view-is);
+    shown = so.shown;
     takes = let t = total-set (λ u. u.takes) s.views id v w at in omega (arith, t, k.takes, spare, so.few, ap (λ (l : List Change). length l) (so.changes k.core), length-append k.core.changes made);
     parts = let t = total-set (λ u. u.parts) s.views id v w at in omega (arith, t, k.parts);
-    each = each-set (λ j u. 0 < u.parts → Knows groups next u) s.views id w (λ some-part. record { groups_are = more.groups_are; whole = went.whole; floors = more.floors; hand = tt })
-        (λ j u other is some-part. knows-on groups k.core next rise so.was u (k.each j u is some-part));
+    each = each-set (λ j u. 0 < u.parts → Knows groups next words u) s.views id w (λ some-part. record { groups_are = more.groups_are; whole = went.whole; floors = more.floors; hand = tt })
+        (λ j u other is some-part. knows-on groups k.core next s.words words rise so.was u (λ o held. so.lengths o) (k.each j u is some-part));
     spent_is = each-set (λ j u. u.parts ≡ 0 → u.entries ≡ []) s.views id w (λ none. absurd (omega (arith, none, live))) (λ j u other is. k.spent_is j u is);
   }
     where
@@ -131,8 +145,8 @@ module _ (groups : List (List ℕ)) (s : HubState) (k : Kept groups s) (id : ℕ
       rise : Rise (floors_of groups k.core) (floors_of groups next)
       rise = rise-grow groups (event_of deed) k.core next (law groups s k).streams refl
 
-      more : Knows groups next v
-      more = knows-on groups k.core next rise so.was v known
+      more : Knows groups next words v
+      more = knows-on groups k.core next s.words words rise so.was v (λ o held. so.lengths o) known
 
 -- a word that stays
 pub same-word : (groups : List (List ℕ)) (s : HubState) (views : List Sight) (group : ℕ) → Kept groups (record { words = s.words; homes = s.homes; views = views }) → Kept groups (record { words = set s.words group (get_or s.words group 0); homes = s.homes; views = views })
@@ -156,11 +170,11 @@ looks groups slots id group m live there s k long at low = (
 )
 
 -- what a step owes at a state
-abbrev Goes : (groups : List (List ℕ)) → (s : HubState) → (id group : ℕ) → (m : SeatMe) → (ℕ → SeatMe → Type 0) → ℕ → ℕ → Type 0
+abbrev pub Goes : (groups : List (List ℕ)) → (s : HubState) → (id group : ℕ) → (m : SeatMe) → (ℕ → SeatMe → Type 0) → ℕ → ℕ → Type 0
 Goes groups s id group m tale n z = (w : Sight) × (a : Act Note) × Valid s.homes m.1 a × Kept groups (stepped s group z id m.1 w a) × tale n (w, carried_after m.1 a)
 
 -- an exchange that loses
-loses : (groups : List (List ℕ)) (s : HubState) (k : Kept groups s) (id group old : ℕ) (m : SeatMe) (tale : ℕ → SeatMe → Type 0) → get_elem? s.views id ≡ some m.0 → 0 < m.0.parts → group < length groups → m.0.hand ≡ Looked group old → get_or s.words group 0 ≢ old →
+pub loses : (groups : List (List ℕ)) (s : HubState) (k : Kept groups s) (id group old : ℕ) (m : SeatMe) (tale : ℕ → SeatMe → Type 0) → get_elem? s.views id ≡ some m.0 → 0 < m.0.parts → group < length groups → m.0.hand ≡ Looked group old → get_or s.words group 0 ≢ old →
     (Lost group old (get_or s.words group 0) m (with_look group (get_or s.words group 0) m.0, m.1) → tale (get_or s.words group 0) (with_look group (get_or s.words group 0) m.0, m.1)) → Goes groups s id group m tale (get_or s.words group 0) (get_or s.words group 0)
 loses groups s k id group old m tale at live there hand other tells = (
   with_look group (get_or s.words group 0) m.0,
@@ -169,127 +183,9 @@ loses groups s k id group old m tale at live there hand other tells = (
   same-word groups s (set s.views id (with_look group (get_or s.words group 0) m.0)) group (stays groups s k id m.0 at live (Looked group (get_or s.words group 0)) (was-now groups s k group there)),
   tells (record {
     seen = seen-now groups s k id m group at live there;
-    more = fewer-then groups s k group old there (subst (HandKnows groups k.core) hand (k.each id m.0 at live).hand) other;
+    more = fewer-then groups s k group old there (subst (HandKnows groups k.core s.words (view_of m.0).held) hand (k.each id m.0 at live).hand) other;
   }),
 )
-
--- a quiet state stays quiet as one more change comes, of no party
-quiet-took : (groups : List (List ℕ)) (core : View) (group number buf size need : ℕ) → ((g : ℕ) → Rattle.hub_core.specs.Journal.AreInOrder (changes_in groups g core)) → IsQuiet groups core → IsQuiet groups (grow (TookEvent group number buf size need) core)
-unfolding grow
-quiet-took groups core group number buf size need order quiet path seq t at over =
-    freed-pushed groups core (grow (TookEvent group number buf size need) core) (Taken number buf need) refl order t (quiet path seq t at (record { writer = over.writer; dests = over.dests }))
-
--- a take by the word that was looked at
-module _ (groups : List (List ℕ)) (slots id group old new need buf cells : ℕ) (m : SeatMe) (live : 0 < m.0.parts) (spare : 0 < m.0.takes) (there : group < length groups) (hand : m.0.hand ≡ Looked group old) where
-  pub record IsTaking : Type 0 where
-    pub its : group_of groups buf ≡ group
-    pub smallest : IsSmallest (sizes_of groups group) (old % 2 ^ 32) need (place_of groups buf)
-    pub size : slice_get (sizes_of groups group) (place_of groups buf) ≡ Some cells
-    pub next : pool_of new ≡ record { changes = old / 2 ^ 32 + 1; free = old % 2 ^ 32 - 2 ^ place_of groups buf }
-
-  takes-now : IsTaking → (s : HubState) (k : Kept groups s) (at : get_elem? s.views id ≡ some m.0) → get_or s.words group 0 ≡ old → IsDid groups s k id m.0 at live (Took group (old / 2 ^ 32 + 1) buf cells need) (TakesStep group (old / 2 ^ 32 + 1) buf cells need) (Taken (old / 2 ^ 32 + 1) buf need ∷ []) [] (set s.words group new)
-  unfolding grow
-  takes-now so s k at hit = record {
-    may = record {
-      its = so.its;
-      next = number;
-      smallest = subst (λ (f : ℕ). IsSmallest (sizes_of groups group) f need (place_of groups buf)) free so.smallest;
-      size_is = so.size;
-    };
-    is = refl;
-    changes = λ u. refl;
-    refused = λ u. sym (append-nil u.refused);
-    sessions = λ u. refl;
-    readings = λ u. refl;
-    quiet = quiet-took groups k.core group (old / 2 ^ 32 + 1) buf cells need order k.quiet;
-    was = was-pushed groups k.core next c refl order;
-    wide = omega (arith, k.wide, length-set s.words group new);
-    pools = λ g below. elim (eqb_tells g group) [
-      | inl same ↦
-          ap (λ (n : ℕ). pool_of (get_or (set s.words group new) n 0)) same.1
-          ∙ ap pool_of (get_or-set_same s.words group new 0 (omega (arith, k.wide, there)))
-          ∙ so.next
-          ∙ ap (λ (f : ℕ). let p : Pool = record { changes = old / 2 ^ 32 + 1; free = f - 2 ^ place_of groups buf } in p) free
-          ∙ sym (pool-pushed groups group k.core.changes c (order group) so.its number)
-          ∙ ap (λ (n : ℕ). pool_after groups n (k.core.changes ++ c ∷ [])) (sym same.1)
-      | inr other ↦ ap pool_of (get_or-set_other s.words group g new 0 other.1) ∙ k.pools g below ∙ sym (pool-beside groups group g k.core.changes c so.its other.1)
-    ];
-    few = omega arith;
-  }
-    where
-      c : Change
-      c = Taken (old / 2 ^ 32 + 1) buf need
-
-      next : View
-      next = grow (TookEvent group (old / 2 ^ 32 + 1) buf cells need) k.core
-
-      order : (g : ℕ) → Rattle.hub_core.specs.Journal.AreInOrder (changes_in groups g k.core)
-      order = (law groups s k).order
-
-      number : old / 2 ^ 32 + 1 ≡ length (changes_in groups group k.core) + 1
-      number = omega (arith, count-now groups s k group there, hit)
-
-      free : old % 2 ^ 32 ≡ Rattle.hub_core.specs.Groups.free_in groups group k.core
-      free = ap (λ (n : ℕ). n % 2 ^ 32) (sym hit) ∙ ap (λ (p : Pool). p.free) (k.pools group there)
-
-  pub takes : IsTaking → Allows (Kept groups) slots id m group (λ n. either (eqb n old) new n) (taking (step slots group old new (some (Takes need buf cells))) m)
-  takes so s k long at low =
-      let n : ℕ = get_or s.words group 0 in
-      let tale : ℕ → SeatMe → Type 0 = taking (step slots group old new (some (Takes need buf cells))) m in
-      exchanged n old new (Goes groups s id group m tale n)
-      (λ hit. (
-        with_take group old need buf cells m.0,
-        keeps,
-        tt,
-        did groups s k id m.0 at live (Took group (old / 2 ^ 32 + 1) buf cells need) (TakesStep group (old / 2 ^ 32 + 1) buf cells need) (Taken (old / 2 ^ 32 + 1) buf need ∷ []) [] (set s.words group new) (takes-now so s k at hit) spare,
-        ((λ won need' buf' cells' said. (let same : Takes need buf cells ≡ Takes need' buf' cells' = mathlib.Core.Option.some-injective _ _ said in told need' buf' cells' same)), λ lost. absurd (lost hit)),
-      ))
-      (λ other. loses groups s k id group old m tale at live there hand other (λ lost. ((λ won. absurd (other won)), λ _. lost)))
-    where
-      told : (need' buf' cells' : ℕ) → Takes need buf cells ≡ Takes need' buf' cells' → ◌≡◌ {A = SeatMe} (with_take group old need buf cells m.0, m.1) (with_take group old need' buf' cells' m.0, m.1)
-      told need' buf' cells' same = let a : need ≡ need' = cc in let b : buf ≡ buf' = cc in let c : cells ≡ cells' = cc in λ i. (with_take group old (a i) (b i) (c i) m.0, m.1)
-
--- an overflow by the word that was looked at
-quiet-refused : (groups : List (List ℕ)) (core : View) (group number free need : ℕ) → IsQuiet groups core → IsQuiet groups (grow (RefusedEvent group number free need) core)
-unfolding grow
-quiet-refused groups core group number free need quiet path seq t at over = quiet path seq t at (record { writer = over.writer; dests = over.dests })
-
-module _ (groups : List (List ℕ)) (slots id group old need : ℕ) (m : SeatMe) (live : 0 < m.0.parts) (spare : 0 < m.0.takes) (there : group < length groups) (hand : m.0.hand ≡ Looked group old) (none-fits : NoneFits (sizes_of groups group) (old % 2 ^ 32) need) where
-  refuses-now : (s : HubState) (k : Kept groups s) (at : get_elem? s.views id ≡ some m.0) → get_or s.words group 0 ≡ old →
-      IsDid groups s k id m.0 at live (Refused group (old / 2 ^ 32) (old % 2 ^ 32) need) (RefusesStep group (old / 2 ^ 32) (old % 2 ^ 32) need) [] (record { group = group; number = old / 2 ^ 32; free = old % 2 ^ 32; need = need } ∷ []) s.words
-  unfolding grow
-  refuses-now s k at hit = record {
-    may = record { there = there; now = omega (arith, count-now groups s k group there, hit); set = ap (λ (n : ℕ). n % 2 ^ 32) (sym hit) ∙ ap (λ (p : Pool). p.free) (k.pools group there); none_fits = none-fits };
-    is = refl;
-    changes = λ u. sym (append-nil u.changes);
-    refused = λ u. refl;
-    sessions = λ u. refl;
-    readings = λ u. refl;
-    quiet = quiet-refused groups k.core group (old / 2 ^ 32) (old % 2 ^ 32) need k.quiet;
-    was = λ g word so. so;
-    wide = k.wide;
-    pools = k.pools;
-    few = omega arith;
-  }
-
-  pub refuses : Allows (Kept groups) slots id m group (λ n. either (eqb n old) old n) (refusing (step slots group old old (some (Refuses need))) m)
-  refuses s k long at low =
-      let n : ℕ = get_or s.words group 0 in
-      let tale : ℕ → SeatMe → Type 0 = refusing (step slots group old old (some (Refuses need))) m in
-      exchanged n old old (Goes groups s id group m tale n)
-      (λ hit. (
-        with_overflow group old need m.0,
-        keeps,
-        tt,
-        subst (λ (z : ℕ). Kept groups (record { words = set s.words group z; homes = s.homes; views = set s.views id (with_overflow group old need m.0) })) hit
-            (same-word groups s (set s.views id (with_overflow group old need m.0)) group
-            (did groups s k id m.0 at live (Refused group (old / 2 ^ 32) (old % 2 ^ 32) need) (RefusesStep group (old / 2 ^ 32) (old % 2 ^ 32) need) [] (record { group = group; number = old / 2 ^ 32; free = old % 2 ^ 32; need = need } ∷ []) s.words (refuses-now s k at hit) spare)),
-        ((λ won need' said. (let same : Refuses need ≡ Refuses need' = mathlib.Core.Option.some-injective _ _ said in told need' same)), λ lost. absurd (lost hit)),
-      ))
-      (λ other. loses groups s k id group old m tale at live there hand other (λ lost. ((λ won. absurd (other won)), λ _. lost)))
-    where
-      told : (need' : ℕ) → Refuses need ≡ Refuses need' → ◌≡◌ {A = SeatMe} (with_overflow group old need m.0, m.1) (with_overflow group old need' m.0, m.1)
-      told need' same = let a : need ≡ need' = cc in λ i. (with_overflow group old (a i) m.0, m.1)
 
 -- a seat announces what it is to give, by an exchange of 0 for 0 that changes nothing
 pub announces : (groups : List (List ℕ)) (slots id word : ℕ) (m : SeatMe) (named : HubPart) → 0 < m.0.parts → Allows (Kept groups) slots id m word (λ n. either (eqb n 0) 0 n) (announced (step slots word 0 0 (some (Parts named))) m)

@@ -7,7 +7,7 @@ use Rattle.hub_core.proofs.Numbered.{numbered-number}
 use Rattle.hub_core.specs.Groups.{group_of, in_group, journal_of}
 use Rattle.hub_core.specs.Journal.{changed_buf, number_of, numbered}
 use Rattle.hub_core.specs.View.{Change, Taken, Freed, Refusal}
-use Rattle.hub_shared.specs.Rule.{counts_one, weigh}
+use Rattle.hub_shared.specs.Counts.{counts_one, weigh}
 
 abbrev pub WeighSame : {A : Type 0} → List A → List A → Type 0
 WeighSame {A} xs ys = (h : A → ℕ) → weigh h xs ≡ weigh h ys

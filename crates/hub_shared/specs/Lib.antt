@@ -1,4 +1,6 @@
+pub mod Cards
 pub mod Closing
+pub mod Counts
 pub mod History
 pub mod Plays
 pub mod Ports

@@ -1,15 +1,16 @@
 //! The calls of a port.
-ghost use Rattle.std.specs.Prelude.{◌≡◌, ◌<◌, length};
-ghost use Rattle.hub_core.specs.Calls.{Answers, SameParties, TakeUsed, took_of};
+ghost use Rattle.std.specs.Prelude.{◌≡◌, ◌<◌, ◌≤◌, true, length};
+ghost use Rattle.hub_core.specs.Calls.{Answers, ByWriter, SameMeans, SameParties, TakeUsed, entered_of, took_of};
+ghost use Rattle.hub_core.specs.Tokens.{Holds, Writes, opened_new};
 ghost use Rattle.hub_core.specs.Floors.{IsFresh};
 ghost use Rattle.hub_core.specs.Stays.{Stays};
 ghost use Rattle.hub_core.specs.View.{grow};
-ghost use Rattle.hub_shared.specs.Ports.{hub_of, port_state, seat_of};
+ghost use Rattle.hub_shared.specs.Ports.{hub_of, port_state, seat_of, view_of};
 ghost use Rattle.hub_shared.specs.Seats.{IsSeatOf, groups_of};
 
 use crate::{HubSeat, SharedHub, SharedPort};
-use gw_base::GroupNo;
-use hub_core::Take;
+use gw_base::{GroupNo, PathNo};
+use hub_core::{Held, Opened, Take};
 
 impl<'a> SharedPort<'a> {
     /// The port of a seat.
@@ -43,5 +44,25 @@ impl<'a> SharedPort<'a> {
     {
         let hub = self.hub;
         hub.take(&mut self.seat, group, need)
+    }
+}
+
+impl<'a> SharedPort<'a> {
+    /// Makes the path's next session known, in a buffer that was taken, to `readers` destinations. `len` is the unit's
+    /// length in bytes.
+    pub fn enter(&mut self, held: Held, path: PathNo, seq: u32, len: u32, readers: u8) -> Opened
+        requires acts { (port_state self.old).means.writes path.0 ≡ true }
+        requires held { Holds (port_state self.old).view held }
+        requires seq { length ((port_state self.old).view.sessions path.0) ≡ seq }
+        requires len { 0 < len }
+        requires readers { (0 < readers) × (readers ≤ (port_state self.old).means.most) }
+        ensures view { view_of self.new ≡ grow (entered_of held path seq len readers) (view_of self.old) }
+        ensures opened { result ≡ opened_new held path seq len readers }
+        ensures writes { Writes (port_state self.new).view result }
+        ensures stays { Stays (ByWriter path.0 1) SameMeans (port_state self.old) (port_state self.new) }
+        ensures hub { hub_of self.new ≡ hub_of self.old }
+    {
+        let hub = self.hub;
+        hub.enter(&mut self.seat, held, path, seq, len, readers)
     }
 }

@@ -1,5 +1,6 @@
 //! The hub's memory, and how its seats are divided and joined.
 ghost use Rattle.std.specs.Prelude.{◌≡◌, ◌≤◌, length};
+ghost use Rattle.hub_layout.specs.Places.{words_in};
 ghost use Rattle.hub_layout.specs.Pool.{IsPool};
 
 use crate::plays::{Buffers, HubRule};
@@ -18,5 +19,5 @@ pub struct SharedHub {
     ghost key: { table.shared.key ≡ buffers },
     ghost pool: { IsPool buffers.cells.items buffers.counts.items },
     ghost laid: { layout ≡ record { groups = length buffers.counts.items; cells = buffers.cells.items } },
-    ghost wide: { length buffers.counts.items ≤ table.shared.table_id.words },
+    ghost wide: { words_in (length buffers.counts.items) buffers.cells.items ≤ table.shared.table_id.words },
 }

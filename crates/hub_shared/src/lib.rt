@@ -2,6 +2,7 @@
 #![tactic(auto)]
 
 mod calls;
+mod enter;
 mod hub;
 mod make;
 mod part;

@@ -7,7 +7,7 @@ ghost use Rattle.hub_core.specs.View.{empty_view};
 ghost use Rattle.hub_layout.specs.Places.{words_in};
 ghost use Rattle.hub_layout.specs.Pool.{IsPool};
 ghost use Rattle.hub_shared.specs.History.{everyone, part_of, without, within, united};
-ghost use Rattle.hub_shared.specs.Rule.{AreWhole};
+ghost use Rattle.hub_shared.specs.Rule.{AreWhole, AreClear};
 ghost use Rattle.hub_shared.specs.Seats.{IsSeatOf, IsWordAt, AreWordsAt, HasFloors};
 ghost use Rattle.hub_shared.specs.Seats.{groups_of, seat_view, seat_part, parts_of, as_port};
 
@@ -31,6 +31,7 @@ fn first_words(alloc: Global, layout: &Layout, counts: &[u8]) -> Result<Vec<u64>
     requires groups { All (λ count. (1 ≤ count) × (count ≤ 32)) counts.now }
     ensures all { IfOk result (λ words. length words.items ≡ words_in layout.now.groups layout.now.cells) }
     ensures pools { IfOk result (λ words. AreWhole counts.now words.items) }
+    ensures others { IfOk result (λ words. AreClear (length counts.now) words.items) }
 {
     let mut words = vec![in alloc; 0; layout.words()]?;
     for group in 0..counts.len() {
@@ -42,8 +43,8 @@ fn first_words(alloc: Global, layout: &Layout, counts: &[u8]) -> Result<Vec<u64>
 
 impl SharedHub {
     /// A hub of 1 to 4 groups of 1 to 32 buffers, each buffer of 1 to 8192 cells and free, and the seat that acts for
-    /// all parties and has 8,000,000 takes. `cells` is the cells of each buffer, group after group, and `counts` how many
-    /// buffers each group has. It takes no memory later. `Memory` where a growth was refused.
+    /// all parties and has 8,000,000 takes. `cells` is the cells of each buffer, group after group, and `counts` how
+    /// many buffers each group has. It takes no memory later. `Memory` where a growth was refused.
     pub fn new(alloc: Global, cells: &[u32], counts: &[u8]) -> Result<(SharedHub, HubSeat), Memory>
         requires { IsPool cells.now counts.now }
         ensures seat { IfOk result (λ made. IsSeatOf made.0 made.1) }

@@ -58,6 +58,33 @@ impl Play<Note, Sight> for Announce {
     ghost then = { announced };
 }
 
+/// A step that announces the session which is to be entered.
+pub(crate) struct Open;
+
+impl Play<Note, Sight> for Open {
+    ghost use Rattle.hub_shared.specs.Plays.{entering};
+
+    ghost then = { entering };
+}
+
+/// The store of the length of a session that is to be entered.
+pub(crate) struct Prepare;
+
+impl Play<Note, Sight> for Prepare {
+    ghost use Rattle.hub_shared.specs.Plays.{prepared};
+
+    ghost then = { prepared };
+}
+
+/// The store of a session's card, by which it is entered.
+pub(crate) struct Enter;
+
+impl Play<Note, Sight> for Enter {
+    ghost use Rattle.hub_shared.specs.Plays.{entered};
+
+    ghost then = { entered };
+}
+
 /// A look at a pool word, by a seat that may know the whole.
 pub(crate) struct Learn;
 

@@ -16,6 +16,19 @@ pub enum Entry {
     Joined,
 }
 
+/// A session that is to be entered, in a buffer that the seat took.
+#[derive(Clone, Copy, Debug)]
+pub struct Opening {
+    pub path: u8,
+    pub seq: u32,
+    pub buf: u8,
+    pub change: u32,
+    pub cells: u32,
+    /// The unit's length in bytes.
+    pub len: u32,
+    pub readers: u8,
+}
+
 /// What a seat is in the midst of.
 pub enum Hand {
     /// It is between calls.
@@ -24,6 +37,9 @@ pub enum Hand {
     Looked { group: u8, word: u64 },
     /// It is about to give this part to a new seat.
     Parting(HubPart),
+    /// It is about to enter this session, and then the session's length is stored.
+    Entering(Opening),
+    Prepared(Opening),
 }
 
 /// What a seat knows. No value of it is made.
@@ -49,4 +65,6 @@ pub enum Note {
     Refuses { need: u64 },
     /// The part that a new seat is given.
     Parts(HubPart),
+    /// The session that is entered.
+    Opens(Opening),
 }

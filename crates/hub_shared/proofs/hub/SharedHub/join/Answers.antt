@@ -7,7 +7,7 @@ use Rattle.hub_shared.proofs.hub.SharedHub.join.Goals as goal
 use Rattle.hub_shared.specs.History.{IsWhole, state_of}
 
 pub join_seat-requires : goal.join_seat-requires
-join_seat-requires c = (c.requires.seat.of, c.requires.other.of, c.args.other.carries, words-there c.args.self.now, unites _ _ _ _ _ c.args.seat.now.live c.args.other.live)
+join_seat-requires c = (c.requires.seat.of, c.requires.other.of, c.args.other.carries, words-there c.args.self.now, unites _ _ _ _ _ c.args.seat.now.idle c.args.seat.now.live c.args.other.live)
 
 pub load-requires : goal.load-requires
 load-requires c = (

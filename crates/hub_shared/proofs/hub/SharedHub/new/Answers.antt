@@ -14,4 +14,4 @@ of_words-requires c =
     let words = c.deref.ensures.value in
     let P : List ℕ × List ℕ × List ℕ → Type 0 = λ x. Kept (grouped x.0 x.1) (opening x.2 [] (newcomer (grouped x.0 x.1))) in
     subst P (λ i. (sym counts i, sym cells i, sym words i))
-    (opens-at c.args.counts.now c.args.cells.now c.in_ok-words.words.items c.requires (c.in_ok-words.ensures.all ∙ ap (λ l. words_in l.groups l.cells) c.of-layout.ensures) c.in_ok-words.ensures.pools)
+    (opens-at c.args.counts.now c.args.cells.now c.in_ok-words.words.items c.requires (c.in_ok-words.ensures.all ∙ ap (λ l. words_in l.groups l.cells) c.of-layout.ensures) c.in_ok-words.ensures.pools c.in_ok-words.ensures.others)

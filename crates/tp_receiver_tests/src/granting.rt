@@ -7,11 +7,11 @@ ghost use Rattle.hub_core.specs.Calls.{Means, SameMeans};
 ghost use Rattle.hub_core.specs.Tokens.{Reads};
 
 use crate::tests::{SET, unit_of};
-use tp_receiver::*;
 use gw_base::{DestNo, GroupNo, PathNo, Tick};
 use hub_core::{Joined, PlainHub, Port, SessionRecord, SessionResult};
 use std::alloc::Global;
 use std::test::Fail;
+use tp_receiver::*;
 use tp_unit::{BoxAct, Unit};
 
 /// The steps after which a reception that goes on is given up: four in a tick.

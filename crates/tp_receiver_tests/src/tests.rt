@@ -6,13 +6,13 @@ ghost use Rattle.hub_core.specs.Calls.{Means};
 ghost use Rattle.tp_receiver.specs.Set.{IsRxSet};
 ghost use Rattle.tp_receiver.specs.declared.set.RxSet.{RxSet};
 
-use tp_receiver::*;
 use can_frame::{CanId, Frame, FrameFault};
 use gw_base::{BufNo, ChanNo, GroupNo, PathNo, Tick};
 use hub_core::{OpenedAt, PlainHub, Port, RxLimit, RxWait, SessionRecord, SessionResult};
 use std::alloc::Global;
 use std::process::Abort;
 use std::test::Fail;
+use tp_receiver::*;
 use tp_unit::{BoxAct, Unit, read_unit};
 
 /// A channel with normal addressing, and a path to one destination.

@@ -99,7 +99,10 @@ fn groups(rt: HostRuntime) -> Result<(), Fail> {
     let low = settings.group_integer(1, 0, 1, 8192);
     assert_eq!(rt; low, Err(at_top(FaultKind::OutOfRange, Key::Groups)));
     let flat = Settings::parse(rt.alloc(), b"groups = [[4], 4]".as_slice())?;
-    assert_eq!(rt; flat.groups(), Err(at_top(FaultKind::WrongKind, Key::Groups)));
+    assert_eq!(rt;
+        flat.groups(),
+        Err(at_top(FaultKind::WrongKind, Key::Groups))
+    );
     Ok(())
 }
 

@@ -128,11 +128,9 @@ pub fn enter_and_join<R: Threads + Sync>(
         { enter_often(line, seat, times) },
         move ||
             requires { CanJoin line.now other 0 × (times ≤ 1000) }
-            ensures {
-                CanJoin line.entry.now result.0 result.1
-                    × IsSeatAgain line.entry.now result.0 other
-                    × (result.1 ≤ times)
-            }
+            ensures { CanJoin line.entry.now result.0 result.1
+                × IsSeatAgain line.entry.now result.0 other
+                × (result.1 ≤ times) }
         { join_often(line, other, 0, times) },
     );
     let (other, later) = join_often(line, other, joined, times);

@@ -1,4 +1,9 @@
 pub mod Cuts
+pub mod Given
+mod Behind
 mod LineFeeds
 mod Logs
 mod Stopping
+pub mod Stops
+mod Texts
+pub mod Underway

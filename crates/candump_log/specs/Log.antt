@@ -135,3 +135,8 @@ pub record AddsLine (source : Source) (line : List ℕ) (old new : List Stamped)
   pub taken : taken_by source line ≡ Ok frame
   pub added : new ≡ old ++ option_to_list frame
   pub dated : IfSome frame IsDated
+
+-- the line is taken, and gives this frame or none
+pub record GivesFrame (source : Source) (line : List ℕ) (frame : Option Stamped) : Type 0 where
+  pub taken : taken_by source line ≡ Ok frame
+  pub dated : IfSome frame IsDated

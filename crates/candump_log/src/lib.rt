@@ -2,11 +2,15 @@
 //! frame.
 #![tactic(auto)]
 
+mod held;
 mod line;
+mod listing;
 mod log;
 mod reading;
+mod reader;
 mod so_far;
 mod source;
+mod writer;
 
 pub use log::{LineStop, Log, LogStop, Stamped};
 pub use reading::read_log;

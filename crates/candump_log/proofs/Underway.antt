@@ -124,13 +124,13 @@ stopped_at_end told files source most taken lines unread unread' frames stop up 
 }
 
 -- a front with something in it is that of a file that is there
-record Known (held : Option (List ℕ)) (front : List ℕ) : Type 0 where
-  content : List ℕ
-  later : List ℕ
-  there : held ≡ Some content
-  bytes : content ≡ front ++ later
+pub record Known (held : Option (List ℕ)) (front : List ℕ) : Type 0 where
+  pub content : List ℕ
+  pub later : List ℕ
+  pub there : held ≡ Some content
+  pub bytes : content ≡ front ++ later
 
-known : (held : Option (List ℕ)) (front : List ℕ) → BeginsWith held front → front ≢ [] → Known held front
+pub known : (held : Option (List ℕ)) (front : List ℕ) → BeginsWith held front → front ≢ [] → Known held front
 known None front begins some = absurd (some begins)
 known (Some content) front begins some = record { content = content; later = begins.0; there = refl; bytes = begins.1 }
 

@@ -65,17 +65,6 @@ pub record IsLog (interface : List ℕ) (fd : Bool) (content : List ℕ) (lines 
 abbrev pub IsTakenLog : Source → (content : List ℕ) → (count : ℕ) → List Stamped → Type 0
 IsTakenLog source content count frames = (lines : List (List ℕ)) × IsLog source.interface source.fd content lines frames × (count ≡ length lines)
 
--- what was read so far is so many lines, with these frames, and a piece of the next line
-pub record ReadSoFar (source : Source) (content piece : List ℕ) (count : ℕ) (frames : List Stamped) : Type 0 where
-  pub lines : List (List ℕ)
-  pub bytes : content ≡ ended lines ++ piece
-  pub no_feed : All HasNoFeed lines
-  pub unfinished : HasNoFeed piece
-  pub taken : AreTaken source.interface source.fd lines
-  pub frames_are : frames ≡ frames_of source.interface source.fd lines
-  pub count_is : count ≡ length lines
-  pub dated : AreDated frames
-
 -- the frames are those of the log, which has so many lines, where the depot tells its contents, and of some log else
 pub record ReadsLog (told : Bool) (files : Files) (source : Source) (count : ℕ) (frames : List Stamped) : Type 0 where
   pub content : List ℕ
@@ -128,13 +117,6 @@ pub record StoppedLog (files : Files) (source : Source) (most : ℕ) (stop : Lin
 abbrev pub LogStops : (told : Bool) → Files → Source → (most : ℕ) → LogStop → Type 0
 LogStops told files source most Fault = Unit {0}
 LogStops told files source most (Line stop) = told ≡ true → StoppedLog files source most stop
-
--- the line is taken, and its frame added
-pub record AddsLine (source : Source) (line : List ℕ) (old new : List Stamped) : Type 0 where
-  pub frame : Option Stamped
-  pub taken : taken_by source line ≡ Ok frame
-  pub added : new ≡ old ++ option_to_list frame
-  pub dated : IfSome frame IsDated
 
 -- the line is taken, and gives this frame or none
 pub record GivesFrame (source : Source) (line : List ℕ) (frame : Option Stamped) : Type 0 where

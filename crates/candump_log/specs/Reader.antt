@@ -95,7 +95,7 @@ IsGoingOn reader = (stop : LogStop) → reader.stage ≢ Stopped stop
 
 -- a frame has a stamp that a log can have, and its line is a further one; without a frame the log is at its end
 abbrev pub FitsAnswer : (old new : LogReader) → Option Stamped → Type 0
-FitsAnswer old new None = IsAtEnd new
+FitsAnswer old new None = (lines_of old ≤ lines_of new) × IsAtEnd new
 FitsAnswer old new (Some stamped) = (lines_of old < lines_of new) × IsDated stamped
 
 -- it has taken as many lines, and is at the same stage

@@ -5,18 +5,16 @@ ghost use Rattle.gw_depot.specs.Files.{IsName};
 ghost use Rattle.gw_depot.specs.Outside.{HasCause};
 ghost use Rattle.candump_log.specs.Held.{ReadsMore};
 
-use gw_base::Memory;
 use gw_depot::{Depot, Failed};
-use std::alloc::Global;
 use std::marker::Model;
 
 /// How many bytes one read or one append may have: 65,536, and as many as may be left of a line.
 pub(crate) const ROOM: usize = 66_048;
 
-/// Bytes that are held, in memory that was taken once.
+/// Bytes that are held. They lie in the value itself.
 #[derive(Debug, Drop)]
 pub(crate) struct HeldBytes {
-    bytes: Vec<u8>,
+    bytes: [u8; ROOM],
     start: usize,
     end: usize,
 }
@@ -26,19 +24,19 @@ impl Model for HeldBytes {
 
     ghost Value = { List ℕ };
 
-    ghost view = { λ held. take (held.end - held.start) (drop held.start held.bytes.items) };
+    ghost view = { λ held. take (held.end - held.start) (drop held.start held.bytes) };
 
-    ghost invariant = { λ held. (held.start ≤ held.end) × (held.end ≤ 66048) × (length held.bytes.items ≡ 66048) };
+    ghost invariant = { λ held. (held.start ≤ held.end) × (held.end ≤ 66048) };
 }
 
 /// Moves the bytes between two places to the front.
-fn move_to_front(bytes: &mut Vec<u8>, start: usize, end: usize)
-    requires within { (start ≤ end) × (end ≤ length bytes.old.items) }
-    ensures moved { take (end - start) bytes.new.items ≡ take (end - start) (drop start bytes.old.items) }
-    ensures size { length bytes.new.items ≡ length bytes.old.items }
+fn move_to_front(bytes: &mut [u8], start: usize, end: usize)
+    requires within { (start ≤ end) × (end ≤ length bytes.old) }
+    ensures moved { take (end - start) bytes.new ≡ take (end - start) (drop start bytes.old) }
+    ensures size { length bytes.new ≡ length bytes.old }
 {
     if start > 0 {
-        bytes.as_mut_slice().copy_within(start..end, 0);
+        bytes.copy_within(start..end, 0);
     }
 }
 
@@ -65,15 +63,15 @@ fn read_behind<D: Depot>(
 }
 
 impl HeldBytes {
-    /// Takes the memory; nothing is held yet.
-    pub(crate) fn new(alloc: Global) -> Result<HeldBytes, Memory>
-        ensures { IfOk result (λ held. held ≡ []) }
+    /// Nothing is held yet.
+    pub(crate) fn new() -> HeldBytes
+        ensures { result ≡ [] }
     {
-        Ok(HeldBytes {
-            bytes: vec![in alloc; 0; ROOM]?,
+        HeldBytes {
+            bytes: [0; ROOM],
             start: 0,
             end: 0,
-        })
+        }
     }
 
     /// The bytes.
@@ -81,7 +79,7 @@ impl HeldBytes {
         ensures bytes { result.now ≡ self.now }
         ensures room { length result.now ≤ 66048 }
     {
-        &self.bytes.as_slice()[self.start..self.end]
+        &self.bytes[self.start..self.end]
     }
 
     /// Lets go of so many at the front.
@@ -99,7 +97,7 @@ impl HeldBytes {
     {
         let held = self.end - self.start;
         move_to_front(&mut self.bytes, self.start, self.end);
-        self.bytes.as_mut_slice()[held..held + more.len()].copy_from_slice(more);
+        self.bytes[held..held + more.len()].copy_from_slice(more);
         self.start = 0;
         self.end = held + more.len();
     }
@@ -124,7 +122,7 @@ impl HeldBytes {
         move_to_front(&mut self.bytes, self.start, self.end);
         self.start = 0;
         self.end = held;
-        let count = read_behind(depot, file, at, held, self.bytes.as_mut_slice())?;
+        let count = read_behind(depot, file, at, held, &mut self.bytes)?;
         self.end = held + count;
         Ok(count)
     }

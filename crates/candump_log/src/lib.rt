@@ -6,12 +6,13 @@ mod held;
 mod line;
 mod listing;
 mod log;
-mod reading;
 mod reader;
-mod so_far;
+mod reading;
 mod source;
 mod writer;
 
 pub use log::{LineStop, Log, LogStop, Stamped};
+pub use reader::LogReader;
 pub use reading::read_log;
 pub use source::LogSource;
+pub use writer::LogWriter;

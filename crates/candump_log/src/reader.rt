@@ -13,10 +13,8 @@ use crate::listing::Listing;
 use crate::log::{LineStop, LogStop, Stamped};
 use crate::source::LogSource;
 use candump_line::{LineFault, LineKind};
-use gw_base::Memory;
 use gw_depot::Depot;
 use memchr::memchr;
-use std::alloc::Global;
 
 /// The byte that ends a line.
 const LINE_FEED: u8 = b'\n';
@@ -47,7 +45,8 @@ pub(crate) enum Front {
     Unended,
 }
 
-/// A reader of a log: it gives the frames one after another, and takes no memory but what it was made with.
+/// A reader of a log: it gives the frames one after another. What was read and isn't taken yet lies in the value itself, at most
+/// 66,048 bytes; it takes no memory.
 #[derive(Debug, Drop)]
 pub struct LogReader<'a> {
     listing: Listing<'a>,
@@ -70,30 +69,29 @@ fn feed_place(bytes: &[u8]) -> Option<usize>
 }
 
 impl<'a> LogReader<'a> {
-    ghost use Rattle.candump_log.specs.Reader.{HasGiven, lines_of, most_of, source_of};
+    ghost use Rattle.candump_log.specs.Reader.{HasGiven, IsGoingOn, lines_of, most_of, source_of};
 
     /// A reader of the log, which may have at most so many lines; nothing is read yet.
-    pub fn new<S: LogSource>(alloc: Global, source: &'a S, most: u32) -> Result<LogReader<'a>, Memory>
+    pub fn new<S: LogSource>(source: &'a S, most: u32) -> LogReader<'a>
         requires { most < 2 ^ 32 - 1 }
-        ensures source { IfOk result (λ reader. source_of reader ≡ S.source source.now) }
-        ensures most { IfOk result (λ reader. most_of reader ≡ most) }
-        ensures lines { IfOk result (λ reader. lines_of reader ≡ 0) }
-        ensures given { IfOk result (λ reader. (told : Bool) (files : Files) → HasGiven told files reader []) }
+        ensures source { source_of result ≡ S.source source.now }
+        ensures most { most_of result ≡ most }
+        ensures lines { lines_of result ≡ 0 }
+        ensures given { (told : Bool) (files : Files) → HasGiven told files result [] }
+        ensures begins { IsGoingOn result }
     {
-        let unread = HeldBytes::new(alloc)?;
-        let listing = Listing {
-            file: source.file(),
-            interface: source.interface(),
-            fd: source.is_fd(),
-        };
-        Ok(LogReader {
-            listing,
+        LogReader {
+            listing: Listing {
+                file: source.file(),
+                interface: source.interface(),
+                fd: source.is_fd(),
+            },
             most,
             lines: 0,
             taken: 0,
-            unread,
+            unread: HeldBytes::new(),
             stage: Stage::Open,
-        })
+        }
     }
 }
 
@@ -236,6 +234,7 @@ impl LogReader<'_> {
         ensures files { (D.state depot.new).files ≡ (D.state depot.old).files }
         ensures given { GivesNext (D.state depot.old).told (D.state depot.old).files self.old self.new result }
         ensures answer { IfOk result (FitsAnswer self.old self.new) }
+        ensures goes_on { IfOk result (λ _. IsGoingOn self.new) }
         ensures stopped { IfErr result (IsStopped self.new) }
         ensures over { StaysOver self.old self.new (D.state depot.old) (D.state depot.new) result }
         ensures later { (D.state depot.old).faults ≤ (D.state depot.new).faults }

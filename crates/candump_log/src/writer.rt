@@ -1,5 +1,5 @@
 //! A writer of a log: lines of frames, which are appended to a file in pieces.
-ghost use Rattle.std.specs.Prelude.{◌≡◌, ◌≢◌, ◌<◌, ◌≤◌, ◌+◌, ◌-◌, ◌*◌, ◌^◌, [], ◌++◌, List, length, true, All, IfOk, IsSome, OnErr, OnOk};
+ghost use Rattle.std.specs.Prelude.{◌≡◌, ◌≢◌, ◌<◌, ◌≤◌, ◌+◌, ◌-◌, ◌*◌, ◌^◌, [], ◌++◌, List, length, true, All, IsSome, OnErr, OnOk};
 ghost use Rattle.candump_line.specs.Line.{IsInterface, entry_text, line_text};
 ghost use Rattle.candump_line.specs.Reading.{ReadsBack};
 ghost use Rattle.gw_depot.specs.declared.outside.CallKind.TheVariants.{Append};
@@ -9,11 +9,10 @@ ghost use Rattle.gw_depot.specs.Outside.{HasCause};
 use crate::held::{HeldBytes, ROOM};
 use can_frame::Frame;
 use candump_line::frame_line;
-use gw_base::{Memory, Micros};
+use gw_base::Micros;
 use gw_depot::{Depot, Failed};
-use std::alloc::Global;
 
-/// A writer of a log: it holds the lines that aren't appended yet, and takes no memory but what it was made with.
+/// A writer of a log. The lines that aren't appended yet lie in the value itself, at most 66,048 bytes; it takes no memory.
 #[derive(Debug, Drop)]
 pub struct LogWriter<'a> {
     file: &'a str,
@@ -27,19 +26,18 @@ impl<'a> LogWriter<'a> {
     ghost use Rattle.candump_log.specs.Writer.{file_of, held_of, interface_of};
 
     /// A writer to the end of the file, which holds nothing yet, for frames of that interface.
-    pub fn new(alloc: Global, file: &'a str, interface: &'a [u8]) -> Result<LogWriter<'a>, Memory>
+    pub fn new(file: &'a str, interface: &'a [u8]) -> LogWriter<'a>
         requires file { IsName file.now }
         requires name { IsInterface interface.now }
-        ensures file { IfOk result (λ writer. file_of writer ≡ file.now) }
-        ensures interface { IfOk result (λ writer. interface_of writer ≡ interface.now) }
-        ensures held { IfOk result (λ writer. held_of writer ≡ []) }
+        ensures file { file_of result ≡ file.now }
+        ensures interface { interface_of result ≡ interface.now }
+        ensures held { held_of result ≡ [] }
     {
-        let held = HeldBytes::new(alloc)?;
-        Ok(LogWriter {
+        LogWriter {
             file,
             interface,
-            held,
-        })
+            held: HeldBytes::new(),
+        }
     }
 }
 

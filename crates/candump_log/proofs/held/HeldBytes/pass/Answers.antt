@@ -5,7 +5,7 @@ use Rattle.candump_log.proofs.held.HeldBytes.pass.Goals as goal
 
 pub returns : goal.returns
 returns c =
-    let all = c.self.inside.bytes.items in
+    let all = c.self.inside.bytes in
     let start = c.self.inside.start in
     let end = c.self.inside.end in
     let count = c.args.count in

@@ -1,13 +1,12 @@
 -- A reader takes one line after another from the bytes that it read.
-use Rattle.std.proofs.Common.{◌≡◌, ◌≢◌, ◌≤◌, ◌<◌, ◌+◌, ℕ, Bool, Option, None, Some, Ok, is_ok, true, false, ◌==◌, List, [], ◌∷◌, ◌++◌, length, subst, refl, sym, ◌∙◌, ap, inl, inr, append_assoc, append-nil, length-append, arith}
+use Rattle.std.proofs.Common.{◌≡◌, ◌≢◌, ◌<◌, ◌+◌, ℕ, Option, Ok, is_ok, true, false, ◌==◌, List, [], ◌∷◌, ◌++◌, length, refl, sym, ◌∙◌, ap, inl, inr, append_assoc, append-nil, length-append, arith}
 use Rattle.std.specs.Prelude.{option_to_list, IsOk}
-use Rattle.std.specs.List.{All}
 use Rattle.std.proofs.lemmas.List.Concat.{flat_map-append}
 use Rattle.std.proofs.lemmas.List.Elements.{All-nil, All-push}
 use Rattle.candump_log.specs.Source.{Source}
 use Rattle.candump_log.specs.declared.log.Stamped.{Stamped}
 use Rattle.candump_log.specs.Line.{taken_by}
-use Rattle.candump_log.specs.Log.{AreTaken, HasNoFeed, IsTakenLog, IsFeedAt, ended, frames_of, given}
+use Rattle.candump_log.specs.Log.{AreTaken, HasNoFeed, IsTakenLog, ended, frames_of, given}
 use Rattle.candump_log.specs.Reader.{TakenSoFar}
 
 ended-push : (lines : List (List ℕ)) (line : List ℕ) → ended (lines ++ line ∷ []) ≡ ended lines ++ (line ++ 10 ∷ [])

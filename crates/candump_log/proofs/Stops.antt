@@ -1,5 +1,5 @@
 -- What stands at the front of the bytes that a reader has read, and stops it.
-use Rattle.std.proofs.Common.{◌≡◌, ◌≢◌, ℕ, ◌+◌, ◌-◌, ◌<◌, ◌≤◌, ◌⊎◌, true, false, cond, ◌==◌, Err, List, [], ◌∷◌, ◌++◌, length, take, drop, refl, subst, sym, ◌∙◌, ap, inl, inr, append_assoc, append-nil, length-append, length-take, arith}
+use Rattle.std.proofs.Common.{◌≡◌, ◌≢◌, ℕ, ◌+◌, ◌-◌, ◌<◌, ◌≤◌, ◌⊎◌, true, false, cond, ◌==◌, Err, List, [], ◌∷◌, ◌++◌, length, take, refl, sym, ◌∙◌, ap, inl, inr, append_assoc, length-append, length-take, arith}
 use Rattle.std.specs.Prelude.{slice_index}
 use Rattle.std.proofs.lemmas.Bool.{cases_eq}
 use Rattle.std.proofs.lemmas.List.Elements.{All-nil, All-cons, All-append}
@@ -75,9 +75,9 @@ stops_long source most bytes unread front rest later count number frames so_far 
     let some : line ≢ [] = λ empty. let zero : length line ≡ 0 = ap length empty in omega (arith, zero, much) in
     let all : unread ++ later ≡ line ++ more.tail = ap (λ t. t ++ later) is ∙ append_assoc front rest later ∙ ap (λ t. front ++ t) more.all ∙ sym (append_assoc front more.line more.tail) in
     stops_line source most bytes unread line more.tail later count frames (Refused number (record { kind = TooLong; at = 512 })) so_far all
-      (All-append (λ b. b ≢ 10) front more.line none more.is_line)
-      (elim more.ends [ inl empty ↦ inl (empty, some) | inr feed ↦ inr feed ])
-      few (counted, too_long source line much)
+    (All-append (λ b. b ≢ 10) front more.line none more.is_line)
+    (elim more.ends [ inl empty ↦ inl (empty, some) | inr feed ↦ inr feed ])
+    few (counted, too_long source line much)
 
 still_some : (xs ys : List ℕ) → xs ≢ [] → xs ++ ys ≢ []
 still_some [] ys some = absurd (some refl)

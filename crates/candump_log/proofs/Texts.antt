@@ -1,11 +1,11 @@
 -- What a writer has written stays as it appends it.
-use Rattle.std.proofs.Common.{◌≡◌, ◌≢◌, ◌≤◌, ℕ, Option, Some, List, ◌++◌, length, take, drop, refl, sym, ◌∙◌, ap, append_assoc, subst}
+use Rattle.std.proofs.Common.{◌≡◌, ◌≤◌, ℕ, Option, Some, List, ◌++◌, take, drop, refl, sym, ◌∙◌, ap, append_assoc, subst}
 use Rattle.std.specs.Prelude.{IsSome, None, Ok}
 use Rattle.std.proofs.lemmas.List.{take-append-drop}
 use Rattle.gw_depot.specs.Fault.{Blame}
 use Rattle.gw_depot.specs.Files.{AppendsFile, Files, OthersStay}
 use Rattle.gw_depot.specs.declared.outside.Failed.{Failed}
-use Rattle.candump_log.specs.Writer.{AddsText, IsText, KeepsText, file_of, held_of}
+use Rattle.candump_log.specs.Writer.{AddsText, KeepsText, file_of, held_of}
 use Rattle.candump_log.specs.declared.writer.LogWriter.{LogWriter}
 
 -- no call has failed

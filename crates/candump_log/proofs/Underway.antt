@@ -1,16 +1,15 @@
 -- A reader that goes on: each step, its end, and its stops.
-use Rattle.std.proofs.Common.{◌≡◌, ◌≢◌, ◌≤◌, ◌<◌, ◌+◌, ℕ, Bool, Option, None, Some, true, List, [], ◌∷◌, ◌++◌, length, take, drop, subst, refl, sym, ◌∙◌, ap, append_assoc, append-nil, length-append, arith}
+use Rattle.std.proofs.Common.{◌≡◌, ◌≢◌, ◌≤◌, ◌+◌, ℕ, Bool, Option, None, Some, true, List, [], ◌∷◌, ◌++◌, length, take, drop, subst, refl, sym, ◌∙◌, ap, append_assoc, append-nil, length-append, arith}
 use Rattle.std.specs.Prelude.{option_to_list}
 use Rattle.std.proofs.Math.Seq.{drop-append_seam}
 use Rattle.std.proofs.lemmas.List.{take-append-drop}
-use Rattle.gw_base.proofs.Lists.{same-some}
 use Rattle.gw_depot.specs.Files.{Files, ReadsFile}
 use Rattle.candump_log.specs.Held.{ReadsMore}
 use Rattle.candump_log.specs.Source.{Source}
 use Rattle.candump_log.specs.declared.log.LineStop.{LineStop}
 use Rattle.candump_log.specs.declared.log.LogStop.TheVariants.{Line}
 use Rattle.candump_log.specs.declared.log.Stamped.{Stamped}
-use Rattle.candump_log.specs.Log.{IsTakenLog, LogStops, ReadsLog, StoppedLog, Stops, ended}
+use Rattle.candump_log.specs.Log.{IsTakenLog, LogStops, ReadsLog, Stops, ended}
 use Rattle.candump_log.specs.Reader.{BeginsWith, IsSameLog, IsUnderway, ReadUpTo, StopsAtEnd, StopsHere, TakenSoFar, TakesLast, TakesWhole, source_of}
 use Rattle.candump_log.specs.declared.reader.LogReader.{LogReader}
 use Rattle.candump_log.proofs.Given.{more_read, none_taken}

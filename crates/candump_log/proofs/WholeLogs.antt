@@ -1,5 +1,5 @@
 -- The file of a reader that has taken lines is there.
-use Rattle.std.proofs.Common.{◌≡◌, ◌≢◌, ◌<◌, ℕ, Bool, Option, Some, true, List, [], ◌∷◌, ◌++◌, length, refl, sym, ◌∙◌, arith}
+use Rattle.std.proofs.Common.{◌≡◌, ◌≢◌, ◌<◌, ℕ, Bool, Some, true, List, [], ◌∷◌, ◌++◌, length, refl, sym, ◌∙◌, arith}
 use Rattle.gw_depot.specs.Files.{Files}
 use Rattle.candump_log.specs.Log.{ended}
 use Rattle.candump_log.specs.Reader.{GivenAt, HasGiven, IsGoingOn, lines_of, source_of}

@@ -8,7 +8,7 @@ use Rattle.candump_log.specs.declared.log.LineStop.TheVariants.{Memory, Refused,
 use Rattle.candump_log.specs.declared.log.LogStop.{LogStop}
 use Rattle.candump_log.specs.declared.log.LogStop.TheVariants.{Fault, Line}
 use Rattle.gw_depot.specs.Files.{Files}
-use Rattle.candump_log.specs.Dated.{AreDated, IsDated}
+use Rattle.candump_log.specs.Dated.{IsDated}
 use Rattle.candump_log.specs.Line.{line_taken, taken_by}
 
 -- no line feed is among the bytes

@@ -1,17 +1,14 @@
 -- A reader of a log, which gives its frames one after another: what it has given, and how its reading ends.
-use Rattle.std.specs.Prelude.{◌≡◌, ◌≢◌, ◌⊎◌, ℕ, ◌+◌, ◌<◌, ◌≤◌, Bool, true, Option, None, Some, IfSome, option_to_list, Result, Ok, Err, OnErr, List, [], ◌∷◌, ◌++◌, All, length}
-use Rattle.gw_depot.specs.Fault.{Rose}
+use Rattle.std.specs.Prelude.{◌≡◌, ◌≢◌, ℕ, ◌+◌, ◌<◌, ◌≤◌, Bool, true, Option, None, Some, IfSome, option_to_list, Result, Ok, Err, List, [], ◌++◌, All, length}
 use Rattle.gw_depot.specs.Files.{Files}
 use Rattle.gw_depot.specs.Outside.{DepotState}
-use Rattle.gw_depot.specs.declared.outside.CallKind.TheVariants.{Read}
 use Rattle.candump_log.specs.Dated.{IsDated}
-use Rattle.candump_log.specs.Line.{taken_by}
 use Rattle.candump_log.specs.Log.{AreTaken, HasNoFeed, IsTakenLog, LogStops, ReadsLog, Stops, ended, frames_of}
+use Rattle.candump_log.specs.Reading.{FaultsReading}
 use Rattle.candump_log.specs.Source.{Source}
 use Rattle.candump_log.specs.declared.listing.Listing.{Listing}
 use Rattle.candump_log.specs.declared.log.LineStop.{LineStop}
 use Rattle.candump_log.specs.declared.log.LogStop.{LogStop}
-use Rattle.candump_log.specs.declared.log.LogStop.TheVariants.{Fault, Line}
 use Rattle.candump_log.specs.declared.log.Stamped.{Stamped}
 use Rattle.candump_log.specs.declared.reader.Front.{Front}
 use Rattle.candump_log.specs.declared.reader.Front.TheVariants.{Whole, Unended}
@@ -107,6 +104,10 @@ pub record IsUnchanged (old new : LogReader) : Type 0 where
 pub record StaysOver (old new : LogReader) (before after : DepotState) (result : Result (Option Stamped) LogStop) : Type 0 where
   pub at_end : IsAtEnd old → (result ≡ Ok None) × IsUnchanged old new × (after ≡ before)
   pub stopped : (stop : LogStop) → IsStopped old stop → (result ≡ Err stop) × IsUnchanged old new × (after ≡ before)
+
+-- a read that failed, in a call of a reader that wasn't stopped, raised the count of faults, and the blame is the read's
+abbrev pub HasReadCause : {T : Type 0} → LogReader → (before after : DepotState) → Result T LogStop → Type 0
+HasReadCause old before after result = IsGoingOn old → FaultsReading (source_of old) before.faults after.faults after.blame result
 
 -- with the frame of the answer, where there is one, the reader has given these frames
 abbrev pub GivesNext : {E : Type 0} → (told : Bool) → Files → (old new : LogReader) → Result (Option Stamped) E → Type 0

@@ -1,16 +1,13 @@
 -- What is known of a log that was read to its end, and of a read that failed.
-use Rattle.std.specs.Prelude.{◌≡◌, ℕ, Bool, Some, Result, Err, List, [], ◌∷◌, ◌++◌, All}
+use Rattle.std.specs.Prelude.{◌≡◌, ℕ, Bool, Some, Result, Err}
 use Rattle.gw_depot.specs.Fault.{Blame, Rose}
 use Rattle.gw_depot.specs.Files.{Files}
 use Rattle.gw_depot.specs.declared.outside.CallKind.TheVariants.{Read}
-use Rattle.candump_log.specs.Dated.{AreDated}
 use Rattle.candump_log.specs.Log.{ReadsLog}
 use Rattle.candump_log.specs.Source.{Source}
-use Rattle.candump_log.specs.declared.log.LineStop.{LineStop}
 use Rattle.candump_log.specs.declared.log.Log.{Log}
 use Rattle.candump_log.specs.declared.log.LogStop.{LogStop}
 use Rattle.candump_log.specs.declared.log.LogStop.TheVariants.{Fault}
-use Rattle.candump_log.specs.declared.log.Stamped.{Stamped}
 
 -- the lines and the frames are those of the log, where the depot tells its contents, and of some log else
 abbrev pub IsLogIn : (told : Bool) → Files → Source → Log → Type 0

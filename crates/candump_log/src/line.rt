@@ -21,14 +21,21 @@ fn without_return(piece: &[u8]) -> &[u8]
 }
 
 /// The frame that a line lists, without its line feed, after so many. A bus without CAN FD passes over FD frames.
-pub(crate) fn line_frame(listing: &Listing<'_>, piece: &[u8], before: u32) -> Result<Option<Stamped>, LineStop>
+pub(crate) fn line_frame(
+    listing: &Listing<'_>,
+    piece: &[u8],
+    before: u32,
+) -> Result<Option<Stamped>, LineStop>
     requires { before < 2 ^ 32 - 1 }
     ensures taken { IfOk result (GivesFrame (source_in listing.now) piece.now) }
     ensures refused { IfErr result (Refuses (source_in listing.now) piece.now before) }
 {
     let line = before + 1;
     match read_line(without_return(piece), listing.interface) {
-        Ok(Line::Frame { at, frame }) if listing.fd || !frame.fd() => Ok(Some(Stamped { at, frame })),
+        Ok(Line::Frame { at, frame }) if listing.fd || !frame.fd() => Ok(Some(Stamped {
+            at,
+            frame,
+        })),
         Ok(Line::Frame { at: _, frame: _ } | Line::Passed | Line::Empty) => Ok(None),
         Err(fault) => Err(LineStop::Refused { line, fault }),
     }

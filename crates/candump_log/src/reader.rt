@@ -101,7 +101,7 @@ impl LogReader<'_> {
     ghost use Rattle.candump_log.specs.declared.reader.Stage.TheVariants.{Open};
     ghost use Rattle.gw_depot.specs.Outside.{HasCause};
     ghost use Rattle.gw_depot.specs.declared.outside.CallKind.TheVariants.{Read};
-    ghost use Rattle.candump_log.specs.Reader.{FitsAnswer, GivesNext, GivesOn, HasGiven, IsAtEnd, IsGoingOn, IsSameLog, IsStopped, LeavesUnended, StaysOver, StopsAtEnd, StopsHere, StopsOn, TakesFront, TakesLast, TakesWhole, given_by, lines_of, most_of, source_of};
+    ghost use Rattle.candump_log.specs.Reader.{FitsAnswer, GivesNext, GivesOn, HasGiven, HasReadCause, IsAtEnd, IsGoingOn, IsSameLog, IsStopped, LeavesUnended, StaysOver, StopsAtEnd, StopsHere, StopsOn, TakesFront, TakesLast, TakesWhole, given_by, lines_of, most_of, source_of};
 
     /// How many lines were taken.
     pub fn lines(&self) -> u32
@@ -238,7 +238,7 @@ impl LogReader<'_> {
         ensures stopped { IfErr result (IsStopped self.new) }
         ensures over { StaysOver self.old self.new (D.state depot.old) (D.state depot.new) result }
         ensures later { (D.state depot.old).faults ≤ (D.state depot.new).faults }
-        ensures fault { IsGoingOn self.old → FaultsReading (source_of self.old) (D.state depot.old).faults (D.state depot.new).faults (D.state depot.new).blame result }
+        ensures fault { HasReadCause self.old (D.state depot.old) (D.state depot.new) result }
     {
         match self.stage {
             Stage::Stopped(stop) => Err(stop),

@@ -42,15 +42,15 @@ impl<'a> LogWriter<'a> {
 }
 
 impl LogWriter<'_> {
-    ghost use Rattle.candump_log.specs.Writer.{AddsText, IsSameFile, KeepsText, file_of, held_of, interface_of};
+    ghost use Rattle.candump_log.specs.Writer.{IsSameFile, IsThere, KeepsAll, WritesLine, file_of, held_of, interface_of};
 
     /// Appends what is held. After `Failed` a beginning of it was appended, and the rest is held as before.
     pub fn flush<D: Depot>(&mut self, depot: &mut D) -> Result<(), Failed>
-        requires there { (D.state depot.old).told ≡ true → IsSome ((D.state depot.old).files (file_of self.old)) }
+        requires there { IsThere (D.state depot.old) self.old }
         ensures same { IsSameFile self.old self.new }
         ensures told { (D.state depot.new).told ≡ (D.state depot.old).told }
         ensures done { OnOk result (held_of self.new ≡ []) }
-        ensures text { (D.state depot.old).told ≡ true → KeepsText (D.state depot.old).files (D.state depot.new).files self.old self.new }
+        ensures text { KeepsAll (D.state depot.old) (D.state depot.new) self.old self.new }
         ensures cause { HasCause Append (file_of self.old) (D.state depot.old) (D.state depot.new) result }
     {
         loop {
@@ -66,11 +66,11 @@ impl LogWriter<'_> {
     /// Appends what is held, where there is no room for so many bytes behind it.
     fn make_room<D: Depot>(&mut self, depot: &mut D, count: usize) -> Result<(), Failed>
         requires few { count ≤ 66048 }
-        requires there { (D.state depot.old).told ≡ true → IsSome ((D.state depot.old).files (file_of self.old)) }
+        requires there { IsThere (D.state depot.old) self.old }
         ensures same { IsSameFile self.old self.new }
         ensures told { (D.state depot.new).told ≡ (D.state depot.old).told }
         ensures room { OnOk result (length (held_of self.new) + count ≤ 66048) }
-        ensures text { (D.state depot.old).told ≡ true → KeepsText (D.state depot.old).files (D.state depot.new).files self.old self.new }
+        ensures text { KeepsAll (D.state depot.old) (D.state depot.new) self.old self.new }
         ensures cause { HasCause Append (file_of self.old) (D.state depot.old) (D.state depot.new) result }
     {
         if self.held.bytes().len() + count > ROOM {
@@ -89,11 +89,11 @@ impl LogWriter<'_> {
         frame: &Frame,
     ) -> Result<(), Failed>
         requires date { at.0 < 10 ^ 16 }
-        requires there { (D.state depot.old).told ≡ true → IsSome ((D.state depot.old).files (file_of self.old)) }
+        requires there { IsThere (D.state depot.old) self.old }
         ensures same { IsSameFile self.old self.new }
         ensures told { (D.state depot.new).told ≡ (D.state depot.old).told }
-        ensures line { OnOk result ((D.state depot.old).told ≡ true → AddsText (D.state depot.old).files (D.state depot.new).files self.old self.new (line_text at.0 (interface_of self.old) frame.now)) }
-        ensures kept { OnErr result ((D.state depot.old).told ≡ true → KeepsText (D.state depot.old).files (D.state depot.new).files self.old self.new) }
+        ensures line { OnOk result (WritesLine (D.state depot.old) (D.state depot.new) self.old self.new at.0 frame.now) }
+        ensures kept { OnErr result (KeepsAll (D.state depot.old) (D.state depot.new) self.old self.new) }
         ensures reads_back { at.0 < 2 ^ 32 * 10 ^ 6 → ReadsBack at.0 (interface_of self.old) frame.now }
         ensures one_line { All (λ b. 0x20 ≤ b) (entry_text at.0 (interface_of self.old) frame.now) }
         ensures cause { HasCause Append (file_of self.old) (D.state depot.old) (D.state depot.new) result }

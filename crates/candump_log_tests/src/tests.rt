@@ -32,6 +32,15 @@ const FAULT: LogStop = LogStop::Line(LineStop::Refused {
     },
 });
 
+/// Where it stops, where its fourth line ends within its stamp.
+const SHORT: LogStop = LogStop::Line(LineStop::Refused {
+    line: 4,
+    fault: LineFault {
+        kind: LineKind::BadStamp,
+        at: 9,
+    },
+});
+
 /// The log of `can0`.
 struct Can0 {
     fd: bool,
@@ -111,13 +120,16 @@ fn pieces_of_every_size_give_the_same_frames(rt: HostRuntime) {
 
 #[test]
 fn the_read_that_fails_stops_the_reader(rt: HostRuntime) {
-    // One read of these takes 48 bytes, so that the first has one frame whole, and the third the last line.
-    for (nth, frames) in [(1, 0), (2, 1), (3, 2), (4, 2)] {
+    // Two reads of 48 bytes have the whole log, and a third one finds its end.
+    for (nth, frames) in [(1, 0), (2, 1), (3, 2)] {
         let mut depot = MemDepot::new(rt.alloc());
         depot.at_most(48);
         assert!(rt; depot.set(NAME, GOOD).is_ok());
         depot.fail(CallKind::Read, nth);
-        assert!(rt; reads(&mut depot, true, 5, &FRAMES[..frames], Some(LogStop::Fault)), "{nth}");
+        assert!(rt;
+            reads(&mut depot, true, 5, &FRAMES[..frames], Some(LogStop::Fault)),
+            "{nth}"
+        );
     }
 }
 
@@ -127,13 +139,15 @@ fn a_file_that_is_not_there_is_a_fault(rt: HostRuntime) {
     assert!(rt; reads(&mut depot, true, 5, &[], Some(LogStop::Fault)));
 }
 
-/// What the log holds once its first frame was given, and what is then given: other frames, and a stop or the end. Of the first
-/// 48 bytes the rest of the third line is held.
+/// The log without all but nine bytes of its fourth line and what is after it.
+const CUT: &[u8] = b"(1.000000) can0 700#01\r\n(1.000001) can1 700#02\n\n(1.000002";
+
+/// What the log holds once its first three lines were read, and what is then given: frames, and a stop or the end.
 const CHANGED: [(&[u8], &[(u64, u16)], Option<LogStop>); 4] = [
     (GOOD, &[(1_000_002, 0x701), (1_000_003, 0x702)], None),
     (b"", &[], None),
     (BAD, &[(1_000_002, 0x701), (1_000_003, 0x702)], Some(FAULT)),
-    (b"(1.000000) can0 700#01\n", &[], None),
+    (CUT, &[], Some(SHORT)),
 ];
 
 #[test]
@@ -168,8 +182,53 @@ fn a_whole_log_has_its_lines_and_frames(rt: HostRuntime) {
 const LINES: &[u8] = b"(0000000001.000000) can0 700#0102\n(0000000001.000001) can0 701#0102\n";
 
 /// Writes those lines, and appends them.
-fn write(writer: &mut LogWriter<'_>, depot: &mut MemDepot, frame: &Frame, other: &Frame) -> Result<(), Failed> {
+fn write(
+    writer: &mut LogWriter<'_>,
+    depot: &mut MemDepot,
+    frame: &Frame,
+    other: &Frame,
+) -> Result<(), Failed> {
     writer.write(depot, Micros(1_000_000), frame)?;
     writer.write(depot, Micros(1_000_001), other)?;
     writer.flush(depot)
+}
+
+#[test]
+fn lines_are_written_in_pieces_of_every_size(rt: HostRuntime) {
+    let (Ok(frame), Ok(other)) = (
+        Frame::new(CanId::Std(0x700), false, false, b"\x01\x02"),
+        Frame::new(CanId::Std(0x701), false, false, b"\x01\x02"),
+    ) else {
+        panic!(rt; "both are lawful");
+    };
+    for bytes in 1..=20 {
+        let mut depot = MemDepot::new(rt.alloc());
+        depot.at_most(bytes);
+        assert!(rt; depot.create(NAME).is_ok());
+        let mut writer = LogWriter::new(NAME, b"can0");
+        assert!(rt; write(&mut writer, &mut depot, &frame, &other).is_ok());
+        assert_eq!(rt; depot.contents(NAME), Some(LINES), "{bytes}");
+    }
+}
+
+#[test]
+fn an_append_that_fails_is_made_good(rt: HostRuntime) {
+    let (Ok(frame), Ok(other)) = (
+        Frame::new(CanId::Std(0x700), false, false, b"\x01\x02"),
+        Frame::new(CanId::Std(0x701), false, false, b"\x01\x02"),
+    ) else {
+        panic!(rt; "both are lawful");
+    };
+    for (nth, left) in [(1, 0), (2, 40), (3, 68)] {
+        let mut depot = MemDepot::new(rt.alloc());
+        depot.at_most(40);
+        depot.fail(CallKind::Append, nth);
+        assert!(rt; depot.create(NAME).is_ok());
+        let mut writer = LogWriter::new(NAME, b"can0");
+        let written = write(&mut writer, &mut depot, &frame, &other);
+        assert_eq!(rt; written.is_ok(), nth > 2, "{nth}");
+        assert_eq!(rt; depot.contents(NAME), Some(&LINES[..left]), "{nth}");
+        assert!(rt; writer.flush(&mut depot).is_ok() || nth > 2);
+        assert_eq!(rt; depot.contents(NAME), Some(LINES), "{nth}");
+    }
 }

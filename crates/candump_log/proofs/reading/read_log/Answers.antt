@@ -1,5 +1,5 @@
 -- Each frame stands behind those before it, and the reader's end is the log's.
-use Rattle.std.proofs.Common.{◌≡◌, ◌∙◌, ◌++◌, [], ◌∷◌, subst, arith, length-append}
+use Rattle.std.proofs.Common.{◌∙◌, ◌++◌, subst, arith, length-append}
 use Rattle.std.specs.Prelude.{option_to_list}
 use Rattle.std.proofs.lemmas.List.Elements.{All-push}
 use Rattle.candump_log.specs.Dated.{IsDated}
@@ -22,8 +22,8 @@ loop-frames-preserved g c =
       rw (c.in-Ok.ensures.ok, length-append) (omega (arith, inv.6, answer.0)),
       rw c.in-Ok.ensures.ok (All-push IsDated c.loop-frames.frames c.in-Some.stamped inv.7 answer.1),
       rw c.in-Ok.ensures.ok (subst
-      (λ f. HasGiven (g.D.Depot.state c.args.depot.now).told (g.D.Depot.state c.args.depot.now).files c.next.new.self (c.loop-frames.frames ++ option_to_list f))
-      c.in-Some.is (given c.loop-frames.frames inv.8)),
+          (λ f. HasGiven (g.D.Depot.state c.args.depot.now).told (g.D.Depot.state c.args.depot.now).files c.next.new.self (c.loop-frames.frames ++ option_to_list f))
+          c.in-Some.is (given c.loop-frames.frames inv.8)),
     )
 
 pub returns-in_default-clause-given : goal.returns-in_default-clause-given

@@ -13,7 +13,7 @@ invariant-loop-stamped g l =
     × ((g.D.Depot.state l.initial.depot).faults ≤ (g.D.Depot.state l.depot).faults)
     × (l.initial.self.lines ≤ l.self.lines)
     × ((frames : List Stamped) → IsUnderway (g.D.Depot.state l.initial.depot).told (g.D.Depot.state l.initial.depot).files l.initial.self frames →
-        IsUnderway (g.D.Depot.state l.initial.depot).told (g.D.Depot.state l.initial.depot).files l.self frames)
+    IsUnderway (g.D.Depot.state l.initial.depot).told (g.D.Depot.state l.initial.depot).files l.self frames)
 
 abbrev pub decreases-loop-stamped : goal.decreases-loop-stamped
 decreases-loop-stamped g l = 515 * l.initial.self.most + 66049 - (l.self.taken + l.self.lines)

@@ -1,5 +1,5 @@
 -- The line at the front is taken, refused, too long, or one too many.
-use Rattle.std.proofs.Common.{◌≡◌, ◌≢◌, ◌≤◌, ◌+◌, ◌∙◌, [], ◌∷◌, ◌++◌, List, ℕ, length, take, drop, refl, sym, ap, inr, append_assoc, append-nil, arith, length-take-le}
+use Rattle.std.proofs.Common.{◌≡◌, ◌≤◌, ◌+◌, ◌∙◌, [], ◌∷◌, ◌++◌, List, ℕ, length, take, drop, refl, sym, ap, inr, append_assoc, append-nil, arith, length-take-le}
 use Rattle.std.proofs.lemmas.List.{take-append-drop}
 use Rattle.std.proofs.lemmas.Result.{err_from_is_err_and}
 use Rattle.candump_log.proofs.Given.{line_taken, not_empty}

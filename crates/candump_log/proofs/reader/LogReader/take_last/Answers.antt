@@ -1,5 +1,5 @@
 -- The last line is taken, or refused.
-use Rattle.std.proofs.Common.{◌≡◌, [], refl, inl, append-nil}
+use Rattle.std.proofs.Common.{[], refl, inl, append-nil}
 use Rattle.std.proofs.lemmas.Result.{err_from_is_err_and}
 use Rattle.candump_log.proofs.Given.{last_taken, not_empty}
 use Rattle.candump_log.proofs.Stops.{stops_line}

@@ -1,5 +1,5 @@
 -- Each call appends the next bytes of what is held.
-use Rattle.std.proofs.Common.{◌≡◌, ◌∙◌, refl, sym, arith}
+use Rattle.std.proofs.Common.{◌∙◌, refl, sym, arith}
 use Rattle.candump_log.proofs.Texts.{kept_more, still_there}
 use Rattle.candump_log.proofs.writer.LogWriter.flush.Goals as goal
 

@@ -1,4 +1,4 @@
-use Rattle.std.proofs.Common.{◌≡◌, ◌≤◌, length, true}
+use Rattle.std.proofs.Common.{◌≡◌, length, true}
 use Rattle.candump_log.specs.Writer.{IsSameFile, KeepsText}
 use Rattle.candump_log.proofs.Texts.{NoFault}
 use Rattle.candump_log.proofs.writer.LogWriter.flush.Given as goal

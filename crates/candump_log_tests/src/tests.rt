@@ -42,6 +42,7 @@ const SHORT: LogStop = LogStop::Line(LineStop::Refused {
 });
 
 /// The log of `can0`.
+#[derive(Drop)]
 struct Can0 {
     fd: bool,
 }

@@ -8,7 +8,9 @@ use Rattle.candump_log.specs.Reading.{FaultsReading}
 use Rattle.candump_log.specs.Source.{Source}
 use Rattle.candump_log.specs.declared.listing.Listing.{Listing}
 use Rattle.candump_log.specs.declared.log.LineStop.{LineStop}
+use Rattle.candump_log.specs.declared.log.LineStop.TheVariants.{Memory}
 use Rattle.candump_log.specs.declared.log.LogStop.{LogStop}
+use Rattle.candump_log.specs.declared.log.LogStop.TheVariants.{Line}
 use Rattle.candump_log.specs.declared.log.Stamped.{Stamped}
 use Rattle.candump_log.specs.declared.reader.Front.{Front}
 use Rattle.candump_log.specs.declared.reader.Front.TheVariants.{Whole, Unended}
@@ -112,6 +114,28 @@ HasReadCause old before after result = IsGoingOn old → FaultsReading (source_o
 -- with the frame of the answer, where there is one, the reader has given these frames
 abbrev pub GivesNext : {E : Type 0} → (told : Bool) → Files → (old new : LogReader) → Result (Option Stamped) E → Type 0
 GivesNext told files old new result = (frames : List Stamped) → HasGiven told files old frames → HasGiven told files new (frames ++ given_by result)
+
+-- the frames begin with those that the reader has given, and are just these at its end
+pub record BeginsWithGiven (reader : LogReader) (frames all : List Stamped) : Type 0 where
+  pub rest : List Stamped
+  pub whole : all ≡ frames ++ rest
+  pub at_end : IsAtEnd reader → rest ≡ []
+
+-- over a depot that tells its contents: where the file is a log of some frames, a reader that isn't stopped has given a front of them,
+-- and all of them at its end
+abbrev pub GivesFront : Type 0
+GivesFront = (files : Files) (reader : LogReader) (content : List ℕ) (count : ℕ) (frames all : List Stamped) → HasGiven true files reader frames → IsGoingOn reader →
+    files (source_of reader).file ≡ Some content → IsTakenLog (source_of reader) content count all → BeginsWithGiven reader frames all
+
+-- and no line of it stops a reader, where it may have as many
+abbrev pub StopsAtNone : Type 0
+StopsAtNone = (files : Files) (reader : LogReader) (content : List ℕ) (count : ℕ) (frames all : List Stamped) (stop : LineStop) → HasGiven true files reader frames →
+    files (source_of reader).file ≡ Some content → IsTakenLog (source_of reader) content count all → count ≤ most_of reader → IsStopped reader (Line stop) → stop ≡ Memory
+
+-- what a reader has given stays said over other calls of the depot, and where the file has the same bytes
+abbrev pub StaysGiven : Type 0
+StaysGiven = (told : Bool) (before after : Files) (reader : LogReader) (frames : List Stamped) → after (source_of reader).file ≡ before (source_of reader).file →
+    HasGiven told before reader frames → HasGiven told after reader frames
 
 -- ---- its steps
 

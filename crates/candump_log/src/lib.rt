@@ -3,6 +3,7 @@
 #![tactic(auto)]
 
 mod held;
+mod law;
 mod line;
 mod listing;
 mod log;
@@ -11,6 +12,7 @@ mod reading;
 mod source;
 mod writer;
 
+pub use law::pieces_law;
 pub use log::{LineStop, Log, LogStop, Stamped};
 pub use reader::LogReader;
 pub use reading::read_log;

@@ -1,5 +1,5 @@
 -- What a reader has given is a front of its log's frames, and stays so while the file does.
-use Rattle.std.proofs.Common.{◌≡◌, ◌≢◌, ◌≤◌, ℕ, Bool, Some, true, List, [], ◌++◌, length, refl, subst, sym, ◌∙◌, ap, append-nil, append_assoc}
+use Rattle.std.proofs.Common.{◌≡◌, ◌≢◌, ◌≤◌, ℕ, Bool, Some, true, List, [], ◌++◌, refl, subst, sym, ◌∙◌, ap, append-nil, append_assoc}
 use Rattle.std.proofs.lemmas.List.Concat.{flat_map-append}
 use Rattle.gw_base.proofs.Lists.{same-some}
 use Rattle.gw_depot.specs.Files.{Files}

@@ -9,5 +9,4 @@ pub fn pieces_law()
     ensures front { GivesFront }
     ensures through { StopsAtNone }
     ensures stays { StaysGiven }
-{
-}
+{}

@@ -1,4 +1,4 @@
-ghost use Rattle.std.specs.Prelude.{codes};
+ghost use Rattle.std.specs.Prelude.{◌<◌};
 
 use can_frame::{CanId, Frame};
 use candump_line::{LineFault, LineKind};
@@ -212,6 +212,13 @@ fn lines_are_written_in_pieces_of_every_size(rt: HostRuntime) {
     }
 }
 
+/// Which append of at most 40 bytes fails, and what then stands in the file.
+const LEFT: [(u32, &[u8]); 3] = [
+    (1, b""),
+    (2, b"(0000000001.000000) can0 700#0102\n(00000"),
+    (3, LINES),
+];
+
 #[test]
 fn an_append_that_fails_is_made_good(rt: HostRuntime) {
     let (Ok(frame), Ok(other)) = (
@@ -220,7 +227,7 @@ fn an_append_that_fails_is_made_good(rt: HostRuntime) {
     ) else {
         panic!(rt; "both are lawful");
     };
-    for (nth, left) in [(1, 0), (2, 40), (3, 68)] {
+    for (nth, left) in LEFT {
         let mut depot = MemDepot::new(rt.alloc());
         depot.at_most(40);
         depot.fail(CallKind::Append, nth);
@@ -228,7 +235,7 @@ fn an_append_that_fails_is_made_good(rt: HostRuntime) {
         let mut writer = LogWriter::new(NAME, b"can0");
         let written = write(&mut writer, &mut depot, &frame, &other);
         assert_eq!(rt; written.is_ok(), nth > 2, "{nth}");
-        assert_eq!(rt; depot.contents(NAME), Some(&LINES[..left]), "{nth}");
+        assert_eq!(rt; depot.contents(NAME), Some(left), "{nth}");
         assert!(rt; writer.flush(&mut depot).is_ok() || nth > 2);
         assert_eq!(rt; depot.contents(NAME), Some(LINES), "{nth}");
     }

@@ -29,12 +29,11 @@ some_content (Some content) some = (content, refl)
 is_there : (file : Option (List ℕ)) (content : List ℕ) → file ≡ Some content → IsSome file
 is_there file content is = subst IsSome (sym is) refl
 
--- the file is still there
-pub still_there : (before after : Files) (old new : LogWriter) → KeepsText before after old new → IsSome (before (file_of old)) → IsSome (after (file_of new))
-still_there before after old new keeps some =
-    let k = some_content (before (file_of old)) some in
-    let t = keeps.text (k.0 ++ held_of old) (record { content = k.0; there = k.1; whole = refl }) in
-    is_there (after (file_of new)) t.content t.there
+-- a file that a piece was appended to is still there
+pub still_there : (before after : Files) (name piece : List ℕ) (count : ℕ) → AppendsFile {E = Failed} before after name piece (Ok count) → IsSome (before name) → IsSome (after name)
+still_there before after name piece count appends some =
+    let k = some_content (before name) some in
+    is_there (after name) (k.0 ++ take count piece) (appends.added k.0 k.1)
 
 -- a piece more is appended
 pub kept_more : (before between after : Files) (first old new : LogWriter) (count : ℕ) → KeepsText before between first old → file_of old ≡ file_of first → file_of new ≡ file_of old →

@@ -48,6 +48,7 @@ impl LogWriter<'_> {
     pub fn flush<D: Depot>(&mut self, depot: &mut D) -> Result<(), Failed>
         requires there { IsThere (D.state depot.old) self.old }
         ensures same { IsSameFile self.old self.new }
+        ensures there { IsThere (D.state depot.new) self.new }
         ensures told { (D.state depot.new).told ≡ (D.state depot.old).told }
         ensures done { OnOk result (held_of self.new ≡ []) }
         ensures text { KeepsAll (D.state depot.old) (D.state depot.new) self.old self.new }
@@ -68,6 +69,7 @@ impl LogWriter<'_> {
         requires few { count ≤ 66048 }
         requires there { IsThere (D.state depot.old) self.old }
         ensures same { IsSameFile self.old self.new }
+        ensures there { IsThere (D.state depot.new) self.new }
         ensures told { (D.state depot.new).told ≡ (D.state depot.old).told }
         ensures room { OnOk result (length (held_of self.new) + count ≤ 66048) }
         ensures text { KeepsAll (D.state depot.old) (D.state depot.new) self.old self.new }
@@ -91,6 +93,7 @@ impl LogWriter<'_> {
         requires date { at.0 < 10 ^ 16 }
         requires there { IsThere (D.state depot.old) self.old }
         ensures same { IsSameFile self.old self.new }
+        ensures there { IsThere (D.state depot.new) self.new }
         ensures told { (D.state depot.new).told ≡ (D.state depot.old).told }
         ensures line { OnOk result (WritesLine (D.state depot.old) (D.state depot.new) self.old self.new at.0 frame.now) }
         ensures kept { OnErr result (KeepsAll (D.state depot.old) (D.state depot.new) self.old self.new) }

@@ -1,4 +1,6 @@
 ghost use Rattle.std.specs.Prelude.{◌<◌};
+ghost use Rattle.candump_log.specs.Writer.{IsThere};
+ghost use Rattle.gw_depot.specs.MemDepot.{state_of};
 
 use can_frame::{CanId, Frame};
 use candump_line::{LineFault, LineKind};
@@ -188,7 +190,10 @@ fn write(
     depot: &mut MemDepot,
     frame: &Frame,
     other: &Frame,
-) -> Result<(), Failed> {
+) -> Result<(), Failed>
+    requires { IsThere (state_of depot.old) writer.old }
+    ensures { IsThere (state_of depot.new) writer.new }
+{
     writer.write(depot, Micros(1_000_000), frame)?;
     writer.write(depot, Micros(1_000_001), other)?;
     writer.flush(depot)
@@ -236,7 +241,7 @@ fn an_append_that_fails_is_made_good(rt: HostRuntime) {
         let written = write(&mut writer, &mut depot, &frame, &other);
         assert_eq!(rt; written.is_ok(), nth > 2, "{nth}");
         assert_eq!(rt; depot.contents(NAME), Some(left), "{nth}");
-        assert!(rt; writer.flush(&mut depot).is_ok() || nth > 2);
+        assert!(rt; writer.flush(&mut depot).is_ok(), "{nth}");
         assert_eq!(rt; depot.contents(NAME), Some(LINES), "{nth}");
     }
 }

@@ -3,6 +3,8 @@ pub mod Fronts
 pub mod Given
 mod Behind
 mod LineFeeds
+mod Logs
+mod Stopping
 pub mod Stops
 mod Texts
 pub mod Underway

@@ -8,7 +8,7 @@ use Rattle.candump_log.specs.declared.log.LineStop.TheVariants.{Memory, Refused,
 use Rattle.candump_log.specs.declared.log.LogStop.{LogStop}
 use Rattle.candump_log.specs.declared.log.LogStop.TheVariants.{Fault, Line}
 use Rattle.gw_depot.specs.Files.{Files}
-use Rattle.candump_log.specs.Dated.{IsDated}
+use Rattle.candump_log.specs.Dated.{AreDated, IsDated}
 use Rattle.candump_log.specs.Line.{line_taken, taken_by}
 
 -- no line feed is among the bytes
@@ -64,6 +64,17 @@ pub record IsLog (interface : List ℕ) (fd : Bool) (content : List ℕ) (lines 
 -- the content is a log of so many lines, all of them taken, with these frames
 abbrev pub IsTakenLog : Source → (content : List ℕ) → (count : ℕ) → List Stamped → Type 0
 IsTakenLog source content count frames = (lines : List (List ℕ)) × IsLog source.interface source.fd content lines frames × (count ≡ length lines)
+
+-- what was read so far is so many lines, with these frames, and a piece of the next line
+pub record ReadSoFar (source : Source) (content piece : List ℕ) (count : ℕ) (frames : List Stamped) : Type 0 where
+  pub lines : List (List ℕ)
+  pub bytes : content ≡ ended lines ++ piece
+  pub no_feed : All HasNoFeed lines
+  pub unfinished : HasNoFeed piece
+  pub taken : AreTaken source.interface source.fd lines
+  pub frames_are : frames ≡ frames_of source.interface source.fd lines
+  pub count_is : count ≡ length lines
+  pub dated : AreDated frames
 
 -- the frames are those of the log, which has so many lines, where the depot tells its contents, and of some log else
 pub record ReadsLog (told : Bool) (files : Files) (source : Source) (count : ℕ) (frames : List Stamped) : Type 0 where
@@ -121,4 +132,11 @@ LogStops told files source most (Line stop) = told ≡ true → StoppedLog files
 -- the line is taken, and gives this frame or none
 pub record GivesFrame (source : Source) (line : List ℕ) (frame : Option Stamped) : Type 0 where
   pub taken : taken_by source line ≡ Ok frame
+  pub dated : IfSome frame IsDated
+
+-- the line is taken, and its frame added
+pub record AddsLine (source : Source) (line : List ℕ) (old new : List Stamped) : Type 0 where
+  pub frame : Option Stamped
+  pub taken : taken_by source line ≡ Ok frame
+  pub added : new ≡ old ++ option_to_list frame
   pub dated : IfSome frame IsDated

@@ -9,6 +9,7 @@ mod listing;
 mod log;
 mod reader;
 mod reading;
+mod so_far;
 mod source;
 mod writer;
 

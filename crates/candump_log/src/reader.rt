@@ -20,10 +20,10 @@ use memchr::memchr;
 const LINE_FEED: u8 = b'\n';
 
 /// The most bytes of a line without its line end.
-const MOST_LINE: u32 = 512;
+pub(crate) const MOST_LINE: u32 = 512;
 
 /// The most bytes of a line without its line feed: the most that it may have, and a carriage return.
-const MOST_KEPT: usize = 513;
+pub(crate) const MOST_KEPT: usize = 513;
 
 /// How far a log was read.
 #[derive(Clone, Copy, Debug)]
@@ -62,7 +62,7 @@ pub struct LogReader<'a> {
 }
 
 /// The place of the first line feed.
-fn feed_place(bytes: &[u8]) -> Option<usize>
+pub(crate) fn feed_place(bytes: &[u8]) -> Option<usize>
     ensures { MatchOption result (HasNoFeed bytes.now) (IsFeedAt bytes.now) }
 {
     memchr(LINE_FEED, bytes)

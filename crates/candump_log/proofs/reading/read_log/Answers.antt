@@ -1,44 +1,43 @@
--- Each frame stands behind those before it, and the reader's end is the log's.
-use Rattle.std.proofs.Common.{◌∙◌, ◌++◌, subst, arith, length-append}
-use Rattle.std.specs.Prelude.{option_to_list}
-use Rattle.std.proofs.lemmas.List.Elements.{All-push}
-use Rattle.candump_log.specs.Dated.{IsDated}
-use Rattle.candump_log.specs.Reader.{FitsAnswer, HasGiven}
-use Rattle.candump_log.proofs.WholeLogs.{still_there}
+-- Each read adds the next bytes of the file, and the last one ends the log.
+use Rattle.std.proofs.Common.{◌∙◌, length-take, arith}
+use Rattle.std.proofs.lemmas.Result.{err_from_is_err_and}
+use Rattle.candump_log.proofs.Logs.{read_to_end, read_more}
+use Rattle.candump_log.proofs.Stopping.{stops_at_end, stops_in_read}
 use Rattle.candump_log.proofs.reading.read_log.Goals as goal
 
-pub loop-frames-preserved : goal.loop-frames-preserved
-loop-frames-preserved g c =
-    let inv = c.loop-frames.invariant in
-    let next = c.in_ok-stamped.ensures in
-    let answer = subst (FitsAnswer c.loop-frames.reader c.next.new.self) c.in-Some.is next.answer in
-    let given = rw (inv.0, inv.1) at next.given in (
-      next.told ∙ inv.0,
-      next.files ∙ inv.1,
-      omega (arith, inv.2, c.next.ensures.later),
-      next.source ∙ inv.3,
-      next.most ∙ inv.4,
-      next.goes_on,
-      rw (c.in-Ok.ensures.ok, length-append) (omega (arith, inv.6, answer.0)),
-      rw c.in-Ok.ensures.ok (All-push IsDated c.loop-frames.frames c.in-Some.stamped inv.7 answer.1),
-      rw c.in-Ok.ensures.ok (subst
-          (λ f. HasGiven (g.D.Depot.state c.args.depot.now).told (g.D.Depot.state c.args.depot.now).files c.next.new.self (c.loop-frames.frames ++ option_to_list f))
-          c.in-Some.is (given c.loop-frames.frames inv.8)),
-    )
+pub loop-count-preserved : goal.loop-count-preserved
+loop-count-preserved g c = (
+  c.in-Ok.ensures.told ∙ c.loop-count.invariant.0,
+  c.in-Ok.ensures.files ∙ c.loop-count.invariant.1,
+  omega (arith, c.loop-count.invariant.2, c.read.ensures.cause.later),
+  c.take_all.ensures.same ∙ c.loop-count.invariant.3,
+  read_more _ _ _ _ _ _ _ _ _ _ _ _ _ c.loop-count.invariant.4
+      (λ is. rw (c.loop-count.invariant.1, c.file.ensures.file) at (c.in-Ok.ensures.read (c.loop-count.invariant.0 ∙ is)))
+      (rw length-take (omega (arith, c.in-Ok.ensures.bound)))
+      c.in_ok-take_all.ensures.count
+      c.in_ok-take_all.ensures.read,
+)
 
-pub returns-in_default-clause-given : goal.returns-in_default-clause-given
-returns-in_default-clause-given g c =
-    let inv = c.loop-frames.invariant in
-    let answer = subst (FitsAnswer c.loop-frames.reader c.next.new.self) c.in_default.is c.in_ok-stamped.ensures.answer in
-    omega (arith, inv.6, answer.0, c.lines.ensures.lines)
+pub returns-then-count-eq0-clause-read : goal.returns-then-count-eq0-clause-read
+returns-then-count-eq0-clause-read g c =
+    read_to_end _ _ _ _ _ _ _ _ _ _ c.loop-count.invariant.4
+    (λ is. rw (c.loop-count.invariant.1, c.file.ensures.file, c.if-count-eq0.true) at (c.in-Ok.ensures.read (c.loop-count.invariant.0 ∙ is)))
+    c.in_ok-finish.ensures.read
 
-pub returns-in_default-push-clause-stops : goal.returns-in_default-push-clause-stops
-returns-in_default-push-clause-stops g c is =
-    let inv = c.loop-frames.invariant in
-    let next = c.in_ok-stamped.ensures in
-    let answer = subst (FitsAnswer c.loop-frames.reader c.next.new.self) c.in-Some.is next.answer in
-    let given = rw (inv.0, inv.1) at next.given in
-    let there =
-    still_there (g.D.Depot.state c.args.depot.now).told (g.D.Depot.state c.args.depot.now).files c.next.new.self _ (given c.loop-frames.frames inv.8) is
-    (omega (arith, answer.0)) next.goes_on in
-    rw (← (next.source ∙ inv.3)) (record { content = there.0; there = there.1; stops = tt })
+pub returns-then-count-eq0-clause-dated : goal.returns-then-count-eq0-clause-dated
+returns-then-count-eq0-clause-dated g c = c.in_ok-finish.ensures.dated _ c.loop-count.invariant.4.so_far
+
+pub returns-in_err-finish-clause-stops : goal.returns-in_err-finish-clause-stops
+returns-in_err-finish-clause-stops g c =
+    let p = err_from_is_err_and c.from_residual.result c.from_residual.ensures.1 in
+    rw (p.1, p.2) (stops_at_end _ _ _ _ _ _ _ _ _ _ _ c.loop-count.invariant.3 c.loop-count.invariant.4
+    (λ is. rw (c.loop-count.invariant.1, c.file.ensures.file, c.if-count-eq0.true) at (c.in-Ok.ensures.read (c.loop-count.invariant.0 ∙ is)))
+    c.in_err-finish.ensures.stops)
+
+pub returns-in_err-take_all-clause-stops : goal.returns-in_err-take_all-clause-stops
+returns-in_err-take_all-clause-stops g c =
+    let p = err_from_is_err_and c.from_residual-in_err-take_all.result c.from_residual-in_err-take_all.ensures.1 in
+    rw (p.1, p.2) (stops_in_read _ _ _ _ _ _ _ _ _ _ _ _ c.loop-count.invariant.3 c.loop-count.invariant.4
+    (λ is. rw (c.loop-count.invariant.1, c.file.ensures.file) at (c.in-Ok.ensures.read (c.loop-count.invariant.0 ∙ is)))
+    (rw length-take (omega (arith, c.in-Ok.ensures.bound)))
+    c.in_err-take_all.ensures.stops)

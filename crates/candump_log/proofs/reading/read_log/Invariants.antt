@@ -1,19 +1,14 @@
-use Rattle.std.proofs.Common.{◌≡◌, ◌≤◌, ◌-◌, length}
-use Rattle.candump_log.specs.Dated.{AreDated}
-use Rattle.candump_log.specs.Reader.{HasGiven, IsGoingOn, lines_of, most_of, source_of}
+use Rattle.std.proofs.Common.{◌≡◌, ◌≤◌, ◌-◌, ◌*◌, ◌+◌}
+use Rattle.candump_log.proofs.Logs.{ReadFrom}
 use Rattle.candump_log.proofs.reading.read_log.Given as goal
 
-abbrev pub invariant-loop-frames : goal.invariant-loop-frames
-invariant-loop-frames g l =
+abbrev pub invariant-loop-count : goal.invariant-loop-count
+invariant-loop-count g l =
     ((g.D.Depot.state l.depot).told ≡ (g.D.Depot.state l.initial.depot).told)
     × ((g.D.Depot.state l.depot).files ≡ (g.D.Depot.state l.initial.depot).files)
     × ((g.D.Depot.state l.initial.depot).faults ≤ (g.D.Depot.state l.depot).faults)
-    × (source_of l.reader ≡ g.S.LogSource.source l.source)
-    × (most_of l.reader ≡ l.most)
-    × IsGoingOn l.reader
-    × (length l.frames ≤ lines_of l.reader)
-    × AreDated l.frames
-    × HasGiven (g.D.Depot.state l.initial.depot).told (g.D.Depot.state l.initial.depot).files l.reader l.frames
+    × (l.log.most ≡ l.most)
+    × ReadFrom (g.D.Depot.state l.initial.depot).told (g.D.Depot.state l.initial.depot).files (g.S.LogSource.source l.source) l.log.taken l.log.piece.items l.log.lines l.log.frames
 
-abbrev pub decreases-loop-frames : goal.decreases-loop-frames
-decreases-loop-frames g l = l.most - lines_of l.reader
+abbrev pub decreases-loop-count : goal.decreases-loop-count
+decreases-loop-count g l = 514 * (l.most + 1) - l.log.taken

@@ -9,20 +9,20 @@ use Rattle.candump_log.specs.Line.{taken_by}
 use Rattle.candump_log.specs.Log.{AreTaken, HasNoFeed, IsTakenLog, ended, frames_of, given}
 use Rattle.candump_log.specs.Reader.{TakenSoFar}
 
-ended-push : (lines : List (List ℕ)) (line : List ℕ) → ended (lines ++ line ∷ []) ≡ ended lines ++ (line ++ 10 ∷ [])
+pub ended-push : (lines : List (List ℕ)) (line : List ℕ) → ended (lines ++ line ∷ []) ≡ ended lines ++ (line ++ 10 ∷ [])
 ended-push lines line = flat_map-append (λ l. l ++ 10 ∷ []) lines (line ∷ []) ∙ ap (λ t. ended lines ++ t) (append-nil (line ++ 10 ∷ []))
 
-taken-push : (source : Source) (lines : List (List ℕ)) (line : List ℕ) (frame : Option Stamped) →
+pub taken-push : (source : Source) (lines : List (List ℕ)) (line : List ℕ) (frame : Option Stamped) →
     AreTaken source.interface source.fd lines → taken_by source line ≡ Ok frame → AreTaken source.interface source.fd (lines ++ line ∷ [])
 taken-push source lines line frame taken is = All-push (λ l. IsOk (taken_by source l)) lines line taken (ap is_ok is)
 
-frames-push : (source : Source) (lines : List (List ℕ)) (line : List ℕ) (frame : Option Stamped) → taken_by source line ≡ Ok frame →
+pub frames-push : (source : Source) (lines : List (List ℕ)) (line : List ℕ) (frame : Option Stamped) → taken_by source line ≡ Ok frame →
     frames_of source.interface source.fd (lines ++ line ∷ []) ≡ frames_of source.interface source.fd lines ++ option_to_list frame
 frames-push source lines line frame is =
     flat_map-append (λ l. given (taken_by source l)) lines (line ∷ [])
     ∙ ap (λ t. frames_of source.interface source.fd lines ++ t) (append-nil (given (taken_by source line)) ∙ ap given is)
 
-count-push : (lines : List (List ℕ)) (line : List ℕ) (count : ℕ) → count ≡ length lines → count + 1 ≡ length (lines ++ line ∷ [])
+pub count-push : (lines : List (List ℕ)) (line : List ℕ) (count : ℕ) → count ≡ length lines → count + 1 ≡ length (lines ++ line ∷ [])
 count-push lines line count is = rw length-append (omega (arith, is))
 
 -- nothing was taken yet

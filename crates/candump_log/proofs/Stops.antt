@@ -14,14 +14,14 @@ use Rattle.candump_log.specs.Log.{HasNoFeed, ended, EndsLine, StopsAt, GoesPast,
 use Rattle.candump_log.specs.Reader.{TakenSoFar}
 
 -- the line at the front of some bytes
-record FrontLine (bytes : List ℕ) : Type 0 where
-  line : List ℕ
-  tail : List ℕ
-  all : bytes ≡ line ++ tail
-  is_line : HasNoFeed line
-  ends : (tail ≡ []) ⊎ ((later : List ℕ) × (tail ≡ 10 ∷ later))
+pub record FrontLine (bytes : List ℕ) : Type 0 where
+  pub line : List ℕ
+  pub tail : List ℕ
+  pub all : bytes ≡ line ++ tail
+  pub is_line : HasNoFeed line
+  pub ends : (tail ≡ []) ⊎ ((later : List ℕ) × (tail ≡ 10 ∷ later))
 
-front_line : (bytes : List ℕ) → FrontLine bytes
+pub front_line : (bytes : List ℕ) → FrontLine bytes
 front_line [] = record { line = []; tail = []; all = refl; is_line = All-nil (λ b. b ≢ 10); ends = inl refl }
 front_line (b ∷ bytes) =
     let rest : FrontLine bytes = front_line bytes in
@@ -39,7 +39,7 @@ without_return-long line =
     ]
 
 -- a line of more than 512 bytes is too long
-too_long : (source : Source) (line : List ℕ) → 514 ≤ length line → taken_by source line ≡ Err (record { kind = TooLong; at = 512 })
+pub too_long : (source : Source) (line : List ℕ) → 514 ≤ length line → taken_by source line ≡ Err (record { kind = TooLong; at = 512 })
 too_long source line long =
     let much : 513 ≤ length (without_return line) = omega (arith, long, without_return-long line) in
     ap (λ r. taken_of source.fd r) (line-too_long source.interface (without_return line) much)

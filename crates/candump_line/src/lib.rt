@@ -18,4 +18,5 @@ pub use fault::{LineFault, LineKind};
 pub use law::{reading_law, spelling_law};
 pub use line::Line;
 pub use read::read_line;
-pub use write::write_line;
+pub use spell::{LineBytes, MOST_WRITTEN};
+pub use write::{frame_line, write_line};

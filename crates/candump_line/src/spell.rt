@@ -9,12 +9,12 @@ use arrayvec::ArrayVec;
 use can_frame::{CanId, Frame};
 use gw_base::{Micros, decimal};
 
-/// The most bytes of a line: 19 of the stamp, two spaces, 15 of the name, 8 of the identifier, 3 of the
+/// The most bytes of a written line: 19 of the stamp, two spaces, 15 of the name, 8 of the identifier, 3 of the
 /// kind, 128 of the data, and the line feed.
-const MOST_BYTES: usize = 176;
+pub const MOST_WRITTEN: usize = 176;
 
-/// A line, or its beginning.
-pub(crate) type Text = ArrayVec<u8, MOST_BYTES>;
+/// The bytes of a line that is written, or of its beginning.
+pub type LineBytes = ArrayVec<u8, MOST_WRITTEN>;
 
 /// Microseconds in a second.
 pub(crate) const SECOND: u64 = 1_000_000;
@@ -38,8 +38,8 @@ const HEX_WIDE: u32 = 16;
 const UPPER_DIGITS: [u8; 16] = *b"0123456789ABCDEF";
 
 /// Appends the bytes.
-pub(crate) fn put(text: &mut Text, piece: &[u8])
-    requires { length text.old.items + length piece.now ≤ MOST_BYTES }
+pub(crate) fn put(text: &mut LineBytes, piece: &[u8])
+    requires { length text.old.items + length piece.now ≤ MOST_WRITTEN }
     ensures text { text.new.items ≡ text.old.items ++ piece.now }
     ensures len { length text.new.items ≡ length text.old.items + length piece.now }
 {
@@ -49,9 +49,9 @@ pub(crate) fn put(text: &mut Text, piece: &[u8])
 }
 
 /// Appends the hex digit of a value below 16.
-fn put_digit(text: &mut Text, digit: u8)
+fn put_digit(text: &mut LineBytes, digit: u8)
     requires digit { digit < 16 }
-    requires room { length text.old.items < MOST_BYTES }
+    requires room { length text.old.items < MOST_WRITTEN }
     ensures text { text.new.items ≡ text.old.items ++ slice_index upper_digits digit ∷ [] }
     ensures len { length text.new.items ≡ length text.old.items + 1 }
 {
@@ -59,8 +59,8 @@ fn put_digit(text: &mut Text, digit: u8)
 }
 
 /// Appends the number's last `width` hex digits.
-fn put_number(text: &mut Text, number: u32, width: u8)
-    requires { length text.old.items + width ≤ MOST_BYTES }
+fn put_number(text: &mut LineBytes, number: u32, width: u8)
+    requires { length text.old.items + width ≤ MOST_WRITTEN }
     ensures text { text.new.items ≡ text.old.items ++ hex_number width number }
     ensures len { length text.new.items ≡ length text.old.items + width }
 {
@@ -71,8 +71,8 @@ fn put_number(text: &mut Text, number: u32, width: u8)
 }
 
 /// Appends two hex digits for each byte.
-fn put_bytes(text: &mut Text, bytes: &[u8])
-    requires { length text.old.items + 2 * length bytes.now ≤ MOST_BYTES }
+fn put_bytes(text: &mut LineBytes, bytes: &[u8])
+    requires { length text.old.items + 2 * length bytes.now ≤ MOST_WRITTEN }
     ensures text { text.new.items ≡ text.old.items ++ encode_upper bytes.now }
     ensures len { length text.new.items ≡ length text.old.items + 2 * length bytes.now }
     ensures small { All (λ b. b < 256) bytes.now }
@@ -84,12 +84,12 @@ fn put_bytes(text: &mut Text, bytes: &[u8])
 }
 
 /// The stamp, as it begins a line.
-fn stamp(at: Micros) -> Text
+fn stamp(at: Micros) -> LineBytes
     requires { at.0 < 10 ^ 16 }
     ensures text { result.items ≡ stamp_text at.0 }
     ensures len { length result.items ≡ 19 }
 {
-    let mut text = Text::new();
+    let mut text = LineBytes::new();
     put(&mut text, b"(");
     put(&mut text, &decimal(at.0 / SECOND, SECONDS_WIDTH));
     put(&mut text, b".");
@@ -99,8 +99,8 @@ fn stamp(at: Micros) -> Text
 }
 
 /// Appends the identifier, in three hex digits or in eight.
-fn put_id(text: &mut Text, id: CanId)
-    requires { length text.old.items + 8 ≤ MOST_BYTES }
+fn put_id(text: &mut LineBytes, id: CanId)
+    requires { length text.old.items + 8 ≤ MOST_WRITTEN }
     ensures text { text.new.items ≡ text.old.items ++ id_text id }
     ensures len { length text.new.items ≤ length text.old.items + 8 }
 {
@@ -111,8 +111,8 @@ fn put_id(text: &mut Text, id: CanId)
 }
 
 /// Appends what parts the identifier from the data.
-fn put_kind(text: &mut Text, fd: bool, brs: bool)
-    requires { length text.old.items + 3 ≤ MOST_BYTES }
+fn put_kind(text: &mut LineBytes, fd: bool, brs: bool)
+    requires { length text.old.items + 3 ≤ MOST_WRITTEN }
     ensures text { text.new.items ≡ text.old.items ++ kind_text fd brs }
     ensures len { length text.new.items ≤ length text.old.items + 3 }
 {
@@ -124,11 +124,11 @@ fn put_kind(text: &mut Text, fd: bool, brs: bool)
 }
 
 /// A written line without its line feed.
-pub(crate) fn spell(at: Micros, iface: &[u8], frame: &Frame) -> Text
+pub(crate) fn spell(at: Micros, iface: &[u8], frame: &Frame) -> LineBytes
     requires date { at.0 < 10 ^ 16 }
     requires name { IsInterface iface.now }
     ensures text { result.items ≡ entry_text at.0 iface.now frame.now }
-    ensures len { length result.items < MOST_BYTES }
+    ensures len { length result.items < MOST_WRITTEN }
     ensures lawful { IsLawful frame.now }
     ensures bytes { All (λ b. b < 256) frame.now.bytes }
 {

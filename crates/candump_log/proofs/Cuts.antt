@@ -63,6 +63,11 @@ cut_lines content lines is = elim is.cut [
   | inr within ↦ ap cut within.bytes ∙ cut-within within.front within.last (subst (All HasNoFeed) within.all is.no_feed) within.some ∙ sym within.all
 ]
 
+-- whole lines at the front of the content are its first lines
+pub lines-front : (content : List ℕ) (front lines : List (List ℕ)) (rest : List ℕ) → All HasNoFeed front → content ≡ ended front ++ rest → IsCut content lines →
+    (more : List (List ℕ)) × (lines ≡ front ++ more)
+lines-front content front lines rest none bytes is = (cut rest, sym (cut_lines content lines is) ∙ ap cut bytes ∙ cut-ended front rest none)
+
 -- the lines of a log are taken
 abbrev Taken : Source → List (List ℕ) → Type 0
 Taken source lines = AreTaken source.interface source.fd lines

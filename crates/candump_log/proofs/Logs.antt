@@ -1,34 +1,17 @@
 -- A log that is read in pieces, and cut at each line feed.
-use Rattle.std.proofs.Common.{◌≡◌, ◌≢◌, ◌≤◌, ℕ, Bool, Option, None, Some, Ok, is_ok, drop, take, ◌+◌, ◌<◌, length-append, true, false, ◌==◌, List, [], ◌∷◌, ◌++◌, length, subst, refl, sym, ◌∙◌, ap, inl, inr, append_assoc, append-nil, arith}
-use Rattle.std.specs.Prelude.{IfSome, IsOk, option_to_list}
+use Rattle.std.proofs.Common.{◌≡◌, ◌≢◌, ◌≤◌, ℕ, Bool, Option, None, Some, drop, take, ◌+◌, ◌<◌, length-append, true, false, ◌==◌, List, [], ◌∷◌, ◌++◌, length, subst, refl, sym, ◌∙◌, ap, inl, inr, append_assoc, append-nil, arith}
+use Rattle.std.specs.Prelude.{IfSome, option_to_list}
 use Rattle.std.specs.List.{All}
 use Rattle.std.proofs.Math.Seq.{take-add}
-use Rattle.std.proofs.lemmas.List.Concat.{flat_map-append}
 use Rattle.std.proofs.lemmas.List.Elements.{All-append, All-cons, All-nil, All-push}
 use Rattle.gw_depot.specs.Files.{Files, ReadsFile}
 use Rattle.candump_log.specs.Source.{Source}
 use Rattle.candump_log.specs.declared.log.Stamped.{Stamped}
 use Rattle.candump_log.specs.Dated.{AreDated, IsDated}
-use Rattle.candump_log.specs.Line.{taken_by}
-use Rattle.candump_log.specs.Log.{AddsLine, AreTaken, HasNoFeed, IsTakenLog, IsFeedAt, ReadSoFar, ReadsLog, ended, frames_of, given}
+use Rattle.candump_log.specs.Log.{AddsLine, HasNoFeed, IsTakenLog, IsFeedAt, ReadSoFar, ReadsLog, ended}
+use Rattle.candump_log.proofs.Given.{count-push, ended-push, frames-push, taken-push}
 use Rattle.candump_log.proofs.LineFeeds.{feed_taken}
 use Rattle.gw_depot.proofs.ReadLemmas.{take-whole, read_within}
-
-pub ended-push : (lines : List (List ℕ)) (line : List ℕ) → ended (lines ++ line ∷ []) ≡ ended lines ++ (line ++ 10 ∷ [])
-ended-push lines line = flat_map-append (λ l. l ++ 10 ∷ []) lines (line ∷ []) ∙ ap (λ t. ended lines ++ t) (append-nil (line ++ 10 ∷ []))
-
-taken-push : (source : Source) (lines : List (List ℕ)) (line : List ℕ) (frame : Option Stamped) →
-    AreTaken source.interface source.fd lines → taken_by source line ≡ Ok frame → AreTaken source.interface source.fd (lines ++ line ∷ [])
-taken-push source lines line frame taken is = All-push (λ l. IsOk (taken_by source l)) lines line taken (ap is_ok is)
-
-frames-push : (source : Source) (lines : List (List ℕ)) (line : List ℕ) (frame : Option Stamped) → taken_by source line ≡ Ok frame →
-    frames_of source.interface source.fd (lines ++ line ∷ []) ≡ frames_of source.interface source.fd lines ++ option_to_list frame
-frames-push source lines line frame is =
-    flat_map-append (λ l. given (taken_by source l)) lines (line ∷ [])
-    ∙ ap (λ t. frames_of source.interface source.fd lines ++ t) (append-nil (given (taken_by source line)) ∙ ap given is)
-
-count-push : (lines : List (List ℕ)) (line : List ℕ) (count : ℕ) → count ≡ length lines → count + 1 ≡ length (lines ++ line ∷ [])
-count-push lines line count is = rw length-append (omega (arith, is))
 
 dated-option : (frame : Option Stamped) → IfSome frame IsDated → AreDated (option_to_list frame)
 dated-option None dated = All-nil IsDated
@@ -106,9 +89,6 @@ log_ended source content piece count frames so_far none = (
   },
   so_far.count_is,
 )
-
-pub not_empty : (xs : List ℕ) → false ≡ (length xs == 0) → xs ≢ []
-not_empty xs some none = let clash : false ≡ true = rw none at some in cc
 
 pub holds_some : (xs : List ℕ) → false ≡ (length xs == 0) → 0 < length xs
 holds_some [] some = let clash : false ≡ true = some in cc

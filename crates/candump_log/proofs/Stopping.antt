@@ -1,11 +1,8 @@
 -- A log that isn't read to its end: a line that is refused, or one too many.
-use Rattle.std.proofs.Common.{◌≡◌, ◌≢◌, ℕ, ◌+◌, ◌-◌, ◌<◌, ◌≤◌, ◌⊎◌, Bool, true, false, cond, ◌==◌, Err, List, [], ◌∷◌, ◌++◌, length, take, drop, refl, subst, sym, ◌∙◌, ap, inl, inr, append_assoc, append-nil, length-append, length-take, arith}
-use Rattle.std.specs.Prelude.{slice_index}
+use Rattle.std.proofs.Common.{◌≡◌, ◌≢◌, ℕ, ◌+◌, ◌<◌, ◌≤◌, Bool, true, List, [], ◌∷◌, ◌++◌, length, take, drop, refl, subst, sym, ◌∙◌, ap, inl, inr, append_assoc, append-nil, length-append, arith}
 use Rattle.std.proofs.Math.Seq.{take-add}
 use Rattle.std.proofs.lemmas.List.{take-append-drop}
-use Rattle.std.proofs.lemmas.Bool.{cases_eq}
-use Rattle.std.proofs.lemmas.List.Elements.{All-nil, All-cons, All-append}
-use Rattle.candump_line.proofs.ReadLemmas.{line-too_long}
+use Rattle.std.proofs.lemmas.List.Elements.{All-append}
 use Rattle.candump_line.specs.declared.fault.LineKind.TheVariants.{TooLong}
 use Rattle.gw_depot.specs.Files.{Files, ReadsFile}
 use Rattle.candump_log.specs.Source.{Source}
@@ -13,44 +10,13 @@ use Rattle.candump_log.specs.declared.log.LineStop.{LineStop}
 use Rattle.candump_log.specs.declared.log.LineStop.TheVariants.{Memory, Refused, Limit}
 use Rattle.candump_log.specs.declared.log.LogStop.TheVariants.{Line}
 use Rattle.candump_log.specs.declared.log.Stamped.{Stamped}
-use Rattle.candump_log.specs.Line.{taken_by, taken_of, without_return}
 use Rattle.candump_log.specs.Log.{HasNoFeed, IsFeedAt, ended, EndsLine, ReadSoFar, StopsAt, GoesPast, Stops, Refuses, LogStops}
 use Rattle.candump_log.proofs.Logs.{ReadFrom}
+use Rattle.candump_log.proofs.Stops.{FrontLine, front_line, too_long}
 use Rattle.gw_depot.proofs.ReadLemmas.{read_within, take-whole}
 
 regroup : (a b c d e : List ℕ) → ((a ++ b) ++ c) ++ (d ++ e) ≡ a ++ ((b ++ c) ++ d) ++ e
 regroup a b c d e = simp append_assoc
-
--- the line at the front of some bytes
-record FrontLine (bytes : List ℕ) : Type 0 where
-  line : List ℕ
-  tail : List ℕ
-  all : bytes ≡ line ++ tail
-  is_line : HasNoFeed line
-  ends : (tail ≡ []) ⊎ ((later : List ℕ) × (tail ≡ 10 ∷ later))
-
-front_line : (bytes : List ℕ) → FrontLine bytes
-front_line [] = record { line = []; tail = []; all = refl; is_line = All-nil (λ b. b ≢ 10); ends = inl refl }
-front_line (b ∷ bytes) =
-    let rest : FrontLine bytes = front_line bytes in
-    elim (cases_eq b 10) [
-      | inl feed ↦ record { line = []; tail = b ∷ bytes; all = refl; is_line = All-nil (λ b. b ≢ 10); ends = inr (bytes, rw feed refl) }
-      | inr other ↦ record { line = b ∷ rest.line; tail = rest.tail; all = ap (λ t. b ∷ t) rest.all; is_line = All-cons (λ b. b ≢ 10) b rest.line other rest.is_line; ends = rest.ends }
-    ]
-
--- dropping one carriage return leaves all but one byte
-without_return-long : (line : List ℕ) → length line ≤ length (without_return line) + 1
-without_return-long line =
-    elim (slice_index line (length line - 1) == 13) as (λ b. length line ≤ length (cond b (take (length line - 1) line) line) + 1) [
-      | true ↦ rw length-take (omega arith)
-      | false ↦ omega arith
-    ]
-
--- a line of more than 512 bytes is too long
-too_long : (source : Source) (line : List ℕ) → 514 ≤ length line → taken_by source line ≡ Err (record { kind = TooLong; at = 512 })
-too_long source line long =
-    let much : 513 ≤ length (without_return line) = omega (arith, long, without_return-long line) in
-    ap (λ r. taken_of source.fd r) (line-too_long source.interface (without_return line) much)
 
 -- the line that ends here is refused
 pub stops_here : (source : Source) (most : ℕ) (content line tail : List ℕ) (count : ℕ) (frames : List Stamped) (stop : LineStop) →

@@ -129,6 +129,11 @@ abbrev pub LogStops : (told : Bool) → Files → Source → (most : ℕ) → Lo
 LogStops told files source most Fault = Unit {0}
 LogStops told files source most (Line stop) = told ≡ true → StoppedLog files source most stop
 
+-- the line is taken, and gives this frame or none
+pub record GivesFrame (source : Source) (line : List ℕ) (frame : Option Stamped) : Type 0 where
+  pub taken : taken_by source line ≡ Ok frame
+  pub dated : IfSome frame IsDated
+
 -- the line is taken, and its frame added
 pub record AddsLine (source : Source) (line : List ℕ) (old new : List Stamped) : Type 0 where
   pub frame : Option Stamped

@@ -1,5 +1,5 @@
 -- How a log is read on: from what was read of it so far, to its end or to what stops the reading.
-use Rattle.std.specs.Prelude.{◌≡◌, ℕ, Bool, Some, Result, Err, List, [], ◌∷◌, ◌++◌, All}
+use Rattle.std.specs.Prelude.{◌≡◌, ℕ, Bool, Some, Result, Err, List, [], ◌∷◌, ◌++◌}
 use Rattle.gw_depot.specs.Fault.{Blame, Rose}
 use Rattle.gw_depot.specs.Files.{Files}
 use Rattle.gw_depot.specs.declared.outside.CallKind.TheVariants.{Read}

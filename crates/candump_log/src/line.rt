@@ -2,9 +2,11 @@
 ghost use Rattle.std.specs.Prelude.{◌≡◌, ◌&&◌, not, ◌<◌, ◌≤◌, ◌+◌, ◌-◌, ◌*◌, ◌^◌, length, IfErr, IfOk, IfSome, OnErr, OnOk};
 ghost use Rattle.candump_line.specs.Reading.{IsLawfulLine};
 ghost use Rattle.candump_log.specs.Dated.{IsDated};
-ghost use Rattle.candump_log.specs.Line.{listed, taken_by, without_return};
-ghost use Rattle.candump_log.specs.Log.{AddsLine, Refuses};
+ghost use Rattle.candump_log.specs.Line.{listed, taken_by, taken_of, without_return};
+ghost use Rattle.candump_log.specs.Log.{AddsLine, GivesFrame, Refuses};
+ghost use Rattle.candump_log.specs.Reader.{source_in};
 
+use crate::listing::Listing;
 use crate::log::{LineStop, Stamped};
 use crate::source::LogSource;
 use can_frame::Frame;
@@ -18,6 +20,27 @@ fn without_return(piece: &[u8]) -> &[u8]
     match piece {
         [line @ .., b'\r'] => line,
         _ => piece,
+    }
+}
+
+/// The frame that a line lists, without its line feed, after so many. A bus without CAN FD passes over FD frames.
+pub(crate) fn line_frame(
+    listing: &Listing<'_>,
+    piece: &[u8],
+    before: u32,
+) -> Result<Option<Stamped>, LineStop>
+    requires { before < 2 ^ 32 - 1 }
+    ensures taken { IfOk result (GivesFrame (source_in listing.now) piece.now) }
+    ensures refused { IfErr result (Refuses (source_in listing.now) piece.now before) }
+{
+    let line = before + 1;
+    match read_line(without_return(piece), listing.interface) {
+        Ok(Line::Frame { at, frame }) if listing.fd || !frame.fd() => Ok(Some(Stamped {
+            at,
+            frame,
+        })),
+        Ok(Line::Frame { at: _, frame: _ } | Line::Passed | Line::Empty) => Ok(None),
+        Err(fault) => Err(LineStop::Refused { line, fault }),
     }
 }
 

@@ -1,36 +1,23 @@
 //! The reading of a log: in pieces, cut at each line feed.
-ghost use Rattle.std.specs.Prelude.{◌≡◌, ◌<◌, ◌≤◌, ◌+◌, ◌-◌, ◌*◌, ◌^◌, [], ◌∷◌, length, take, All, IfErr, IfOk, MatchOption, OnOk};
+ghost use Rattle.std.specs.Prelude.{◌≡◌, ◌<◌, ◌≤◌, ◌+◌, ◌-◌, ◌*◌, ◌^◌, [], ◌∷◌, length, take, All, IfErr, IfOk, OnOk};
 ghost use Rattle.std.specs.Bool.{OnFalse, OnTrue};
 ghost use Rattle.candump_log.specs.Dated.{AreDated};
-ghost use Rattle.candump_log.specs.Log.{HasNoFeed, IsFeedAt, LogStops};
+ghost use Rattle.candump_log.specs.Log.{HasNoFeed, LogStops};
 ghost use Rattle.candump_log.specs.Reading.{FaultsReading, IsLogIn};
 
 use crate::line::push_line;
 use crate::log::{LineStop, Log, LogStop};
-use crate::so_far::{LogSoFar, MOST_KEPT};
+use crate::reader::{MOST_KEPT, MOST_LINE, feed_place};
+use crate::so_far::LogSoFar;
 use crate::source::LogSource;
 use arrayvec::ArrayVec;
 use candump_line::{LineFault, LineKind};
 use gw_base::ListOf;
 use gw_depot::Depot;
-use memchr::memchr;
 use std::alloc::Global;
-
-/// The byte that ends a line.
-const LINE_FEED: u8 = b'\n';
-
-/// The most bytes of a line without its line end.
-const MOST_LINE: u32 = 512;
 
 /// How many bytes one read asks for.
 const PIECE: usize = 65_536;
-
-/// The place of the first line feed.
-fn feed_place(bytes: &[u8]) -> Option<usize>
-    ensures { MatchOption result (HasNoFeed bytes.now) (IsFeedAt bytes.now) }
-{
-    memchr(LINE_FEED, bytes)
-}
 
 impl LogSoFar {
     ghost use Rattle.candump_log.specs.Reading.{EndsAs, KeepsDated, ReadsLine, ReadsOn, StopsAtEnd, StopsAtFeed, StopsAtLine, StopsIn};

@@ -2,11 +2,9 @@
 ghost use Rattle.std.specs.Prelude.{◌<◌, ◌≤◌, ◌+◌, ◌-◌, ◌*◌, ◌^◌, length};
 
 use crate::log::Stamped;
+use crate::reader::MOST_KEPT;
 use arrayvec::ArrayVec;
 use gw_base::ListOf;
-
-/// The most bytes that are kept of a line: the most that it may have, and a carriage return.
-pub(crate) const MOST_KEPT: usize = 513;
 
 /// A log as far as it was read.
 #[derive(Debug, Drop)]

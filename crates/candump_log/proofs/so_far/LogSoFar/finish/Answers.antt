@@ -1,7 +1,8 @@
 -- The end of the file ends the log, or its last line.
 use Rattle.std.proofs.Common.{[], inl, refl, append-nil}
 use Rattle.std.proofs.lemmas.Result.{err_from_is_err_and}
-use Rattle.candump_log.proofs.Logs.{dated-push, holds_some, last_line_ended, not_empty}
+use Rattle.candump_log.proofs.Given.{not_empty}
+use Rattle.candump_log.proofs.Logs.{dated-push, holds_some, last_line_ended}
 use Rattle.candump_log.proofs.Stopping.{stops_here}
 use Rattle.candump_log.proofs.so_far.LogSoFar.finish.Goals as goal
 

@@ -1,1 +1,4 @@
 pub mod TextLemmas
+pub mod PlaceLemmas
+pub mod FoundLemmas
+pub mod ConfigLemmas

@@ -13,6 +13,7 @@ use std::alloc::Global;
 /// A channel, and the bus that it stands on.
 #[derive(Drop)]
 pub(crate) struct Standing<'a> {
+    pub(crate) chan: ChanNo,
     pub(crate) channel: &'a ChannelKeys,
     pub(crate) bus: &'a BusKeys,
     /// The bus's number.
@@ -24,6 +25,7 @@ pub(crate) fn standing_at(config: &Config, number: usize) -> Standing<'_>
     requires accepted { IsAccepted config.now }
     requires within { number < length config.now.channel }
     ensures stands { StandsOn config.now number result.on result.channel.now result.bus.now }
+    ensures chan { result.chan.0 ≡ number }
     ensures lawful { IsLawfulChannel result.channel.now }
 {
     let channel = &config.channel.items()[number];
@@ -31,6 +33,7 @@ pub(crate) fn standing_at(config: &Config, number: usize) -> Standing<'_>
         unreachable!();
     };
     Standing {
+        chan: ChanNo(number as u8),
         channel,
         bus: &config.bus.items()[on],
         on: BusNo(on as u8),
@@ -46,7 +49,7 @@ fn channel_at(config: &Config, number: usize) -> ChanEntry
     let standing = standing_at(config, number);
     let channel = standing.channel;
     ChanEntry {
-        chan: ChanNo(number as u8),
+        chan: standing.chan,
         bus: standing.on,
         id: channel.rx,
         address: channel.rx_address,

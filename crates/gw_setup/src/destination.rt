@@ -71,7 +71,7 @@ fn destination_at(config: &Config, number: usize) -> Option<Destination>
             path,
             &standing,
         ),
-        chan: ChanNo(number as u8),
+        chan: standing.chan,
         comes: comes_to(channel),
         bus: standing.on,
     })

@@ -63,7 +63,7 @@ fn source_at(config: &Config, number: usize) -> Option<Source>
     };
     let path = &config.path.items()[place];
     Some(Source {
-        set: rx_set_of(PathNo(place as u8), ChanNo(number as u8), path, channel),
+        set: rx_set_of(PathNo(place as u8), standing.chan, path, channel),
         comes: comes_to(channel),
         shape: shape_of(standing.bus, channel),
         bus: standing.on,

@@ -2,3 +2,4 @@ pub mod TextLemmas
 pub mod PlaceLemmas
 pub mod FoundLemmas
 pub mod ConfigLemmas
+pub mod EntryLemmas

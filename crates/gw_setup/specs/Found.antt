@@ -1,5 +1,5 @@
 -- What is found in a configuration for the channel of a number (this project's own).
-use Rattle.std.specs.Prelude.{◌≡◌, ◌≢◌, ℕ, List, Some, slice_get}
+use Rattle.std.specs.Prelude.{◌≡◌, ◌≢◌, ◌<◌, ℕ, List, Some, slice_get}
 use Rattle.gw_config.specs.Config.{ChannelEntry, Configuration, PathEntry}
 use Rattle.gw_setup.specs.Placed.{IsDestination, IsSource}
 use Rattle.gw_setup.specs.declared.destination.Destination.{Destination}
@@ -20,11 +20,12 @@ pub record IsSourceAt (config : Configuration) (number : ℕ) (source : Source) 
 abbrev pub NoneLeadTo : List PathEntry → (name : List ℕ) → Type 0
 NoneLeadTo paths name = (place dest : ℕ) (path : PathEntry) → slice_get paths place ≡ Some path → slice_get path.to dest ≢ Some name
 
--- this destination of this path has the name
+-- this destination of this path has the name, one of up to 8
 pub record LeadsTo (paths : List PathEntry) (name : List ℕ) (found : DestPlace) : Type 0 where
   pub path : PathEntry
   pub there : slice_get paths found.path ≡ Some path
   pub named : slice_get path.to found.dest ≡ Some name
+  pub few : found.dest < 8
 
 -- no path leads to the channel of this number
 abbrev pub IsNoDestination : Configuration → (number : ℕ) → Type 0

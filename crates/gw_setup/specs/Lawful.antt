@@ -17,11 +17,12 @@ use Rattle.gw_setup.specs.declared.address.Address.{Address}
 use Rattle.gw_setup.specs.declared.destination.Destination.{Destination}
 use Rattle.gw_setup.specs.declared.source.Source.{Source}
 
--- the names can stand for an interface and for files
+-- the names can stand for an interface and for files, and a frame is sent in a tick at least
 pub record IsBus (bus : Bus) : Type 0 where
   pub interface : IsInterface bus.interface
   pub log : IsName bus.log
   pub out : IsName bus.out
+  pub budget : 1 ≤ bus.budget
 
 -- a bus without CAN FD has classic frames, and FD frames switch the bit rate where the bus does
 pub record FitsBus (bus : Bus) (shape : Shape) : Type 0 where
@@ -36,6 +37,7 @@ IsInTable channels chan bus comes = slice_get channels chan.0 ≡ Some (record {
 pub record SendsOn (setup : Setup) (number : BusNo) (shape : Shape) : Type 0 where
   pub bus : Bus
   pub there : slice_get setup.buses number.0 ≡ Some bus
+  pub is_bus : IsBus bus
   pub fits : FitsBus bus shape
   pub is_shape : IsShape shape
 

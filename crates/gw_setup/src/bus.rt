@@ -36,7 +36,7 @@ impl<'a> Model for Bus<'a> {
 }
 
 impl Bus<'_> {
-    ghost use Rattle.std.specs.Prelude.{◌≡◌};
+    ghost use Rattle.std.specs.Prelude.{◌≡◌, ◌≤◌};
     ghost use Rattle.candump_line.specs.Line.{IsInterface};
     ghost use Rattle.gw_depot.specs.Files.{IsName};
 
@@ -72,7 +72,8 @@ impl Bus<'_> {
 
     /// The most frames that it sends in a tick.
     pub fn budget(&self) -> u8
-        ensures { result ≡ self.now.budget }
+        ensures budget { result ≡ self.now.budget }
+        ensures some { 1 ≤ result }
     {
         self.budget
     }

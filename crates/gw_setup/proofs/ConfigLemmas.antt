@@ -1,9 +1,9 @@
 -- What an accepted configuration's names are: each is there, and nothing is led to twice.
-use Rattle.std.proofs.Common.{◌≡◌, ℕ, zero, suc, ◌+◌, ◌-◌, ◌<◌, ◌≤◌, Bool, true, false, not, ◌&&◌, ◌||◌, Option, Some, None, List, [], ◌∷◌, ◌++◌, get_or, length, inl, inr, refl, sym, ap, subst, ◌∙◌, arith}
-use Rattle.std.specs.Prelude.{slice_get, ◌==◌, ◌≢◌, nat_lt, MatchOption, option_and_then, option_map}
+use Rattle.std.proofs.Common.{◌≡◌, ℕ, zero, suc, ◌-◌, ◌<◌, ◌≤◌, Bool, true, false, Option, Some, None, List, [], ◌∷◌, get_or, length, inl, inr, refl, sym, ap, ◌∙◌, arith}
+use Rattle.std.specs.Prelude.{slice_get, ◌==◌, MatchOption}
 use Rattle.std.specs.List.{list_any, position}
 use Rattle.std.specs.Str.{bytes_eq}
-use Rattle.std.proofs.lemmas.Bool.{and_from, both_ways, cases_Bool, cases_order, eq-eqb, lt-ltb, ne_eqb, not_from_false, or_left, or_right}
+use Rattle.std.proofs.lemmas.Bool.{and_from, both_ways, cases_order, eq-eqb, lt-ltb, ne_eqb, or_left, or_right}
 use Rattle.std.proofs.lemmas.Option.{get_or_from_slice_get, same_Some, slice_get_within}
 use Rattle.std.proofs.lemmas.Slice.Eq.{bytes_eq-Decides}
 use Rattle.gw_config.specs.Config.{BusEntry, ChannelEntry, Configuration, PathEntry}
@@ -12,13 +12,11 @@ use Rattle.route_check.specs.Entries.{repeats, share_channel}
 use Rattle.route_check.specs.Names.{is_among}
 use Rattle.route_check.specs.declared.conflict.ConflictKind.TheVariants.{SharedSender, UnknownName}
 use Rattle.route_check.specs.declared.conflict.Place.TheVariants.{Bus, Channel, Path}
-use Rattle.gw_setup.specs.Found.{IsDestinationAt, IsNoDestination, IsNoSource, IsSourceAt, LeadsTo, NoneLeadTo}
-use Rattle.gw_setup.specs.Machines.{comes_to, rx_set_of, shape_of, tx_set_of}
+use Rattle.gw_setup.specs.Found.{IsDestinationAt, IsNoDestination, IsNoSource, IsSourceAt}
 use Rattle.gw_setup.specs.Placed.{AreDestinations, AreSources, HasDestination, HasSource, IsDestination, IsSource, StandsOn}
 use Rattle.gw_setup.specs.declared.destination.Destination.{Destination}
-use Rattle.gw_setup.specs.declared.names.DestPlace.{DestPlace}
 use Rattle.gw_setup.specs.declared.source.Source.{Source}
-use Rattle.gw_setup.proofs.FoundLemmas.{AreFound, FoundAt, HasOf}
+use Rattle.gw_setup.proofs.FoundLemmas.{AreFound, FoundAt}
 use Rattle.gw_setup.proofs.PlaceLemmas.{Passes, any_at, found_at, item_at, none_at, place_of_any, some_at}
 
 pub same_text : (one other : List ℕ) → bytes_eq one other ≡ true → one ≡ other
@@ -76,9 +74,9 @@ module _ (config : Configuration) (accepted : IsAccepted config) where
   share_once one other path another there here share back = elim (cases_order one other) [
     | inl same ↦ same
     | inr rest ↦ elim rest [
-        | inl before ↦ absurd (sharing one other path another before there here share)
-        | inr after ↦ absurd (sharing other one another path after here there back)
-      ]
+      | inl before ↦ absurd (sharing one other path another before there here share)
+      | inr after ↦ absurd (sharing other one another path after here there back)
+    ]
   ]
 
   pub path_once : (one other : ℕ) (path another : PathEntry) → slice_get config.path one ≡ Some path → slice_get config.path other ≡ Some another →
@@ -117,9 +115,9 @@ module _ (config : Configuration) (accepted : IsAccepted config) where
   dest_once number dest other path name there named same = elim (cases_order dest other) [
     | inl is ↦ is
     | inr rest ↦ elim rest [
-        | inl before ↦ absurd (no_repeats number path there (twice path.to dest other name before named same))
-        | inr after ↦ absurd (no_repeats number path there (twice path.to other dest name after same named))
-      ]
+      | inl before ↦ absurd (no_repeats number path there (twice path.to dest other name before named same))
+      | inr after ↦ absurd (no_repeats number path there (twice path.to other dest name after same named))
+    ]
   ]
 
   -- ---- where a channel stands

@@ -5,7 +5,7 @@ use Rattle.std.specs.List.{position}
 use Rattle.std.specs.Str.{bytes_eq}
 use Rattle.std.proofs.lemmas.Bool.{both_ways, cases_lt}
 use Rattle.std.proofs.lemmas.Bool.Decides.{nat_tests}
-use Rattle.std.proofs.lemmas.Option.{get_or_from_slice_get, same_Some, slice_get_past, slice_get_within, none-some}
+use Rattle.std.proofs.lemmas.Option.{get_or_from_slice_get, same_Some, slice_get_within}
 use Rattle.gw_base.specs.declared.numbers.BusNo.{BusNo}
 use Rattle.gw_base.specs.declared.numbers.ChanNo.{ChanNo}
 use Rattle.gw_config.specs.Config.{BusEntry, ChannelEntry, Configuration, PathEntry}
@@ -15,7 +15,7 @@ use Rattle.tp_sender.specs.declared.set.TxSet.{TxSet}
 use Rattle.tp_unit.specs.declared.shape.Shape.{Shape}
 use Rattle.gw_setup.specs.Found.{IsDestinationAt, IsSourceAt, LeadsTo}
 use Rattle.gw_setup.specs.Machines.{comes_to, rx_set_of, shape_of, tx_set_of}
-use Rattle.gw_setup.specs.Placed.{IsDestination, IsSource, StandsOn}
+use Rattle.gw_setup.specs.Placed.{StandsOn}
 use Rattle.gw_setup.specs.declared.address.Address.{Address}
 use Rattle.gw_setup.specs.declared.names.DestPlace.{DestPlace}
 use Rattle.gw_setup.proofs.ConfigLemmas.{same_text, text_same}

@@ -1,11 +1,11 @@
 -- What is found for the channels of a configuration one after another, in their order.
-use Rattle.std.proofs.Common.{◌≡◌, ℕ, zero, suc, ◌+◌, ◌<◌, ◌≤◌, Option, Some, None, List, [], ◌∷◌, ◌++◌, length, get_or, inl, inr, refl, sym, ap, ◌∙◌, length-append, append-nil, arith}
+use Rattle.std.proofs.Common.{◌≡◌, ℕ, ◌+◌, ◌<◌, Option, Some, None, List, [], ◌∷◌, ◌++◌, length, get_or, inl, inr, append-nil, arith}
 use Rattle.std.specs.Prelude.{slice_get, AllPairs, option_to_list}
 use Rattle.std.proofs.lemmas.Bool.{cases_lt}
 use Rattle.std.proofs.lemmas.List.Quantifiers.{all_pairs_push}
-use Rattle.std.proofs.lemmas.Option.{same_Some, slice_get-get_or}
+use Rattle.std.proofs.lemmas.Option.{slice_get-get_or}
 use Rattle.gw_setup.specs.Placed.{EachAt}
-use Rattle.gw_setup.proofs.PlaceLemmas.{each_pushed, get_before, get_last, get_pushed}
+use Rattle.gw_setup.proofs.PlaceLemmas.{each_pushed, get_before, get_last}
 
 -- an item for the key is among these
 pub record HasOf {X K : Type 0} (IsOf : X → K → Type 0) (items : List X) (key : K) : Type 0 where

@@ -1,27 +1,24 @@
 -- A setup of an accepted configuration keeps what every setup keeps, and its plan is lawful.
-use Rattle.std.proofs.Common.{◌≡◌, ◌≢◌, ℕ, zero, suc, ◌+◌, ◌<◌, ◌≤◌, true, Option, Some, None, List, [], ◌∷◌, get_or, length, map, take, inl, inr, refl, sym, ap, subst, ◌∙◌, arith}
+use Rattle.std.proofs.Common.{◌≡◌, ◌≢◌, ℕ, zero, suc, ◌<◌, ◌≤◌, Some, List, [], ◌∷◌, get_or, length, map, inl, inr, refl, sym, ap, subst, ◌∙◌, arith}
 use Rattle.std.specs.Prelude.{slice_get, option_map, All, AllPairs}
-use Rattle.std.specs.List.{list_all, AllByRecursion}
-use Rattle.std.specs.Option.{option_map_or}
 use Rattle.std.proofs.lemmas.Bool.{cases_order}
 use Rattle.std.proofs.lemmas.List.Elements.{All-map, recursion_from_All}
 use Rattle.std.proofs.lemmas.Option.{get_or_from_slice_get, same_Some, slice_get-get_or, slice_get-map, slice_get_within}
-use Rattle.gw_config.specs.Config.{BusEntry, ChannelEntry, Configuration, PathEntry}
+use Rattle.gw_config.specs.Config.{Configuration, PathEntry}
 use Rattle.gw_config.specs.Lawful.{IsLawful}
 use Rattle.gw_config.specs.Rows.{number_fits}
 use Rattle.gw_config.specs.declared.keys.TheConstants.{BUFFER}
 use Rattle.gw_law.specs.Plan.{HasSending, IsLawfulPlan, IsLawfulReceiving, IsLawfulSending, Receiving, Sending}
 use Rattle.hub_core.specs.Groups.{grouped}
 use Rattle.route_check.specs.Conflicts.{IsAccepted}
-use Rattle.gw_setup.specs.Lawful.{AreLawfulBuses, AreLawfulChannels, AreLawfulTimes, IsBus, IsLawfulDestination, IsLawfulPool, IsLawfulSetup, IsLawfulSource, SendsOn}
-use Rattle.gw_setup.specs.Machines.{bus_of, rx_set_of, tx_set_of}
-use Rattle.gw_setup.specs.Placed.{AreAll, AreSources, EachAt, HasDestination, IsBusAt, IsDestination, IsSetupOf, IsSource}
+use Rattle.gw_setup.specs.Lawful.{AreLawfulBuses, AreLawfulTimes, IsBus, IsLawfulDestination, IsLawfulPool, IsLawfulSetup, IsLawfulSource}
+use Rattle.gw_setup.specs.Placed.{IsBusAt, IsSetupOf, IsSource}
 use Rattle.gw_setup.specs.Plan.{budget_in, plan_of, receiving_of, sending_of}
 use Rattle.gw_setup.specs.Setup.{Bus, Setup}
 use Rattle.gw_setup.specs.declared.destination.Destination.{Destination}
 use Rattle.gw_setup.specs.declared.source.Source.{Source}
 use Rattle.gw_setup.proofs.EntryLemmas.{in_range}
-use Rattle.gw_setup.proofs.PlaceLemmas.{all_at, item_at}
+use Rattle.gw_setup.proofs.PlaceLemmas.{all_at}
 use Rattle.gw_setup.proofs.RepeatLemmas.{bus_names_apart, channel_once, inputs_kept, outputs_apart}
 use Rattle.gw_setup.proofs.SetupLemmas.{channels_apart, lawful_bus, lawful_destination, lawful_source}
 
@@ -149,9 +146,9 @@ module _ (config : Configuration) (accepted : IsAccepted config) (lawful : IsLaw
       elim (cases_order place other) [
         | inl equal ↦ equal
         | inr rest ↦ elim rest [
-            | inl before ↦ let less : one.set.chan.0 < another.set.chan.0 = in_order place other one another before there here in absurd (omega (arith, less, chan))
-            | inr after ↦ let less : another.set.chan.0 < one.set.chan.0 = in_order other place another one after here there in absurd (omega (arith, less, chan))
-          ]
+          | inl before ↦ let less : one.set.chan.0 < another.set.chan.0 = in_order place other one another before there here in absurd (omega (arith, less, chan))
+          | inr after ↦ let less : another.set.chan.0 < one.set.chan.0 = in_order other place another one after here there in absurd (omega (arith, less, chan))
+        ]
       ]
 
   readers_are : (source : Source) (of : IsSource config source) → source.set.readers ≡ length of.path.to

@@ -1,5 +1,5 @@
 -- What a lawful configuration doesn't repeat: names, outputs, and inputs as outputs.
-use Rattle.std.proofs.Common.{◌≡◌, ◌≢◌, ℕ, zero, suc, ◌+◌, ◌<◌, Bool, true, false, ◌||◌, if◌then◌else◌, Option, Some, None, List, [], ◌∷◌, ◌++◌, length, inl, inr, refl, sym, ap, ◌∙◌, arith}
+use Rattle.std.proofs.Common.{◌≡◌, ◌≢◌, ℕ, zero, suc, ◌+◌, ◌<◌, Bool, true, false, if◌then◌else◌, Option, Some, None, List, [], ◌∷◌, ◌++◌, inl, inr, refl, sym, ap, ◌∙◌, arith}
 use Rattle.std.specs.Prelude.{slice_get, option_map}
 use Rattle.std.specs.List.{list_any}
 use Rattle.std.specs.Option.{option_or}
@@ -9,7 +9,6 @@ use Rattle.std.proofs.lemmas.List.Folds.{list_any-append}
 use Rattle.std.proofs.lemmas.Option.{same_Some}
 use Rattle.gw_config.specs.Config.{BusEntry, ChannelEntry, Configuration}
 use Rattle.gw_config.specs.Repeated.{bus_repeats, first_repeat, is_used, name_repeats, repeated_in}
-use Rattle.gw_settings.specs.declared.fault.ConfigFault.{ConfigFault}
 use Rattle.gw_settings.specs.declared.key.Key.{Key}
 use Rattle.gw_settings.specs.declared.key.Key.TheVariants.{Name, Out}
 use Rattle.gw_settings.specs.declared.table_kind.TableKind.{TableKind}

@@ -1,17 +1,16 @@
 -- What stands at each place of a setup is lawful.
-use Rattle.std.proofs.Common.{◌≡◌, ◌≢◌, ℕ, zero, suc, ◌+◌, ◌<◌, ◌≤◌, ◌&&◌, ◌||◌, not, Bool, true, false, Option, Some, None, List, [], ◌∷◌, get_or, length, map, take, inl, inr, refl, sym, ap, subst, ◌∙◌, arith}
-use Rattle.std.specs.Prelude.{slice_get, ◌==◌, nat_le, nat_lt, option_map, All, AllPairs}
-use Rattle.std.specs.List.{list_all, AllByRecursion}
-use Rattle.std.proofs.lemmas.Bool.{and_from, and_parts, cases_order, eqb-true, false_from_ne_true, lt-ltb, or_left}
+use Rattle.std.proofs.Common.{◌≡◌, ℕ, ◌<◌, ◌≤◌, ◌&&◌, not, Bool, true, false, Option, Some, None, List, get_or, length, refl, sym, ap, subst, ◌∙◌, arith}
+use Rattle.std.specs.Prelude.{slice_get, ◌==◌, nat_le, nat_lt}
+use Rattle.std.specs.List.{list_all}
+use Rattle.std.proofs.lemmas.Bool.{and_from, and_parts, eqb-true, false_from_ne_true, lt-ltb, or_left}
 use Rattle.std.proofs.lemmas.Bool.Decides.{nat_tests}
-use Rattle.std.proofs.lemmas.Option.{get_or_from_slice_get, same_Some, slice_get-get_or, slice_get-map, slice_get_within}
+use Rattle.std.proofs.lemmas.Option.{same_Some, slice_get-get_or, slice_get_within}
 use Rattle.can_frame.specs.declared.id.CanId.{CanId}
 use Rattle.can_frame.specs.declared.id.CanId.TheVariants.{Std, Ext}
-use Rattle.candump_line.specs.Line.{IsInterface}
 use Rattle.gw_base.specs.declared.numbers.BusNo.{BusNo}
 use Rattle.gw_base.specs.declared.numbers.ChanNo.{ChanNo}
-use Rattle.gw_config.specs.Config.{BusEntry, ChannelEntry, Configuration, PathEntry}
-use Rattle.gw_config.specs.Lawful.{IsLawful, IsLawfulBus, IsLawfulChannel, IsLawfulPath}
+use Rattle.gw_config.specs.Config.{BusEntry, ChannelEntry, Configuration}
+use Rattle.gw_config.specs.Lawful.{IsLawful, IsLawfulBus, IsLawfulChannel}
 use Rattle.gw_config.specs.Rows.{is_frame_length}
 use Rattle.gw_config.specs.Texts.{is_folder, is_name_byte, name_fits}
 use Rattle.gw_law.specs.Channels.{bytes_of_address}
@@ -23,8 +22,8 @@ use Rattle.route_table.proofs.MatchLemmas.{are_apart-pairs}
 use Rattle.route_table.specs.Match.{addresses_overlap, are_apart, overlap, same_id}
 use Rattle.route_table.specs.declared.entry.ChanEntry.{ChanEntry}
 use Rattle.tp_unit.specs.Shape.{IsShape, is_frame_size}
-use Rattle.gw_setup.specs.Lawful.{FitsBus, IsBus, IsInTable, IsLawfulDestination, IsLawfulSource, SendsOn}
-use Rattle.gw_setup.specs.Machines.{bus_of, comes_to, rx_set_of, shape_of, tx_set_of}
+use Rattle.gw_setup.specs.Lawful.{IsBus, IsInTable, IsLawfulDestination, IsLawfulSource, SendsOn}
+use Rattle.gw_setup.specs.Machines.{bus_of, comes_to, shape_of}
 use Rattle.gw_setup.specs.Placed.{AreAll, IsBusAt, IsChannelAt, IsDestination, IsSetupOf, IsSource, StandsOn}
 use Rattle.gw_setup.specs.Setup.{Bus, Setup}
 use Rattle.gw_setup.specs.declared.destination.Destination.{Destination}
@@ -134,7 +133,7 @@ module _ (config : Configuration) (accepted : IsAccepted config) (lawful : IsLaw
       let named : at.channel.bus ≡ another.channel.bus = at.stands.by_name ∙ ap (λ (b : BusEntry). b.name) bus ∙ sym another.stands.by_name in
       let id : check_id at.channel.rx another.channel.rx ≡ true = same_ids at.channel.rx another.channel.rx (rw (← ap (λ (e : ChanEntry). e.id) at.is, ← ap (λ (e : ChanEntry). e.id) another.is) frames.0) in
       let address : check_overlap at.channel.rx_address another.channel.rx_address ≡ true =
-          same_addresses at.channel.rx_address another.channel.rx_address (rw (← ap (λ (e : ChanEntry). e.address) at.is, ← ap (λ (e : ChanEntry). e.address) another.is) frames.1) in
+      same_addresses at.channel.rx_address another.channel.rx_address (rw (← ap (λ (e : ChanEntry). e.address) at.is, ← ap (λ (e : ChanEntry). e.address) another.is) frames.1) in
       accepted (record { kind = SameAddress; place = Channel; first = i; other = Channel; second = j })
       (and_from _ _ (lt-ltb i j before) (rw (at.stands.channel_is, another.stands.channel_is)
       (and_from _ _ (text_same at.channel.bus another.channel.bus named) (or_left _ _ (and_from _ _ id address)))))

@@ -1,12 +1,11 @@
 -- What every setup keeps (this project's own).
-use Rattle.std.specs.Prelude.{◌≡◌, ◌≢◌, ℕ, ◌<◌, ◌≤◌, ◌&&◌, not, true, false, All, AllPairs, List, [], ◌∷◌, Some, length, slice_get, sum}
+use Rattle.std.specs.Prelude.{◌≡◌, ◌≢◌, ℕ, ◌<◌, ◌≤◌, ◌&&◌, not, true, false, All, AllPairs, List, [], ◌∷◌, Some, length, slice_get}
 use Rattle.candump_line.specs.Line.{IsInterface}
 use Rattle.gw_base.specs.declared.numbers.BusNo.{BusNo}
 use Rattle.gw_base.specs.declared.numbers.ChanNo.{ChanNo}
 use Rattle.gw_depot.specs.Files.{IsName}
 use Rattle.gw_law.specs.Channels.{bytes_of_address}
 use Rattle.gw_law.specs.Plan.{IsLawfulPlan}
-use Rattle.hub_core.specs.Groups.{grouped}
 use Rattle.route_table.specs.Match.{are_apart}
 use Rattle.route_table.specs.declared.entry.ChanEntry.{ChanEntry}
 use Rattle.tp_unit.specs.Shape.{IsShape}

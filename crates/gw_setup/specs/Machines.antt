@@ -1,5 +1,5 @@
 -- How the machines of a channel are configured, by the entries of the configuration (this project's own).
-use Rattle.std.specs.Prelude.{ℕ, List, length, nat_lt}
+use Rattle.std.specs.Prelude.{ℕ, length, nat_lt}
 use Rattle.gw_base.specs.declared.numbers.ChanNo.{ChanNo}
 use Rattle.gw_base.specs.declared.numbers.DestNo.{DestNo}
 use Rattle.gw_base.specs.declared.numbers.PathNo.{PathNo}

@@ -115,10 +115,7 @@ const UNBUILT: [(&str, &str); 3] = [
         "",
         "[[interface]]\nname = 'i'\nfrom_bus = 'can0'\nfrom_id = '100'\nto_bus = 'can1'\nto_id = '100'\n",
     ),
-    (
-        "",
-        "[[cancel]]\npath = 'p'\ntick = 0\nrole = 'receive'\n",
-    ),
+    ("", "[[cancel]]\npath = 'p'\ntick = 0\nrole = 'receive'\n"),
 ];
 
 /// The configuration of these texts one after another, which is accepted.
@@ -175,12 +172,24 @@ fn two_buses_and_a_path(rt: HostRuntime) -> Result<(), Fail> {
     let Ok(Some(setup)) = found else {
         return Err(Fail::from("no setup"));
     };
-    assert_eq!(rt; places(rt.alloc(), setup.channels())?.as_slice(), [(0, 0), (1, 1)].as_slice());
-    assert_eq!(rt; receivers(rt.alloc(), setup.sources())?.as_slice(), [(0, 0, 0, 1)].as_slice());
-    assert_eq!(rt; senders(rt.alloc(), setup.destinations())?.as_slice(), [(0, 0, 1, 1)].as_slice());
+    assert_eq!(rt;
+        places(rt.alloc(), setup.channels())?.as_slice(),
+        [(0, 0), (1, 1)].as_slice()
+    );
+    assert_eq!(rt;
+        receivers(rt.alloc(), setup.sources())?.as_slice(),
+        [(0, 0, 0, 1)].as_slice()
+    );
+    assert_eq!(rt;
+        senders(rt.alloc(), setup.destinations())?.as_slice(),
+        [(0, 0, 1, 1)].as_slice()
+    );
     assert_eq!(rt; setup.cells(), [4, 9].as_slice());
     assert_eq!(rt; setup.counts(), [2].as_slice());
-    assert_eq!(rt; (setup.period(), setup.window(), setup.linger()), (1000, 3, 7));
+    assert_eq!(rt;
+        (setup.period(), setup.window(), setup.linger()),
+        (1000, 3, 7)
+    );
     setup.plan_is_lawful();
     Ok(())
 }
@@ -195,10 +204,19 @@ fn the_buses_are_in_order(rt: HostRuntime) -> Result<(), Fail> {
     let [first, second] = setup.buses() else {
         return Err(Fail::from("not two buses"));
     };
-    assert_eq!(rt; (first.name(), first.file(), first.out()), ("can0", "can0.log", "can0.out"));
-    assert_eq!(rt; (first.is_fd(), first.brs(), first.budget()), (false, false, 3));
+    assert_eq!(rt;
+        (first.name(), first.file(), first.out()),
+        ("can0", "can0.log", "can0.out")
+    );
+    assert_eq!(rt;
+        (first.is_fd(), first.brs(), first.budget()),
+        (false, false, 3)
+    );
     assert_eq!(rt; second.interface(), "can1".as_bytes());
-    assert_eq!(rt; (second.is_fd(), second.brs(), second.budget()), (true, true, 8));
+    assert_eq!(rt;
+        (second.is_fd(), second.brs(), second.budget()),
+        (true, true, 8)
+    );
     Ok(())
 }
 
@@ -209,9 +227,18 @@ fn one_bus_has_both_channels(rt: HostRuntime) -> Result<(), Fail> {
     let Ok(Some(setup)) = found else {
         return Err(Fail::from("no setup"));
     };
-    assert_eq!(rt; places(rt.alloc(), setup.channels())?.as_slice(), [(0, 0), (1, 0)].as_slice());
-    assert_eq!(rt; receivers(rt.alloc(), setup.sources())?.as_slice(), [(0, 1, 0, 1)].as_slice());
-    assert_eq!(rt; senders(rt.alloc(), setup.destinations())?.as_slice(), [(0, 0, 0, 0)].as_slice());
+    assert_eq!(rt;
+        places(rt.alloc(), setup.channels())?.as_slice(),
+        [(0, 0), (1, 0)].as_slice()
+    );
+    assert_eq!(rt;
+        receivers(rt.alloc(), setup.sources())?.as_slice(),
+        [(0, 1, 0, 1)].as_slice()
+    );
+    assert_eq!(rt;
+        senders(rt.alloc(), setup.destinations())?.as_slice(),
+        [(0, 0, 0, 0)].as_slice()
+    );
     let [destination] = setup.destinations() else {
         return Err(Fail::from("not one destination"));
     };
@@ -227,9 +254,18 @@ fn three_buses_and_a_path_with_three_destinations(rt: HostRuntime) -> Result<(),
     let Ok(Some(setup)) = found else {
         return Err(Fail::from("no setup"));
     };
-    assert_eq!(rt; places(rt.alloc(), setup.channels())?.as_slice(), [(0, 2), (1, 0), (2, 1), (3, 1)].as_slice());
-    assert_eq!(rt; receivers(rt.alloc(), setup.sources())?.as_slice(), [(0, 0, 2, 1), (1, 1, 0, 3)].as_slice());
-    assert_eq!(rt; senders(rt.alloc(), setup.destinations())?.as_slice(), [(1, 1, 0, 2), (0, 0, 1, 0), (1, 2, 2, 1), (1, 0, 3, 1)].as_slice());
+    assert_eq!(rt;
+        places(rt.alloc(), setup.channels())?.as_slice(),
+        [(0, 2), (1, 0), (2, 1), (3, 1)].as_slice()
+    );
+    assert_eq!(rt;
+        receivers(rt.alloc(), setup.sources())?.as_slice(),
+        [(0, 0, 2, 1), (1, 1, 0, 3)].as_slice()
+    );
+    assert_eq!(rt;
+        senders(rt.alloc(), setup.destinations())?.as_slice(),
+        [(1, 1, 0, 2), (0, 0, 1, 0), (1, 2, 2, 1), (1, 0, 3, 1)].as_slice()
+    );
     Ok(())
 }
 

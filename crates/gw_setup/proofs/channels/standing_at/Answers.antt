@@ -1,5 +1,4 @@
-use Rattle.std.proofs.Common.{◌≡◌, Some, get_or, sym, ap, ◌∙◌}
-use Rattle.std.specs.Prelude.{slice_get}
+use Rattle.std.proofs.Common.{get_or, sym, ap, ◌∙◌}
 use Rattle.gw_setup.proofs.ConfigLemmas.{bus_missing, stands}
 use Rattle.gw_setup.proofs.PlaceLemmas.{read_at}
 use Rattle.gw_setup.proofs.channels.standing_at.Goals as goal

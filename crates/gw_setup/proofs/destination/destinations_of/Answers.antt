@@ -1,4 +1,4 @@
-use Rattle.std.proofs.Common.{◌≡◌, ◌≤◌, ℕ, length, ap, ◌∙◌, arith}
+use Rattle.std.proofs.Common.{◌≡◌, ◌≤◌, length, ap, ◌∙◌, arith}
 use Rattle.gw_setup.specs.Placed.{IsDestination}
 use Rattle.gw_setup.specs.declared.destination.Destination.{Destination}
 use Rattle.gw_setup.proofs.ConfigLemmas.{DestinationLeads, IsSenderOf, destination_found, destinations_all}

@@ -1,4 +1,3 @@
-use Rattle.std.proofs.Common.{◌≡◌, ℕ}
 use Rattle.gw_setup.specs.Placed.{IsDestination}
 use Rattle.gw_setup.specs.declared.destination.Destination.{Destination}
 use Rattle.gw_setup.proofs.ConfigLemmas.{DestinationLeads, IsSenderOf}

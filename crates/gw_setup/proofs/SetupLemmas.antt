@@ -148,12 +148,15 @@ module _ (config : Configuration) (accepted : IsAccepted config) (lawful : IsLaw
   pub lawful_source : (setup : Setup) → IsSetupOf config setup → (source : Source) → IsSource config source → IsLawfulSource setup source
   lawful_source setup is source of =
       let within : source.set.path.0 < length config.path = slice_get_within config.path source.set.path.0 of.path of.path_is in
+      let at : source.set.chan.0 < length config.channel = slice_get_within config.channel source.set.chan.0 of.channel of.stands.channel_is in
+      let channels = in_range 0 64 (length config.channel) lawful.channel in
       let few = in_range 0 64 (length config.path) lawful.path in
       let readers = in_range 1 8 (length of.path.to) of.path_fits.count in
       record {
         in_table = subst (IsInTable setup.channels source.set.chan source.bus) (sym of.comes) (channel_there setup.channels is.channels source.set.chan source.bus of.channel of.bus of.stands);
         sends = subst (SendsOn setup source.bus) (sym of.shape) (sends_on setup is.buses source.set.chan.0 source.bus of.channel of.bus of.stands of.channel_fits);
         address = ap (λ s. s.a) of.set ∙ ap (λ c. bytes_of_address c.byte) (sym of.comes);
+        chan = omega (arith, at, channels.1);
         path = omega (arith, within, few.1);
         group = ap (λ s. s.group.0) of.set;
         some_readers = rw (ap (λ s. s.readers) of.set) readers.0;
@@ -166,12 +169,15 @@ module _ (config : Configuration) (accepted : IsAccepted config) (lawful : IsLaw
   pub lawful_destination : (setup : Setup) → IsSetupOf config setup → (destination : Destination) → IsDestination config destination → IsLawfulDestination setup destination
   lawful_destination setup is destination of =
       let within : destination.set.path.0 < length config.path = slice_get_within config.path destination.set.path.0 of.path of.path_is in
+      let at : destination.chan.0 < length config.channel = slice_get_within config.channel destination.chan.0 of.channel of.stands.channel_is in
+      let channels = in_range 0 64 (length config.channel) lawful.channel in
       let few = in_range 0 64 (length config.path) lawful.path in
       let readers = in_range 1 8 (length of.path.to) of.path_fits.count in
       let one : destination.set.dest.0 < length of.path.to = slice_get_within of.path.to destination.set.dest.0 of.channel.name of.leads_to in
       record {
         in_table = subst (IsInTable setup.channels destination.chan destination.bus) (sym of.comes) (channel_there setup.channels is.channels destination.chan destination.bus of.channel of.bus of.stands);
         sends = subst (SendsOn setup destination.bus) (sym (ap (λ s. s.shape) of.set)) (sends_on setup is.buses destination.chan.0 destination.bus of.channel of.bus of.stands of.channel_fits);
+        chan = omega (arith, at, channels.1);
         path = omega (arith, within, few.1);
         group = ap (λ s. s.group.0) of.set;
         dest = omega (arith, one, readers.1);

@@ -46,6 +46,7 @@ pub record IsLawfulSource (setup : Setup) (source : Source) : Type 0 where
   pub in_table : IsInTable setup.channels source.set.chan source.bus source.comes
   pub sends : SendsOn setup source.bus source.shape
   pub address : source.set.a ≡ bytes_of_address source.comes.byte
+  pub chan : source.set.chan.0 < 64
   pub path : source.set.path.0 < 64
   pub group : source.set.group.0 ≡ 0
   pub some_readers : 1 ≤ source.set.readers
@@ -59,6 +60,7 @@ pub record IsLawfulSource (setup : Setup) (source : Source) : Type 0 where
 pub record IsLawfulDestination (setup : Setup) (destination : Destination) : Type 0 where
   pub in_table : IsInTable setup.channels destination.chan destination.bus destination.comes
   pub sends : SendsOn setup destination.bus destination.set.shape
+  pub chan : destination.chan.0 < 64
   pub path : destination.set.path.0 < 64
   pub group : destination.set.group.0 ≡ 0
   pub dest : destination.set.dest.0 < 8

@@ -1,9 +1,8 @@
 use candump_log::LogSource;
 use gw_base::{Bytes, Memory};
 use gw_config::read_config;
-use gw_setup::{Destination, Source, setup_of};
+use gw_setup::{Bus, Setup, setup_of};
 use route_check::{Checked, check};
-use route_table::ChanEntry;
 use std::alloc::Global;
 use std::test::Fail;
 
@@ -131,141 +130,78 @@ fn accepted(alloc: Global, texts: [&str; 3]) -> Result<Checked, Fail> {
     Ok(checked)
 }
 
-/// Each channel by its number and its bus's number.
-fn places(alloc: Global, channels: &[ChanEntry]) -> Result<Vec<(u8, u8)>, Memory> {
-    let mut places = Vec::new(alloc);
-    for entry in channels {
-        places.push((entry.chan.0, entry.bus.0))?;
-    }
-    Ok(places)
-}
+/// Texts, and the numbers of their setups.
+const SETUPS: [(&str, &[u8]); 3] = [
+    (TWO_BUSES, &[0, 0, 1, 1, 0, 0, 0, 1, 0, 0, 1, 1, 2]),
+    (ONE_BUS, &[0, 0, 1, 0, 0, 1, 0, 1, 0, 0, 0, 0, 1]),
+    (
+        THREE_BUSES,
+        &[
+            0, 2, 1, 0, 2, 1, 3, 1, 0, 0, 2, 1, 1, 1, 0, 3, 1, 1, 0, 2, 0, 0, 1, 0, 1, 2, 2, 1, 1,
+            0, 3, 1, 1,
+        ],
+    ),
+];
 
-/// Each receiver by its path, its channel, its bus and its readers.
-fn receivers(alloc: Global, sources: &[Source]) -> Result<Vec<(u8, u8, u8, u8)>, Memory> {
-    let mut receivers = Vec::new(alloc);
-    for source in sources {
+/// Of each channel its number and its bus; of each receiver its path, channel, bus and readers; of each sender its path, its
+/// place among the path's destinations, its channel and its bus; and how many buffers the group has.
+fn numbers_of(alloc: Global, setup: &Setup<'_>) -> Result<Bytes, Memory> {
+    let mut numbers = Bytes::new(alloc);
+    for entry in setup.channels() {
+        numbers.append(&[entry.chan.0, entry.bus.0])?;
+    }
+    for source in setup.sources() {
         let set = source.set;
-        receivers.push((set.path.0, set.chan.0, source.bus.0, set.readers))?;
+        numbers.append(&[set.path.0, set.chan.0, source.bus.0, set.readers])?;
     }
-    Ok(receivers)
-}
-
-/// Each sender by its path, its place among the path's destinations, its channel and its bus.
-fn senders(alloc: Global, destinations: &[Destination]) -> Result<Vec<(u8, u8, u8, u8)>, Memory> {
-    let mut senders = Vec::new(alloc);
-    for destination in destinations {
+    for destination in setup.destinations() {
         let set = destination.set;
-        senders.push((
+        numbers.append(&[
             set.path.0,
             set.dest.0,
             destination.chan.0,
             destination.bus.0,
-        ))?;
+        ])?;
     }
-    Ok(senders)
+    numbers.append(setup.counts())?;
+    Ok(numbers)
 }
 
 #[test]
-fn two_buses_and_a_path(rt: HostRuntime) -> Result<(), Fail> {
-    let checked = accepted(rt.alloc(), ["", TWO_BUSES, ""])?;
-    let found = setup_of(rt.alloc(), checked.config());
-    let Ok(Some(setup)) = found else {
-        return Err(Fail::from("no setup"));
-    };
-    assert_eq!(rt;
-        places(rt.alloc(), setup.channels())?.as_slice(),
-        [(0, 0), (1, 1)].as_slice()
-    );
-    assert_eq!(rt;
-        receivers(rt.alloc(), setup.sources())?.as_slice(),
-        [(0, 0, 0, 1)].as_slice()
-    );
-    assert_eq!(rt;
-        senders(rt.alloc(), setup.destinations())?.as_slice(),
-        [(0, 0, 1, 1)].as_slice()
-    );
-    assert_eq!(rt; setup.cells(), [4, 9].as_slice());
-    assert_eq!(rt; setup.counts(), [2].as_slice());
-    assert_eq!(rt;
-        (setup.period(), setup.window(), setup.linger()),
-        (1000, 3, 7)
-    );
-    setup.plan_is_lawful();
+fn each_setup_has_its_numbers(rt: HostRuntime) -> Result<(), Fail> {
+    for (text, expected) in SETUPS {
+        let checked = accepted(rt.alloc(), ["", text, ""])?;
+        let found = setup_of(rt.alloc(), checked.config());
+        let Ok(Some(setup)) = found else {
+            return Err(Fail::from("no setup"));
+        };
+        let numbers = numbers_of(rt.alloc(), &setup)?;
+        assert_eq!(rt; numbers.items(), expected);
+    }
     Ok(())
 }
 
+/// Whether the bus is the second of the two, with CAN FD and the default budget.
+fn is_second(bus: &Bus<'_>) -> bool {
+    let named = bus.name() == "can1" && bus.interface() == "can1".as_bytes();
+    let files = bus.file() == "can1.log" && bus.out() == "can1.out";
+    named && files && bus.is_fd() && bus.brs() && bus.budget() == 8
+}
+
 #[test]
-fn the_buses_are_in_order(rt: HostRuntime) -> Result<(), Fail> {
+fn the_second_bus_and_the_times(rt: HostRuntime) -> Result<(), Fail> {
     let checked = accepted(rt.alloc(), ["", TWO_BUSES, ""])?;
     let found = setup_of(rt.alloc(), checked.config());
     let Ok(Some(setup)) = found else {
         return Err(Fail::from("no setup"));
     };
-    let [first, second] = setup.buses() else {
+    setup.plan_is_lawful();
+    let [_, second] = setup.buses() else {
         return Err(Fail::from("not two buses"));
     };
-    assert_eq!(rt;
-        (first.name(), first.file(), first.out()),
-        ("can0", "can0.log", "can0.out")
-    );
-    assert_eq!(rt;
-        (first.is_fd(), first.brs(), first.budget()),
-        (false, false, 3)
-    );
-    assert_eq!(rt; second.interface(), "can1".as_bytes());
-    assert_eq!(rt;
-        (second.is_fd(), second.brs(), second.budget()),
-        (true, true, 8)
-    );
-    Ok(())
-}
-
-#[test]
-fn one_bus_has_both_channels(rt: HostRuntime) -> Result<(), Fail> {
-    let checked = accepted(rt.alloc(), ["", ONE_BUS, ""])?;
-    let found = setup_of(rt.alloc(), checked.config());
-    let Ok(Some(setup)) = found else {
-        return Err(Fail::from("no setup"));
-    };
-    assert_eq!(rt;
-        places(rt.alloc(), setup.channels())?.as_slice(),
-        [(0, 0), (1, 0)].as_slice()
-    );
-    assert_eq!(rt;
-        receivers(rt.alloc(), setup.sources())?.as_slice(),
-        [(0, 1, 0, 1)].as_slice()
-    );
-    assert_eq!(rt;
-        senders(rt.alloc(), setup.destinations())?.as_slice(),
-        [(0, 0, 0, 0)].as_slice()
-    );
-    let [destination] = setup.destinations() else {
-        return Err(Fail::from("not one destination"));
-    };
-    assert_eq!(rt; destination.comes.byte, Some(18));
-    assert_eq!(rt; destination.set.shape.address, Some(241));
-    Ok(())
-}
-
-#[test]
-fn three_buses_and_a_path_with_three_destinations(rt: HostRuntime) -> Result<(), Fail> {
-    let checked = accepted(rt.alloc(), ["", THREE_BUSES, ""])?;
-    let found = setup_of(rt.alloc(), checked.config());
-    let Ok(Some(setup)) = found else {
-        return Err(Fail::from("no setup"));
-    };
-    assert_eq!(rt;
-        places(rt.alloc(), setup.channels())?.as_slice(),
-        [(0, 2), (1, 0), (2, 1), (3, 1)].as_slice()
-    );
-    assert_eq!(rt;
-        receivers(rt.alloc(), setup.sources())?.as_slice(),
-        [(0, 0, 2, 1), (1, 1, 0, 3)].as_slice()
-    );
-    assert_eq!(rt;
-        senders(rt.alloc(), setup.destinations())?.as_slice(),
-        [(1, 1, 0, 2), (0, 0, 1, 0), (1, 2, 2, 1), (1, 0, 3, 1)].as_slice()
-    );
+    assert!(rt; is_second(second));
+    assert!(rt; setup.cells() == [4, 9].as_slice());
+    assert!(rt; setup.period() == 1000 && setup.window() == 3 && setup.linger() == 7);
     Ok(())
 }
 

@@ -4,5 +4,6 @@ pub mod FoundLemmas
 pub mod ConfigLemmas
 pub mod EntryLemmas
 pub mod RepeatLemmas
+pub mod GroupLemmas
 pub mod SetupLemmas
 pub mod PlanLemmas

@@ -2,14 +2,13 @@
 use Rattle.std.proofs.Common.{◌≡◌, ◌≢◌, ℕ, zero, suc, ◌<◌, ◌≤◌, Some, List, [], ◌∷◌, get_or, length, map, inl, inr, refl, sym, ap, subst, ◌∙◌, arith}
 use Rattle.std.specs.Prelude.{slice_get, option_map, All, AllPairs}
 use Rattle.std.proofs.lemmas.Bool.{cases_order}
+use Rattle.std.proofs.lemmas.List.{length-map}
 use Rattle.std.proofs.lemmas.List.Elements.{All-map, recursion_from_All}
 use Rattle.std.proofs.lemmas.Option.{get_or_from_slice_get, same_Some, slice_get-get_or, slice_get-map, slice_get_within}
 use Rattle.gw_config.specs.Config.{Configuration, PathEntry}
 use Rattle.gw_config.specs.Lawful.{IsLawful}
-use Rattle.gw_config.specs.Rows.{number_fits}
-use Rattle.gw_config.specs.declared.keys.TheConstants.{BUFFER}
 use Rattle.gw_law.specs.Plan.{HasSending, IsLawfulPlan, IsLawfulReceiving, IsLawfulSending, Receiving, Sending}
-use Rattle.hub_core.specs.Groups.{grouped}
+use Rattle.hub_core.specs.Groups.{all_sizes}
 use Rattle.route_check.specs.Conflicts.{IsAccepted}
 use Rattle.gw_setup.specs.Lawful.{AreLawfulBuses, AreLawfulTimes, IsBus, IsLawfulDestination, IsLawfulPool, IsLawfulSetup, IsLawfulSource}
 use Rattle.gw_setup.specs.Placed.{IsBusAt, IsSetupOf, IsSource}
@@ -18,7 +17,7 @@ use Rattle.gw_setup.specs.Setup.{Bus, Setup}
 use Rattle.gw_setup.specs.declared.destination.Destination.{Destination}
 use Rattle.gw_setup.specs.declared.source.Source.{Source}
 use Rattle.gw_setup.proofs.EntryLemmas.{in_range}
-use Rattle.gw_setup.proofs.PlaceLemmas.{all_at}
+use Rattle.gw_setup.proofs.GroupLemmas.{group_size, grouped_length, size_fits, sum_of_lengths}
 use Rattle.gw_setup.proofs.RepeatLemmas.{bus_names_apart, channel_once, inputs_kept, outputs_apart}
 use Rattle.gw_setup.proofs.SetupLemmas.{channels_apart, lawful_bus, lawful_destination, lawful_source}
 
@@ -78,13 +77,15 @@ module _ (config : Configuration) (accepted : IsAccepted config) (lawful : IsLaw
 
   lawful_pool : IsLawfulPool setup.counts setup.cells
   lawful_pool =
-      let count = in_range 1 32 (length config.buffers) lawful.buffer_count in
+      let count = in_range 1 4 (length config.groups) lawful.group_count in
       record {
-        one = is.counts ∙ ap (λ (l : List ℕ). length l ∷ []) (sym is.cells);
-        some = rw is.cells count.0;
-        few = rw is.cells count.1;
-        sizes = rw is.cells (all_from (λ size. (1 ≤ size) × (size ≤ 8192)) config.buffers (λ k size there.
-            in_range 1 8192 size (all_at (number_fits BUFFER) config.buffers lawful.buffers k size there)));
+        some = rw (is.counts, length-map config.groups length) count.0;
+        few = rw (is.counts, length-map config.groups length) count.1;
+        buffers = rw is.counts (all_from (λ count. (1 ≤ count) × (count ≤ 32)) (map length config.groups) (λ k count there.
+            let at = mapped_at length config.groups k count there in
+            subst (λ n. (1 ≤ n) × (n ≤ 32)) at.2 (group_size config.groups lawful.groups k at.0 at.1)));
+        all = rw (is.counts, is.cells) (sum_of_lengths config.groups);
+        sizes = rw is.cells (all_from (λ size. (1 ≤ size) × (size ≤ 8192)) (all_sizes config.groups) (size_fits config.groups lawful.groups));
       }
 
   lawful_times : AreLawfulTimes setup
@@ -108,16 +109,13 @@ module _ (config : Configuration) (accepted : IsAccepted config) (lawful : IsLaw
   lawful_destinations : All (IsLawfulDestination setup) setup.destinations
   lawful_destinations = all_from (IsLawfulDestination setup) setup.destinations (λ k destination there. lawful_destination config accepted lawful setup is destination (is.destinations.each k destination there))
 
-  one_group : length (grouped setup.counts setup.cells) ≡ 1
-  one_group = rw is.counts refl
-
   some_budget : (number : ℕ) (bus : Bus) → slice_get setup.buses number ≡ Some bus → 1 ≤ bus.budget → 1 ≤ budget_in setup.buses number
   some_budget number bus there some = rw there some
 
   lawful_receiving : (last : ℕ) (source : Source) → IsLawfulSource setup source → IsLawfulReceiving (plan_of setup last) (receiving_of source)
   lawful_receiving last source at = record {
     shape = at.sends.is_shape;
-    group = omega (arith, at.group, one_group);
+    group = omega (arith, at.group, grouped_length setup.counts setup.cells);
     n_ar = at.n_ar;
     n_br = at.n_br;
     n_cr = at.n_cr;

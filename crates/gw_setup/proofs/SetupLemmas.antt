@@ -4,6 +4,7 @@ use Rattle.std.specs.Prelude.{slice_get, ◌==◌, nat_le, nat_lt}
 use Rattle.std.specs.List.{list_all}
 use Rattle.std.proofs.lemmas.Bool.{and_from, and_parts, eqb-true, false_from_ne_true, lt-ltb, or_left}
 use Rattle.std.proofs.lemmas.Bool.Decides.{nat_tests}
+use Rattle.std.proofs.lemmas.List.{length-map}
 use Rattle.std.proofs.lemmas.Option.{same_Some, slice_get-get_or, slice_get_within}
 use Rattle.can_frame.specs.declared.id.CanId.{CanId}
 use Rattle.can_frame.specs.declared.id.CanId.TheVariants.{Std, Ext}
@@ -30,6 +31,7 @@ use Rattle.gw_setup.specs.declared.destination.Destination.{Destination}
 use Rattle.gw_setup.specs.declared.source.Source.{Source}
 use Rattle.gw_setup.proofs.ConfigLemmas.{text_same}
 use Rattle.gw_setup.proofs.EntryLemmas.{in_range}
+use Rattle.gw_setup.proofs.GroupLemmas.{group_there}
 use Rattle.gw_setup.proofs.PlaceLemmas.{item_at}
 use Rattle.gw_setup.proofs.RepeatLemmas.{bus_once}
 use Rattle.gw_setup.proofs.TextLemmas.{visible}
@@ -145,6 +147,9 @@ module _ (config : Configuration) (accepted : IsAccepted config) (lawful : IsLaw
 
   -- ---- a receiver and a sender
 
+  group_count : (setup : Setup) → IsSetupOf config setup → length setup.counts ≡ length config.groups
+  group_count setup is = ap length is.counts ∙ length-map config.groups length
+
   pub lawful_source : (setup : Setup) → IsSetupOf config setup → (source : Source) → IsSource config source → IsLawfulSource setup source
   lawful_source setup is source of =
       let within : source.set.path.0 < length config.path = slice_get_within config.path source.set.path.0 of.path of.path_is in
@@ -158,7 +163,7 @@ module _ (config : Configuration) (accepted : IsAccepted config) (lawful : IsLaw
         address = ap (λ s. s.a) of.set ∙ ap (λ c. bytes_of_address c.byte) (sym of.comes);
         chan = omega (arith, at, channels.1);
         path = omega (arith, within, few.1);
-        group = ap (λ s. s.group.0) of.set;
+        group = omega (arith, ap (λ s. s.group.0) of.set, group_there config accepted source.set.path.0 of.path of.path_is, group_count setup is);
         some_readers = rw (ap (λ s. s.readers) of.set) readers.0;
         readers = rw (ap (λ s. s.readers) of.set) readers.1;
         n_ar = rw (ap (λ s. s.n_ar) of.set) (in_range 1 1_000_000 of.channel.n_ar of.channel_fits.n_ar).0;
@@ -179,7 +184,7 @@ module _ (config : Configuration) (accepted : IsAccepted config) (lawful : IsLaw
         sends = subst (SendsOn setup destination.bus) (sym (ap (λ s. s.shape) of.set)) (sends_on setup is.buses destination.chan.0 destination.bus of.channel of.bus of.stands of.channel_fits);
         chan = omega (arith, at, channels.1);
         path = omega (arith, within, few.1);
-        group = ap (λ s. s.group.0) of.set;
+        group = omega (arith, ap (λ s. s.group.0) of.set, group_there config accepted destination.set.path.0 of.path of.path_is, group_count setup is);
         dest = omega (arith, one, readers.1);
         n_as = rw (ap (λ s. s.n_as) of.set) (in_range 1 1_000_000 of.channel.n_as of.channel_fits.n_as).0;
         n_bs = rw (ap (λ s. s.n_bs) of.set) (in_range 1 1_000_000 of.channel.n_bs of.channel_fits.n_bs).0;

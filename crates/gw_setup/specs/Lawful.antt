@@ -1,5 +1,5 @@
 -- What every setup keeps (this project's own).
-use Rattle.std.specs.Prelude.{◌≡◌, ◌≢◌, ℕ, ◌<◌, ◌≤◌, ◌&&◌, not, true, false, All, AllPairs, List, [], ◌∷◌, Some, length, slice_get}
+use Rattle.std.specs.Prelude.{◌≡◌, ◌≢◌, ℕ, ◌<◌, ◌≤◌, ◌&&◌, not, true, false, All, AllPairs, List, Some, length, slice_get, sum}
 use Rattle.candump_line.specs.Line.{IsInterface}
 use Rattle.gw_base.specs.declared.numbers.BusNo.{BusNo}
 use Rattle.gw_base.specs.declared.numbers.ChanNo.{ChanNo}
@@ -41,14 +41,14 @@ pub record SendsOn (setup : Setup) (number : BusNo) (shape : Shape) : Type 0 whe
   pub is_shape : IsShape shape
 
 -- a receiver reads the frames of its channel's address in the table, sends flow controls of a lawful shape on its bus, has 1 to 8 readers of
--- the one group's buffers, and limits of a tick at least
+-- the buffers of a group that is there, and limits of a tick at least
 pub record IsLawfulSource (setup : Setup) (source : Source) : Type 0 where
   pub in_table : IsInTable setup.channels source.set.chan source.bus source.comes
   pub sends : SendsOn setup source.bus source.shape
   pub address : source.set.a ≡ bytes_of_address source.comes.byte
   pub chan : source.set.chan.0 < 64
   pub path : source.set.path.0 < 64
-  pub group : source.set.group.0 ≡ 0
+  pub group : source.set.group.0 < length setup.counts
   pub some_readers : 1 ≤ source.set.readers
   pub readers : source.set.readers ≤ 8
   pub n_ar : 1 ≤ source.set.n_ar
@@ -56,13 +56,13 @@ pub record IsLawfulSource (setup : Setup) (source : Source) : Type 0 where
   pub n_cr : 1 ≤ source.set.n_cr
 
 -- a sender reads the flow controls of its channel's address in the table, sends frames of a lawful shape on its bus, is one of the up to 8
--- readers of the one group's buffers, and has limits of a tick at least and the run's period
+-- readers of the buffers of a group that is there, and has limits of a tick at least and the run's period
 pub record IsLawfulDestination (setup : Setup) (destination : Destination) : Type 0 where
   pub in_table : IsInTable setup.channels destination.chan destination.bus destination.comes
   pub sends : SendsOn setup destination.bus destination.set.shape
   pub chan : destination.chan.0 < 64
   pub path : destination.set.path.0 < 64
-  pub group : destination.set.group.0 ≡ 0
+  pub group : destination.set.group.0 < length setup.counts
   pub dest : destination.set.dest.0 < 8
   pub n_as : 1 ≤ destination.set.n_as
   pub n_bs : 1 ≤ destination.set.n_bs
@@ -83,11 +83,12 @@ pub record AreLawfulChannels (channels : List ChanEntry) : Type 0 where
   pub few : length channels ≤ 64
   pub apart : are_apart channels ≡ true
 
--- one group of 1 to 32 buffers, of 1 to 8192 cells
+-- 1 to 4 groups of 1 to 32 buffers, which have all buffers, each of 1 to 8192 cells
 pub record IsLawfulPool (counts cells : List ℕ) : Type 0 where
-  pub one : counts ≡ length cells ∷ []
-  pub some : 1 ≤ length cells
-  pub few : length cells ≤ 32
+  pub some : 1 ≤ length counts
+  pub few : length counts ≤ 4
+  pub buffers : All (λ count. (1 ≤ count) × (count ≤ 32)) counts
+  pub all : sum counts ≡ length cells
   pub sizes : All (λ size. (1 ≤ size) × (size ≤ 8192)) cells
 
 -- the times are in their ranges

@@ -31,12 +31,12 @@ shape_of bus channel = record {
   fill = channel.fill;
 }
 
--- how the receiver of a path is configured, whose source is this channel; the buffers are one group
+-- how the receiver of a path is configured, whose source is this channel
 abbrev pub rx_set_of : PathNo → ChanNo → PathEntry → ChannelEntry → RxSet
 rx_set_of number chan path channel = record {
   chan = chan;
   path = number;
-  group = record { 0 = 0 };
+  group = record { 0 = path.group };
   readers = length path.to;
   a = bytes_of_address channel.rx_address;
   functional = channel.functional;
@@ -54,7 +54,7 @@ rx_set_of number chan path channel = record {
 abbrev pub tx_set_of : (period : ℕ) → PathNo → DestNo → PathEntry → BusEntry → ChannelEntry → TxSet
 tx_set_of period number dest path bus channel = record {
   path = number;
-  group = record { 0 = 0 };
+  group = record { 0 = path.group };
   dest = dest;
   shape = shape_of bus channel;
   threshold = path.threshold;

@@ -1,8 +1,9 @@
 -- Which entries of a configuration stand at each place of a setup: each once, in the order of the configuration (this project's own).
-use Rattle.std.specs.Prelude.{◌≡◌, ℕ, ◌<◌, List, [], ◌∷◌, length, Some, slice_get, AllPairs}
+use Rattle.std.specs.Prelude.{◌≡◌, ℕ, ◌<◌, List, length, map, Some, slice_get, AllPairs}
 use Rattle.gw_base.specs.declared.numbers.BusNo.{BusNo}
 use Rattle.gw_config.specs.Config.{BusEntry, ChannelEntry, Configuration, PathEntry}
 use Rattle.gw_config.specs.Lawful.{IsLawfulBus, IsLawfulChannel, IsLawfulPath}
+use Rattle.hub_core.specs.Groups.{all_sizes, grouped}
 use Rattle.route_table.specs.declared.entry.ChanEntry.{ChanEntry}
 use Rattle.gw_setup.specs.Machines.{bus_of, comes_to, rx_set_of, shape_of, tx_set_of}
 use Rattle.gw_setup.specs.Setup.{Bus, Setup}
@@ -92,14 +93,16 @@ pub record AreAll {E X : Type 0} (entries : List E) (IsRight : ℕ → X → Typ
   pub as_many : length items ≡ length entries
   pub each : EachAt IsRight items
 
--- the setup is that of the configuration, whose buffers are one group
+-- the setup is that of the configuration, whose buffers stand group after group
 pub record IsSetupOf (config : Configuration) (setup : Setup) : Type 0 where
   pub buses : AreAll config.bus (IsBusAt config) setup.buses
   pub channels : AreAll config.channel (IsChannelAt config) setup.channels
   pub sources : AreSources config setup.sources
   pub destinations : AreDestinations config setup.destinations
-  pub cells : setup.cells ≡ config.buffers
-  pub counts : setup.counts ≡ length config.buffers ∷ []
+  pub cells : setup.cells ≡ all_sizes config.groups
+  pub counts : setup.counts ≡ map length config.groups
+  -- cut into groups again, the cells are those of the configuration's
+  pub groups : grouped setup.counts setup.cells ≡ config.groups
   pub period : setup.period ≡ config.period
   pub window : setup.window ≡ config.window
   pub linger : setup.linger ≡ config.linger

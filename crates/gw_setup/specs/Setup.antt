@@ -27,7 +27,7 @@ pub record Setup : Type 0 where
   -- the receivers of the paths and the senders of their destinations, each in the order of their channels
   pub sources : List Source
   pub destinations : List Destination
-  -- the cells of each buffer, and the number of buffers of each group
+  -- the cells of each buffer, group after group, and the number of buffers of each group
   pub cells : List ℕ
   pub counts : List ℕ
   -- a tick in microseconds, the ticks of a window, and the ticks that a run goes on after the last input frame

@@ -7,6 +7,7 @@ ghost use Rattle.gw_setup.specs.Placed.{IsSetupOf};
 use crate::bus::buses_of;
 use crate::channels::channels_of;
 use crate::destination::destinations_of;
+use crate::groups::{cells_of, counts_of};
 use crate::setup::Setup;
 use crate::source::sources_of;
 use gw_base::Memory;
@@ -50,14 +51,19 @@ pub fn setup_of(alloc: Global, config: &Config) -> Result<Option<Setup<'_>>, Mem
     let Ok(destinations) = destinations_of(alloc, config) else {
         return Err(Memory);
     };
-    let cells = config.buffers.items();
+    let Ok(cells) = cells_of(alloc, config) else {
+        return Err(Memory);
+    };
+    let Ok(counts) = counts_of(alloc, config) else {
+        return Err(Memory);
+    };
     Ok(Some(Setup {
         buses,
         channels,
         sources,
         destinations,
         cells,
-        counts: [cells.len() as u8],
+        counts,
         period: config.period,
         window: config.window,
         linger: config.linger,

@@ -39,7 +39,7 @@ fn tx_set_of(
     let channel = standing.channel;
     TxSet {
         path: number,
-        group: GroupNo(0),
+        group: GroupNo(path.group),
         dest,
         shape: shape_of(standing.bus, channel),
         threshold: path.threshold,

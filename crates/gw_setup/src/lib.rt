@@ -6,6 +6,7 @@ mod build;
 mod bus;
 mod channels;
 mod destination;
+mod groups;
 mod lists;
 mod names;
 mod setup;

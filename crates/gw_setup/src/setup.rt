@@ -7,16 +7,16 @@ use std::marker::Model;
 
 /// What a run takes from its configuration: how its machines are configured, and its times.
 ///
-/// A bus, a channel, a path and a destination have the number of their place in the configuration, a destination that
-/// among its path's. The buffers are one group, number 0.
+/// A bus, a channel, a path, a destination and a group of buffers have the number of their place in the configuration,
+/// a destination that among its path's.
 #[derive(Debug, Drop)]
 pub struct Setup<'a> {
     pub(crate) buses: Vec<Bus<'a>>,
     pub(crate) channels: Vec<ChanEntry>,
     pub(crate) sources: Vec<Source>,
     pub(crate) destinations: Vec<Destination>,
-    pub(crate) cells: &'a [u32],
-    pub(crate) counts: [u8; 1],
+    pub(crate) cells: Vec<u32>,
+    pub(crate) counts: Vec<u8>,
     pub(crate) period: u32,
     pub(crate) window: u32,
     pub(crate) linger: u32,
@@ -28,9 +28,9 @@ impl<'a> Model for Setup<'a> {
 
     ghost Value = { SetupOfRun };
 
-    ghost view = { λ setup. record { buses = setup.buses.items; channels = setup.channels.items; sources = setup.sources.items; destinations = setup.destinations.items; cells = setup.cells.now; counts = setup.counts; period = setup.period; window = setup.window; linger = setup.linger } };
+    ghost view = { λ setup. record { buses = setup.buses.items; channels = setup.channels.items; sources = setup.sources.items; destinations = setup.destinations.items; cells = setup.cells.items; counts = setup.counts.items; period = setup.period; window = setup.window; linger = setup.linger } };
 
-    ghost invariant = { λ setup. IsLawfulSetup (record { buses = setup.buses.items; channels = setup.channels.items; sources = setup.sources.items; destinations = setup.destinations.items; cells = setup.cells.now; counts = setup.counts; period = setup.period; window = setup.window; linger = setup.linger }) };
+    ghost invariant = { λ setup. IsLawfulSetup (record { buses = setup.buses.items; channels = setup.channels.items; sources = setup.sources.items; destinations = setup.destinations.items; cells = setup.cells.items; counts = setup.counts.items; period = setup.period; window = setup.window; linger = setup.linger }) };
 }
 
 impl Setup<'_> {
@@ -74,22 +74,22 @@ impl Setup<'_> {
         self.destinations.as_slice()
     }
 
-    /// The cells of each buffer.
+    /// The cells of each buffer, group after group.
     pub fn cells(&self) -> &[u32]
         ensures cells { result.now ≡ self.now.cells }
         ensures sizes { All (λ size. (1 ≤ size) × (size ≤ 8192)) result.now }
     {
-        self.cells
+        self.cells.as_slice()
     }
 
-    /// How many buffers each group has; there is one group.
+    /// How many buffers each group has, by the groups' numbers.
     pub fn counts(&self) -> &[u8]
         ensures counts { result.now ≡ self.now.counts }
-        ensures one { length result.now ≡ 1 }
+        ensures groups { (1 ≤ length result.now) × (length result.now ≤ 4) }
         ensures all { sum result.now ≡ length self.now.cells }
         ensures buffers { All (λ count. (1 ≤ count) × (count ≤ 32)) result.now }
     {
-        &self.counts
+        self.counts.as_slice()
     }
 
     /// A tick in microseconds.

@@ -35,7 +35,7 @@ fn rx_set_of(number: PathNo, chan: ChanNo, path: &PathKeys, channel: &ChannelKey
     RxSet {
         chan,
         path: number,
-        group: GroupNo(0),
+        group: GroupNo(path.group),
         readers: path.to.items().len() as u8,
         a: address_bytes(channel.rx_address),
         functional: channel.functional,

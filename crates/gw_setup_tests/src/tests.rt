@@ -76,10 +76,7 @@ fn accepted(alloc: Global, texts: [&str; 3]) -> Result<Checked, Fail> {
 
 /// Texts, and the numbers of their setups.
 const SETUPS: [(&str, &[u8]); 3] = [
-    (
-        TWO_BUSES,
-        &[0, 0, 1, 1, 0, 0, 0, 1, 1, 0, 0, 1, 1, 1, 1, 2],
-    ),
+    (TWO_BUSES, &[0, 0, 1, 1, 0, 0, 0, 1, 1, 0, 0, 1, 1, 1, 1, 2]),
     (ONE_BUS, &[0, 0, 1, 0, 0, 1, 0, 1, 0, 0, 0, 0, 0, 0, 1]),
     (
         THREE_BUSES,

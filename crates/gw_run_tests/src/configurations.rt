@@ -14,11 +14,10 @@ const BOTH: &[&[&str]] = &[CHECK, RUN];
 
 /// A change of the configuration, the bytes that line feeds after it fill up, commands, their exit code, and what is
 /// said.
-const CONFIGURATIONS: [(Change, usize, &[&[&str]], u8, &[u8]); 14] = [
+const CONFIGURATIONS: [(Change, usize, &[&[&str]], u8, &[u8]); 11] = [
     (AS_IT_IS, 0, CHECK_ALONE, 0, b"accepted\n"),
     (AS_IT_IS, 65_536, CHECK_ALONE, 0, b"accepted\n"),
     (("", "window = 2\n"), 0, CHECK_ALONE, 0, b"accepted\n"),
-    (TWO_GROUPS, 0, CHECK_ALONE, 0, b"accepted\n"),
     (AS_IT_IS, 65_537, BOTH, 7, b"limit config-bytes 65537\n"),
     (
         (CONFIGURATION, ""),
@@ -34,13 +33,6 @@ const CONFIGURATIONS: [(Change, usize, &[&[&str]], u8, &[u8]); 14] = [
         BOTH,
         2,
         b"config linger: wrong kind\n",
-    ),
-    (
-        ("", "groups = [[4]]\n"),
-        0,
-        BOTH,
-        2,
-        b"config ?: unknown key\n",
     ),
     (
         ("name = \"can1\"", "name = \"can0\""),
@@ -70,13 +62,6 @@ const CONFIGURATIONS: [(Change, usize, &[&[&str]], u8, &[u8]); 14] = [
         2,
         b"config: same-address channel 0 channel 2\n",
     ),
-    (
-        ("to = [\"B\"]\n", "to = [\"B\"]\ngroup = 1\n"),
-        0,
-        BOTH,
-        2,
-        b"config: no-buffer path 0 bus 0\n",
-    ),
 ];
 
 #[test]
@@ -97,6 +82,42 @@ fn a_configuration_is_accepted_or_its_cause_is_said(rt: HostRuntime) -> Result<(
             };
             expect(&rt, rt.alloc(), words, &mut depot, &mut say, wanted)?;
             assert!(rt; depot.contents("gw.toml") == Some(configuration.as_bytes()));
+        }
+    }
+    Ok(())
+}
+
+/// Groups of buffers: a change of the configuration, commands, their exit code, and what is said.
+const GROUPED: [(Change, &[&[&str]], u8, &[u8]); 3] = [
+    (TWO_GROUPS, CHECK_ALONE, 0, b"accepted\n"),
+    (
+        ("", "groups = [[4]]\n"),
+        BOTH,
+        2,
+        b"config ?: unknown key\n",
+    ),
+    (
+        ("to = [\"B\"]\n", "to = [\"B\"]\ngroup = 1\n"),
+        BOTH,
+        2,
+        b"config: no-buffer path 0 bus 0\n",
+    ),
+];
+
+#[test]
+fn groups_of_buffers_are_accepted_or_their_cause_is_said(rt: HostRuntime) -> Result<(), Fail> {
+    for (change, commands, code, said) in GROUPED {
+        let configuration = changed(rt.alloc(), change)?;
+        for words in commands {
+            let mut depot = depot_with(rt.alloc(), configuration.as_str(), [BAD, EMPTY])?;
+            let mut say = MemSink::new(rt.alloc());
+            let wanted = Outcome {
+                code,
+                said,
+                names: RESULTS,
+                left: NOTHING,
+            };
+            expect(&rt, rt.alloc(), words, &mut depot, &mut say, wanted)?;
         }
     }
     Ok(())

@@ -1,3 +1,4 @@
+//! Logs that are read and written in pieces of several lengths, over files in memory.
 ghost use Rattle.std.specs.Prelude.{◌<◌};
 ghost use Rattle.candump_log.specs.Writer.{IsThere};
 ghost use Rattle.gw_depot.specs.MemDepot.{state_of};

@@ -1,3 +1,4 @@
+//! Whole configurations, the numbers of their setups, and those that are not built.
 use candump_log::LogSource;
 use gw_base::{Bytes, Memory};
 use gw_config::read_config;

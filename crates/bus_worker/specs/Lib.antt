@@ -1,0 +1,6 @@
+pub mod Acts
+pub mod Boxed
+pub mod Did
+pub mod Stands
+pub mod Steps
+pub mod Told

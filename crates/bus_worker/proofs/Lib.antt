@@ -1,2 +1,9 @@
+pub mod ActLists
+pub mod Configured
 pub mod Fitting
+pub mod Knowing
+pub mod Lying
+pub mod Machines
+pub mod Made
 pub mod Places
+pub mod ReceiverSteps

@@ -1,5 +1,6 @@
 pub mod ActLists
 pub mod Configured
+pub mod Doing
 pub mod Fitting
 pub mod Knowing
 pub mod Lying
@@ -7,3 +8,4 @@ pub mod Machines
 pub mod Made
 pub mod Places
 pub mod ReceiverSteps
+pub mod SenderSteps

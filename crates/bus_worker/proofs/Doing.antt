@@ -29,8 +29,8 @@ pub is-at-same : {Home : Type 0} (tick : ℕ) (acts : List Act) (lies other : �
 is-at-same tick acts lies other w port same at = record { stand = at.stand; acts_for = at.acts_for; lie = lie-same acts w.channels.items lies other same at.lie }
 
 -- nothing was done
-pub did-none : {Home : Type 0} (v w : Worker) (port : PortState Home) → w.channels ≡ v.channels → w.budget ≡ v.budget → w.table ≡ v.table → w.moves ≡ v.moves → Did 0 0 [] v w port port
-did-none v w port channels budget table moves = record {
+pub did-none : {Home : Type 0} (v w : Worker) (port : PortState Home) → w.channels ≡ v.channels → w.budget ≡ v.budget → w.routes ≡ v.routes → w.moves ≡ v.moves → Did 0 0 [] v w port port
+did-none v w port channels budget routes moves = record {
   grown = refl;
   fresh = tt;
   same = record { rise = rise-same port.floors; home = refl };
@@ -40,7 +40,7 @@ did-none v w port channels budget table moves = record {
   moves = moves ∙ sym (append-nil v.moves);
   channels = record { count = ap (λ c. length c.items) channels; receives = λ place. ap (λ c. receives_at c.items place) channels; sends = λ place. ap (λ c. sends_at c.items place) channels };
   budget = budget;
-  table = table;
+  routes = routes;
 }
 
 -- one after the other
@@ -64,5 +64,5 @@ did-then takes spare more most done later u v w one two three first second =
           ∙ ap (λ l. u.moves ++ l) (sym (moves_in-append (calls_in done) (calls_in later)) ∙ ap moves_in (sym calls));
       channels = same-twice u.channels.items v.channels.items w.channels.items first.channels second.channels;
       budget = second.budget ∙ first.budget;
-      table = second.table ∙ first.table;
+      routes = second.routes ∙ first.routes;
     }

@@ -136,5 +136,5 @@ module _ {Home : Type 0} (place t tick : ℕ) (event : RxEvent) (acts : List Act
     moves = told.tells.moves_are;
     channels = same;
     budget = told.others.budget;
-    table = told.others.table;
+    routes = told.others.routes;
   }

@@ -27,4 +27,4 @@ pub record Did {Home : Type 0} (takes spare : ℕ) (done : List Act) (v w : Work
   pub moves : w.moves ≡ v.moves ++ moves_in (calls_in done)
   pub channels : SameChannels v.channels.items w.channels.items
   pub budget : w.budget ≡ v.budget
-  pub table : w.table ≡ v.table
+  pub routes : w.routes ≡ v.routes

@@ -1,5 +1,6 @@
 pub mod Acts
 pub mod Boxed
+pub mod Comes
 pub mod Did
 pub mod Stands
 pub mod Steps

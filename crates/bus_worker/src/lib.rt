@@ -3,7 +3,9 @@
 
 mod boxed;
 mod channel;
+mod comes;
 mod notes;
 mod receiving;
 mod sending;
+mod sent;
 mod worker;

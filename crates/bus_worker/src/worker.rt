@@ -5,9 +5,10 @@ ghost use Rattle.tp_receiver.specs.State.{event_of};
 ghost use Rattle.bus_worker.specs.Steps.{MayTellReceiver, MayTellSender, ReceiverWasTold, SenderWasTold};
 
 use crate::channel::Channel;
+use crate::comes::Comes;
+use crate::sent::Sent;
 use gw_base::{ListOf, Memory, Tick};
 use hub_core::{Move, Port};
-use route_table::Table;
 use tp_receiver::RxEvent;
 use tp_sender::TxEvent;
 use tx_mailbox::Boxes;
@@ -19,9 +20,11 @@ pub struct Worker {
     pub(crate) budget: u8,
     /// The channels, by their places on the bus.
     pub(crate) channels: Vec<Channel>,
-    /// Which channel's frame a frame is, by its place.
-    pub(crate) table: Table,
+    /// Which frames come to the channels, by the same places.
+    pub(crate) routes: Vec<Comes>,
     pub(crate) boxes: Boxes,
+    /// The frames that left, in order.
+    pub(crate) sent: ListOf<Sent>,
     pub(crate) moves: ListOf<Move>,
 }
 

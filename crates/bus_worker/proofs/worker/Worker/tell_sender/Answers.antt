@@ -31,6 +31,6 @@ returns g c =
         receivers = λ other ne. ap receiving-in (at-other channels place other now ne);
         senders = λ other ne. ap sending-in (at-other channels place other now ne);
         budget = refl;
-        table = refl;
+        routes = refl;
       };
     }

@@ -9,3 +9,4 @@ pub mod Made
 pub mod Places
 pub mod ReceiverSteps
 pub mod SenderSteps
+pub mod Working

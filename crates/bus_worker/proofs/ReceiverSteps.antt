@@ -13,7 +13,7 @@ use Rattle.tp_receiver.specs.State.{RxEvent, RxTurn}
 use Rattle.tp_receiver.specs.declared.set.RxSet.{RxSet}
 use Rattle.tp_unit.specs.declared.shape.Shape.{Shape}
 use Rattle.tx_mailbox.specs.Boxes.{content}
-use Rattle.bus_worker.proofs.ActLists.{received-other, received-own}
+use Rattle.bus_worker.proofs.ActLists.{differs, received-other, received-own}
 use Rattle.bus_worker.proofs.Configured.{acts-for-stays, apart-stays}
 use Rattle.bus_worker.proofs.Lying.{control_frame_once, framed-control, framed-then}
 use Rattle.bus_worker.proofs.Machines.{receiver-stays, receiver-turn, sender-stays, turn-of}
@@ -138,3 +138,10 @@ module _ {Home : Type 0} (place t tick : ℕ) (event : RxEvent) (acts : List Act
     budget = told.others.budget;
     routes = told.others.routes;
   }
+
+  -- in each other box lies what lay there
+  pub boxes-are : ((number : ℕ) → lies number ≡ content number v.boxes) → (number : ℕ) → content number w.boxes ≡ lies-then place w lies number
+  boxes-are was number = elim (cases_eq number (control_box place)) [
+    | inl here ↦ ap (λ n. content n w.boxes) here ∙ sym (at_one-same (control_box place) (content (control_box place) w.boxes) lies) ∙ ap (lies-then place w lies) (sym here)
+    | inr ne ↦ told.tells.box.others number (differs number (control_box place) ne) ∙ sym (was number) ∙ sym (at_one-other (control_box place) number (content (control_box place) w.boxes) lies ne)
+  ]

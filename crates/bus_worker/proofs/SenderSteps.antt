@@ -13,7 +13,7 @@ use Rattle.tp_sender.specs.declared.event.TxEvent.{TxEvent}
 use Rattle.tp_sender.specs.declared.set.TxSet.{TxSet}
 use Rattle.tp_unit.specs.declared.shape.Shape.{Shape}
 use Rattle.tx_mailbox.specs.Boxes.{content}
-use Rattle.bus_worker.proofs.ActLists.{sent-other, sent-own}
+use Rattle.bus_worker.proofs.ActLists.{differs, sent-other, sent-own}
 use Rattle.bus_worker.proofs.Configured.{acts-for-stays, apart-stays}
 use Rattle.bus_worker.proofs.Lying.{data_frame_once, framed-data, framed-then}
 use Rattle.bus_worker.proofs.Machines.{receiver-stays, sender-stays, sender-turn, sent-of}
@@ -146,3 +146,10 @@ module _ {Home : Type 0} (place t tick : ℕ) (event : TxEvent) (acts : List Act
     budget = told.others.budget;
     routes = told.others.routes;
   }
+
+  -- in each other box lies what lay there
+  pub boxes-are : ((number : ℕ) → lies number ≡ content number v.boxes) → (number : ℕ) → content number w.boxes ≡ lies-then place w lies number
+  boxes-are was number = elim (cases_eq number (frame_box place)) [
+    | inl here ↦ ap (λ n. content n w.boxes) here ∙ sym (at_one-same (frame_box place) (content (frame_box place) w.boxes) lies) ∙ ap (lies-then place w lies) (sym here)
+    | inr ne ↦ told.tells.box.others number (differs number (frame_box place) ne) ∙ sym (was number) ∙ sym (at_one-other (frame_box place) number (content (frame_box place) w.boxes) lies ne)
+  ]

@@ -20,6 +20,7 @@ pub record OthersAre (place : ℕ) (v w : Worker) : Type 0 where
   pub senders : (other : ℕ) → other ≢ place → sender_at w.channels.items other ≡ sender_at v.channels.items other
   pub budget : w.budget ≡ v.budget
   pub routes : w.routes ≡ v.routes
+  pub sent : w.sent ≡ v.sent
 
 -- a receiver's step, which leaves all other machines as they were
 pub record ReceiverWasTold {Home : Type 0} (place : ℕ) (event : RxEvent) (tick : ℕ) (v w : Worker) (old new : PortState Home) : Type 0 where

@@ -8,4 +8,5 @@ mod notes;
 mod receiving;
 mod sending;
 mod sent;
+mod ticks;
 mod worker;

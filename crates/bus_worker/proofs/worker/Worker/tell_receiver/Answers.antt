@@ -32,5 +32,6 @@ returns g c =
         senders = λ other ne. ap sending-in (at-other channels place other now ne);
         budget = refl;
         routes = refl;
+        sent = refl;
       };
     }

@@ -10,3 +10,4 @@ pub mod Places
 pub mod ReceiverSteps
 pub mod SenderSteps
 pub mod Working
+pub mod Phasing

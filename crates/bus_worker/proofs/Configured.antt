@@ -5,8 +5,10 @@ use Rattle.tp_receiver.specs.Port.{ActsFor}
 use Rattle.tp_receiver.specs.declared.set.RxSet.{RxSet}
 use Rattle.tp_sender.specs.Port.{ActsForSet}
 use Rattle.tp_sender.specs.declared.set.TxSet.{TxSet}
-use Rattle.bus_worker.specs.Stands.{ActsForAll, AreApart, SameChannels}
+use Rattle.bus_worker.specs.Stands.{ActsForAll, AreApart, AreRouted, SameChannels}
 use Rattle.bus_worker.specs.declared.channel.Channel.{Channel}
+use Rattle.bus_worker.specs.declared.comes.Comes.{Comes}
+use Rattle.std.specs.Prelude.{slice_get}
 
 pub apart-stays : (old new : List Channel) → SameChannels old new → AreApart old → AreApart new
 apart-stays old new same apart = record {
@@ -39,3 +41,6 @@ same-twice one two three first second = record {
   receives = λ place. second.receives place ∙ first.receives place;
   sends = λ place. second.sends place ∙ first.sends place;
 }
+
+pub routed-stays : (old new : List Channel) (routes now : List Comes) → SameChannels old new → now ≡ routes → AreRouted routes old → AreRouted now new
+routed-stays old new routes now same is routed = record { address = λ place comes one at there. routed.address place comes one (ap (λ l. slice_get l place) (sym is) ∙ at) (sym (same.receives place) ∙ there) }

@@ -26,7 +26,7 @@ lie-same acts channels lies other same lie = record {
 }
 
 pub is-at-same : {Home : Type 0} (tick : ℕ) (acts : List Act) (lies other : ℕ → Option CanFrame) (w : Worker) (port : PortState Home) → ((number : ℕ) → other number ≡ lies number) → IsAt tick acts lies w port → IsAt tick acts other w port
-is-at-same tick acts lies other w port same at = record { stand = at.stand; acts_for = at.acts_for; lie = lie-same acts w.channels.items lies other same at.lie }
+is-at-same tick acts lies other w port same at = record { stand = at.stand; acts_for = at.acts_for; lie = lie-same acts w.channels.items lies other same at.lie; routed = at.routed }
 
 -- nothing was done
 pub did-none : {Home : Type 0} (v w : Worker) (port : PortState Home) → w.channels ≡ v.channels → w.budget ≡ v.budget → w.routes ≡ v.routes → w.moves ≡ v.moves → Did 0 0 [] v w port port

@@ -14,7 +14,7 @@ use Rattle.tp_receiver.specs.declared.set.RxSet.{RxSet}
 use Rattle.tp_unit.specs.declared.shape.Shape.{Shape}
 use Rattle.tx_mailbox.specs.Boxes.{content}
 use Rattle.bus_worker.proofs.ActLists.{differs, received-other, received-own}
-use Rattle.bus_worker.proofs.Configured.{acts-for-stays, apart-stays}
+use Rattle.bus_worker.proofs.Configured.{acts-for-stays, apart-stays, routed-stays}
 use Rattle.bus_worker.proofs.Lying.{control_frame_once, framed-control, framed-then}
 use Rattle.bus_worker.proofs.Machines.{receiver-stays, receiver-turn, sender-stays, turn-of}
 use Rattle.bus_worker.specs.Acts.{Act, Received, received_at, sent_at}
@@ -122,6 +122,7 @@ module _ {Home : Type 0} (place t tick : ℕ) (event : RxEvent) (acts : List Act
     };
     acts_for = acts-for-stays v.channels.items w.channels.items old.means new.means same told.tells.kept.pool at.acts_for;
     lie = lies-now;
+    routed = routed-stays v.channels.items w.channels.items v.routes.items w.routes.items same (ap (λ r. r.items) told.others.routes) at.routed;
   }
 
   -- and this was done

@@ -14,7 +14,7 @@ use Rattle.tp_sender.specs.declared.set.TxSet.{TxSet}
 use Rattle.tp_unit.specs.declared.shape.Shape.{Shape}
 use Rattle.tx_mailbox.specs.Boxes.{content}
 use Rattle.bus_worker.proofs.ActLists.{differs, sent-other, sent-own}
-use Rattle.bus_worker.proofs.Configured.{acts-for-stays, apart-stays}
+use Rattle.bus_worker.proofs.Configured.{acts-for-stays, apart-stays, routed-stays}
 use Rattle.bus_worker.proofs.Lying.{data_frame_once, framed-data, framed-then}
 use Rattle.bus_worker.proofs.Machines.{receiver-stays, sender-stays, sender-turn, sent-of}
 use Rattle.bus_worker.specs.Acts.{Act, Sent, received_at, sent_at}
@@ -130,6 +130,7 @@ module _ {Home : Type 0} (place t tick : ℕ) (event : TxEvent) (acts : List Act
     };
     acts_for = acts-for-stays v.channels.items w.channels.items old.means new.means same told.tells.means.pool at.acts_for;
     lie = lies-now;
+    routed = routed-stays v.channels.items w.channels.items v.routes.items w.routes.items same (ap (λ r. r.items) told.others.routes) at.routed;
   }
 
   -- and this was done

@@ -30,6 +30,7 @@ rests-later since tick acts w port by at = record {
   };
   acts_for = at.acts_for;
   lie = at.lie;
+  routed = at.routed;
 }
 
 -- a receiver's step that takes nothing out of its box

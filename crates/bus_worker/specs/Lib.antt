@@ -4,5 +4,6 @@ pub mod Comes
 pub mod Did
 pub mod Phases
 pub mod Stands
+pub mod Start
 pub mod Steps
 pub mod Told

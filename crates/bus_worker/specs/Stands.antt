@@ -17,11 +17,13 @@ use Rattle.tp_unit.specs.Shape.{fits_shape}
 use Rattle.tp_unit.specs.Unit.{Meaning}
 use Rattle.tp_unit.specs.Writing.{frame_of}
 use Rattle.tp_unit.specs.declared.shape.Shape.{Shape}
+use Rattle.gw_law.specs.Channels.{bytes_of_address}
 use Rattle.gw_law.specs.Deeds.{IsMadeIn, own_view}
 use Rattle.bus_worker.specs.Acts.{Act, received_at, sent_at}
 use Rattle.bus_worker.specs.declared.channel.Channel.{Channel}
 use Rattle.bus_worker.specs.declared.channel.Receiving.{Receiving}
 use Rattle.bus_worker.specs.declared.channel.Sending.{Sending}
+use Rattle.bus_worker.specs.declared.comes.Comes.{Comes}
 
 -- something lies in a box
 abbrev pub Lies : Option Meaning → Type 0
@@ -98,6 +100,10 @@ pub record Stand (tick : ℕ) (view : View) (acts : List Act) (channels : List C
   pub senders : (place : ℕ) (s : Sending) → sender_at channels place ≡ Some s → SenderStands tick view (sent_at place acts) s
   pub apart : AreApart channels
   pub few : length channels ≤ 64
+
+-- a receiver's frames have as many address bytes as those that come to its channel
+pub record AreRouted (routes : List Comes) (channels : List Channel) : Type 0 where
+  pub address : (place : ℕ) (comes : Comes) (one : RxSet × Shape) → slice_get routes place ≡ Some comes → receives_at channels place ≡ Some one → one.0.a ≡ bytes_of_address comes.byte
 
 -- the port acts for all machines of the bus
 pub record ActsForAll (channels : List Channel) (means : Means) : Type 0 where

@@ -5,8 +5,15 @@ mod boxed;
 mod channel;
 mod comes;
 mod notes;
+mod plan;
 mod receiving;
 mod sending;
 mod sent;
+mod start;
 mod ticks;
 mod worker;
+
+pub use comes::Comes;
+pub use plan::{ChannelPlan, SourcePlan};
+pub use sent::Sent;
+pub use worker::Worker;

@@ -11,3 +11,4 @@ pub mod ReceiverSteps
 pub mod SenderSteps
 pub mod Working
 pub mod Phasing
+pub mod Starting

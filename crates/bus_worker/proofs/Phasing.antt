@@ -7,6 +7,7 @@ use Rattle.hub_core.specs.Stays.{PortState}
 use Rattle.tp_receiver.specs.State.{RxEvent, RxTurn, Timer}
 use Rattle.tp_receiver.specs.declared.set.RxSet.{RxSet}
 use Rattle.tp_sender.specs.State.{TxTurn}
+use Rattle.tp_sender.specs.declared.event.TxEvent.{TxEvent}
 use Rattle.tp_sender.specs.declared.event.TxEvent.TheVariants.{Turn}
 use Rattle.tp_sender.specs.declared.set.TxSet.{TxSet}
 use Rattle.tp_unit.specs.declared.shape.Shape.{Shape}
@@ -15,7 +16,7 @@ use Rattle.bus_worker.proofs.Knowing.{waits-later}
 use Rattle.bus_worker.proofs.ReceiverSteps.{act-of}
 use Rattle.bus_worker.proofs.SenderSteps.{act-of as sent-act}
 use Rattle.bus_worker.specs.Acts.{Act, received_at, sent_at}
-use Rattle.bus_worker.specs.Phases.{AreTimers, AreTurns, IsTimer, IsTurn, OneReceived, OneSent, RestsBy}
+use Rattle.bus_worker.specs.Phases.{AreTimers, AreTurns, IsReceived, IsSent, IsTimer, IsTurn, OneReceived, OneSent, RestsBy}
 use Rattle.bus_worker.specs.Stands.{SameChannels, receiver_at, receives_at, sender_at, sends_at}
 use Rattle.bus_worker.specs.Steps.{ReceiverWasTold, SenderWasTold}
 use Rattle.bus_worker.specs.Told.{CanTellReceiver, CanTellSender}
@@ -51,34 +52,34 @@ receives-there place channels r is none = none-some none (ap (option_map (λ (x 
 sends-there : (place : ℕ) (channels : List Channel) (s : Sending) → sender_at channels place ≡ Some s → sends_at channels place ≡ None → ⊥
 sends-there place channels s is none = none-some none (ap (option_map (λ (x : Sending). x.machine.set)) is)
 
--- a receiver's step on a tick's end is one timer
-pub timer-is : {Home : Type 0} (place tick : ℕ) (v w : Worker) (old new : PortState Home) (told : ReceiverWasTold place Timer tick v w old new) (done : List Act) → done ≡ act-of place tick Timer v w old new told ∷ [] → IsTimer tick place v.channels.items done
-timer-is place tick v w old new told done is = record {
-  own = λ one there. record { turn = record { event = Timer; did = told.tells.did }; turns_are = ap (received_at place) is ∙ received-own place (record { event = Timer; did = told.tells.did }) []; event_is = refl; tick_is = told.tells.tick_is };
+-- a receiver's step is one turn of it, and where a channel is no source there is none
+pub received-is : {Home : Type 0} (place tick : ℕ) (event : RxEvent) (v w : Worker) (old new : PortState Home) (told : ReceiverWasTold place event tick v w old new) (done : List Act) → done ≡ act-of place tick event v w old new told ∷ [] → IsReceived tick event place v.channels.items done
+received-is place tick event v w old new told done is = record {
+  own = λ one there. record { turn = record { event = event; did = told.tells.did }; turns_are = ap (received_at place) is ∙ received-own place (record { event = event; did = told.tells.did }) []; event_is = refl; tick_is = told.tells.tick_is };
   none = λ none. absurd (receives-there place v.channels.items told.before told.was none);
-  others = λ other ne. ap (received_at other) is ∙ received-other place other (record { event = Timer; did = told.tells.did }) [] ne;
+  others = λ other ne. ap (received_at other) is ∙ received-other place other (record { event = event; did = told.tells.did }) [] ne;
   senders = λ other. ap (sent_at other) is;
 }
 
-pub no-timer : (tick place : ℕ) (channels : List Channel) → receiver_at channels place ≡ None → IsTimer tick place channels []
-no-timer tick place channels none = record {
+pub not-received : (tick : ℕ) (event : RxEvent) (place : ℕ) (channels : List Channel) → receiver_at channels place ≡ None → IsReceived tick event place channels []
+not-received tick event place channels none = record {
   own = λ one there. absurd (none-some (ap (option_map (λ (x : Receiving). (x.machine.set, x.shape))) none) there);
   none = λ none'. refl;
   others = λ other ne. refl;
   senders = λ other. refl;
 }
 
--- a sender's turn is one turn
-pub turn-is : {Home : Type 0} (place tick : ℕ) (v w : Worker) (old new : PortState Home) (told : SenderWasTold place Turn tick v w old new) (done : List Act) → done ≡ sent-act place tick Turn v w old new told ∷ [] → IsTurn tick place v.channels.items done
-turn-is place tick v w old new told done is = record {
-  own = λ one there. record { turn = record { event = Turn; did = told.tells.did }; turns_are = ap (sent_at place) is ∙ sent-own place (record { event = Turn; did = told.tells.did }) []; event_is = refl; tick_is = told.tells.tick_is };
+-- a sender's step is one turn of it, and where a channel is no destination there is none
+pub sent-is : {Home : Type 0} (place tick : ℕ) (event : TxEvent) (v w : Worker) (old new : PortState Home) (told : SenderWasTold place event tick v w old new) (done : List Act) → done ≡ sent-act place tick event v w old new told ∷ [] → IsSent tick event place v.channels.items done
+sent-is place tick event v w old new told done is = record {
+  own = λ one there. record { turn = record { event = event; did = told.tells.did }; turns_are = ap (sent_at place) is ∙ sent-own place (record { event = event; did = told.tells.did }) []; event_is = refl; tick_is = told.tells.tick_is };
   none = λ none. absurd (sends-there place v.channels.items told.before told.was none);
-  others = λ other ne. ap (sent_at other) is ∙ sent-other place other (record { event = Turn; did = told.tells.did }) [] ne;
+  others = λ other ne. ap (sent_at other) is ∙ sent-other place other (record { event = event; did = told.tells.did }) [] ne;
   receivers = λ other. ap (received_at other) is;
 }
 
-pub no-turn : (tick place : ℕ) (channels : List Channel) → sender_at channels place ≡ None → IsTurn tick place channels []
-no-turn tick place channels none = record {
+pub not-sent : (tick : ℕ) (event : TxEvent) (place : ℕ) (channels : List Channel) → sender_at channels place ≡ None → IsSent tick event place channels []
+not-sent tick event place channels none = record {
   own = λ one there. absurd (none-some (ap (option_map (λ (x : Sending). x.machine.set)) none) there);
   none = λ none'. refl;
   others = λ other ne. refl;

@@ -2,6 +2,7 @@ pub mod Acts
 pub mod Boxed
 pub mod Comes
 pub mod Did
+pub mod Hearing
 pub mod Phases
 pub mod Stands
 pub mod Start

@@ -41,19 +41,26 @@ pub record OneSent (tick : ℕ) (event : TxEvent) (turns : List TxTurn) : Type 0
   pub event_is : turn.event ≡ event
   pub tick_is : turn.did.tick ≡ tick
 
--- a channel's receiver was told once that the tick is over, where it has one, and nobody else of anything
-pub record IsTimer (tick place : ℕ) (channels : List Channel) (done : List Act) : Type 0 where
-  pub own : (one : RxSet × Shape) → receives_at channels place ≡ Some one → OneReceived tick Timer (received_at place done)
+-- a channel's receiver was told of this once, where it has one, and nobody else of anything
+pub record IsReceived (tick : ℕ) (event : RxEvent) (place : ℕ) (channels : List Channel) (done : List Act) : Type 0 where
+  pub own : (one : RxSet × Shape) → receives_at channels place ≡ Some one → OneReceived tick event (received_at place done)
   pub none : receives_at channels place ≡ None → received_at place done ≡ []
   pub others : (other : ℕ) → other ≢ place → received_at other done ≡ []
   pub senders : (other : ℕ) → sent_at other done ≡ []
 
--- a channel's sender took its turn, where it has one, and nobody else was told of anything
-pub record IsTurn (tick place : ℕ) (channels : List Channel) (done : List Act) : Type 0 where
-  pub own : (one : TxSet) → sends_at channels place ≡ Some one → OneSent tick Turn (sent_at place done)
+-- a channel's sender was told of this once, where it has one, and nobody else of anything
+pub record IsSent (tick : ℕ) (event : TxEvent) (place : ℕ) (channels : List Channel) (done : List Act) : Type 0 where
+  pub own : (one : TxSet) → sends_at channels place ≡ Some one → OneSent tick event (sent_at place done)
   pub none : sends_at channels place ≡ None → sent_at place done ≡ []
   pub others : (other : ℕ) → other ≢ place → sent_at other done ≡ []
   pub receivers : (other : ℕ) → received_at other done ≡ []
+
+-- the receiver was told that the tick is over, and the sender took its turn
+abbrev pub IsTimer : (tick place : ℕ) → List Channel → List Act → Type 0
+IsTimer tick place channels done = IsReceived tick Timer place channels done
+
+abbrev pub IsTurn : (tick place : ℕ) → List Channel → List Act → Type 0
+IsTurn tick place channels done = IsSent tick Turn place channels done
 
 -- each receiver of the first so many channels was told once that the tick is over, and nobody else of anything
 pub record AreTimers (tick count : ℕ) (channels : List Channel) (done : List Act) : Type 0 where

@@ -4,6 +4,7 @@
 mod boxed;
 mod channel;
 mod comes;
+mod hearing;
 mod notes;
 mod plan;
 mod receiving;

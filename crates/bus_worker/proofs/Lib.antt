@@ -12,3 +12,4 @@ pub mod SenderSteps
 pub mod Working
 pub mod Phasing
 pub mod Starting
+pub mod Heard

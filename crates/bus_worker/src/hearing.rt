@@ -75,4 +75,27 @@ impl Worker {
         }
         Ok(())
     }
+
+    /// A frame comes in a tick: at its channel the receiver is told of its unit, and the sender of a flow control.
+    pub(crate) fn hear<P: Port>(
+        &mut self,
+        frame: &Frame,
+        tick: Tick,
+        port: &mut P,
+    ) -> Result<(), Memory>
+        requires tick { tick.0 ≤ 10_000_000 }
+        requires can { HearsBy tick.0 1 self.old (P.state port.old) }
+        ensures { OnOk result (Hears tick.0 frame.now self.old self.new (P.state port.old) (P.state port.new)) }
+    {
+        let Some(place) = self.place_of(frame) else {
+            return Ok(());
+        };
+        let unit = self.routes[place].unit(frame);
+        let answer = answer_of(&unit);
+        self.hear_unit(place, unit, frame.bytes().len() as u8, tick, port)?;
+        if let Some(event) = answer {
+            self.hear_answer(place, event, tick, port)?;
+        }
+        Ok(())
+    }
 }

@@ -117,7 +117,7 @@ came-few-in : (found : Option (RxSet × Shape)) (tick size place : ℕ) (meaning
 came-few-in None tick size place meaning channels done is heard = subst (λ (l : List RxTurn). length (came_by frames_in l) ≤ 1) (sym (heard.none is)) (omega arith)
 came-few-in (Some one) tick size place meaning channels done is heard = one-came tick size meaning (received_at place done) (heard.own one is)
 
-came-few : (tick size place other : ℕ) (meaning : Meaning) (channels : List Channel) (done : List Act) → IsReceived tick (Came size meaning) place channels done → length (came_by frames_in (received_at other done)) ≤ 1
+pub came-few : (tick size place other : ℕ) (meaning : Meaning) (channels : List Channel) (done : List Act) → IsReceived tick (Came size meaning) place channels done → length (came_by frames_in (received_at other done)) ≤ 1
 came-few tick size place other meaning channels done heard = elim (cases_eq other place) [
   | inl here ↦ subst (λ (p : ℕ). length (came_by frames_in (received_at p done)) ≤ 1) (sym here) (came-few-in (receives_at channels place) tick size place meaning channels done refl heard)
   | inr ne ↦ subst (λ (l : List RxTurn). length (came_by frames_in l) ≤ 1) (sym (heard.others other ne)) (omega arith)

@@ -13,3 +13,4 @@ pub mod Working
 pub mod Phasing
 pub mod Starting
 pub mod Heard
+pub mod HeardAll

@@ -1,5 +1,5 @@
 -- A frame that comes to a bus in a tick: to which channel, and who of its machines is told of what.
-use Rattle.std.specs.Prelude.{◌≡◌, ◌⊎◌, ◌+◌, ◌*◌, ◌≤◌, ◌<◌, ℕ, true, false, Option, None, Some, List, [], ◌++◌, length, slice_get, All}
+use Rattle.std.specs.Prelude.{◌≡◌, ◌⊎◌, ◌+◌, ◌*◌, ◌≤◌, ◌<◌, ℕ, true, false, Option, None, Some, List, [], ◌∷◌, ◌++◌, length, slice_get, All}
 use Rattle.can_frame.specs.Frame.{CanFrame}
 use Rattle.hub_core.specs.Stays.{PortState}
 use Rattle.hub_core.specs.Turns.{came_by}
@@ -73,3 +73,11 @@ HearsAfter tick takes spare Are v w old new = (since : ℕ) (acts : List Act) �
 
 abbrev pub Hears : {Home : Type 0} → (tick : ℕ) → CanFrame → (v w : Worker) → (old new : PortState Home) → Type 0
 Hears tick frame v w old new = HearsAfter tick 1 9 (IsHeard tick v.routes.items v.channels.items frame) v w old new
+
+-- so are several frames, one after another; the acts stand newest first
+abbrev pub AreHeard : (tick : ℕ) → List Comes → List Channel → List CanFrame → List Act → Type 0
+AreHeard tick routes channels [] done = done ≡ []
+AreHeard tick routes channels (frame ∷ later) done = (first : List Act) × (rest : List Act) × (done ≡ rest ++ first) × IsHeard tick routes channels frame first × AreHeard tick routes channels later rest
+
+abbrev pub HearsAll : {Home : Type 0} → (tick : ℕ) → List CanFrame → (v w : Worker) → (old new : PortState Home) → Type 0
+HearsAll tick frames v w old new = HearsAfter tick (length frames) (9 * length frames) (AreHeard tick v.routes.items v.channels.items frames) v w old new

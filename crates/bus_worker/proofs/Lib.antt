@@ -14,3 +14,4 @@ pub mod Phasing
 pub mod Starting
 pub mod Heard
 pub mod HeardAll
+pub mod Counted

@@ -15,3 +15,4 @@ pub mod Starting
 pub mod Heard
 pub mod HeardAll
 pub mod Counted
+pub mod Ticking

@@ -4,6 +4,7 @@
 mod boxed;
 mod channel;
 mod comes;
+mod emission;
 mod hearing;
 mod notes;
 mod plan;
@@ -11,7 +12,9 @@ mod receiving;
 mod sending;
 mod sent;
 mod start;
+mod tick;
 mod ticks;
+mod told;
 mod worker;
 
 pub use comes::Comes;

@@ -1,12 +1,12 @@
 -- The whole tree that a configuration is printed as is read as that configuration, and isn't deep.
 use Rattle.std.proofs.Common.{◌≡◌, ℕ, ◌≤◌, ◌^◌, ◌-◌, true, List, [], ◌∷◌, length, map, is_some, pos, Option, None, Some, Ok, zero-add, refl, ap, ◌∙◌, arith}
-use Rattle.toml.specs.Data.{Data, Members, integer, as_integer, as_table, string, depth, items_depth, members_depth}
+use Rattle.toml.specs.Data.{Data, Members, integer, as_table, string, depth, items_depth, members_depth}
 use Rattle.toml.specs.Data as tree
 use Rattle.toml.specs.View.{items_of}
 use Rattle.gw_settings.specs.declared.key.Key.TheVariants as key
 use Rattle.gw_settings.specs.declared.table_kind.TableKind.TheVariants as table
+use Rattle.gw_settings.specs.Readings.{group_count, is_group}
 use Rattle.gw_settings.specs.Tree.{element_at, entry_of}
-use Rattle.gw_config.specs.declared.keys.TheConstants as row
 use Rattle.gw_config.specs.declared.words.Mode.{Mode}
 use Rattle.gw_config.specs.declared.words.Mode.TheVariants.{Serial, Threads}
 use Rattle.gw_config.specs.Config.{ChannelEntry, PathEntry, CancelEntry, Configuration}
@@ -14,9 +14,10 @@ use Rattle.gw_config.specs.Document.{Spells}
 use Rattle.gw_settings.specs.Tree.{IsText}
 use Rattle.gw_config.specs.Entries.{bus_at, channel_at, path_at, interface_at, cancel_at, top_in, counts_in, entries_in, config_in}
 use Rattle.gw_config.specs.Lawful.{AreLawful, IsLawful, IsLawfulBus, IsLawfulChannel, IsLawfulPath, IsLawfulInterface, IsLawfulCancel}
-use Rattle.config_text.specs.Printed.{bus_table, channel_table, path_table, interface_table, cancel_table, config_table, mode_text}
-use Rattle.gw_config.specs.Rows.{number_at, number_fits, numbers_row}
+use Rattle.config_text.specs.Printed.{bus_table, channel_table, path_table, interface_table, cancel_table, config_table, group_value, mode_text}
+use Rattle.gw_config.specs.Groups.{group_at, group_fits, groups_found}
 use Rattle.gw_config.specs.Words.{mode_of}
+use Rattle.config_text.proofs.GroupsBack.{group_back, is_group-value}
 use Rattle.config_text.proofs.ReadBack.{all_fit, all_of-back, each_back, few, bus_back, channel_back, path_back, interface_back, cancel_back}
 
 mode_back : (mode : Mode) → mode_of (mode_text mode) ≡ Some mode
@@ -24,16 +25,20 @@ mode_back Serial = refl
 mode_back Threads = refl
 
 module _ (config : Configuration) (lawful : IsLawful config) where
-  buffers_back : numbers_row row.BUFFERS row.BUFFER 0 (config_table config) ≡ Ok config.buffers
-  buffers_back =
-      let few_buffers : length config.buffers ≤ 2 ^ 32 - 1 = few 1 32 (length config.buffers) lawful.buffer_count (omega arith) in
-      rw (all_of-back (λ cells. integer (pos cells)) (λ element. is_some (as_integer element)) (λ cells. refl) config.buffers few_buffers, lawful.buffer_count)
-      (each_back (λ cells. integer (pos cells)) (λ cells. number_fits row.BUFFER cells ≡ true) (number_at row.BUFFER 0 (config_table config)) (element_at (config_table config) table.Top 0 key.Buffers)
-      (λ at cells fits is. rw (is, fits) refl) config.buffers 0 (all_fit (number_fits row.BUFFER) config.buffers lawful.buffers)
-      (λ k. ap (element_at (config_table config) table.Top 0 key.Buffers) (zero-add k)))
+  count_back : group_count (config_table config) ≡ Ok (Some (length config.groups))
+  count_back =
+      let few_groups : length config.groups ≤ 2 ^ 32 - 1 = few 1 4 (length config.groups) lawful.group_count (omega arith) in
+      rw (all_of-back group_value is_group is_group-value config.groups few_groups) refl
 
-  top_back : top_in (config_table config) ≡ Ok (record { period = config.period; window = config.window; linger = config.linger; mode = config.mode; buffers = config.buffers })
-  top_back = rw (lawful.period, lawful.window, lawful.linger, mode_back config.mode, buffers_back) refl
+  groups_back : groups_found (config_table config) (Some (length config.groups)) ≡ Ok config.groups
+  groups_back =
+      rw (lawful.group_count)
+      (each_back group_value (λ group. group_fits group ≡ true) (group_at (config_table config)) (element_at (config_table config) table.Top 0 key.Groups)
+      (group_back (config_table config)) config.groups 0 (all_fit group_fits config.groups lawful.groups)
+      (λ k. ap (element_at (config_table config) table.Top 0 key.Groups) (zero-add k)))
+
+  top_back : top_in (config_table config) ≡ Ok (record { period = config.period; window = config.window; linger = config.linger; mode = config.mode; groups = config.groups; is_grouped = true })
+  top_back = rw (lawful.period, lawful.window, lawful.linger, mode_back config.mode, count_back, groups_back) refl
 
   counts_back : counts_in (config_table config) ≡ Ok (record { bus = length config.bus; channel = length config.channel; path = length config.path; interface = length config.interface; cancel = length config.cancel })
   counts_back =
@@ -75,6 +80,9 @@ items_shallow : {A : Type 0} (show : A → Data) (most : ℕ) → ((value : A) �
 items_shallow show most shallow [] = omega arith
 items_shallow show most shallow (value ∷ values) = omega (arith, shallow value, items_shallow show most shallow values)
 
+group_shallow : (group : List ℕ) → depth (group_value group) ≤ 1
+group_shallow group = omega (arith, items_shallow (λ cells. integer (pos cells)) 0 (λ cells. omega arith) group)
+
 path_shallow : (entry : PathEntry) → depth (path_table entry) ≤ 2
 path_shallow entry = omega (arith, items_shallow string 0 (λ text. omega arith) entry.to)
 
@@ -92,7 +100,7 @@ config_shallow : (config : Configuration) → depth (config_table config) ≤ 5
 config_shallow config =
     omega (
       arith,
-      items_shallow (λ cells. integer (pos cells)) 0 (λ cells. omega arith) config.buffers,
+      items_shallow group_value 1 group_shallow config.groups,
       items_shallow bus_table 2 (λ entry. omega arith) config.bus,
       items_shallow channel_table 2 (λ entry. channel_shallow entry entry.rx_address entry.tx_address refl refl) config.channel,
       items_shallow path_table 2 path_shallow config.path,

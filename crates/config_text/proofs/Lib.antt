@@ -1,4 +1,5 @@
 mod ConfigBack
+mod GroupsBack
 mod IdBack
 mod PrintLemmas
 mod PutLemmas

@@ -27,12 +27,12 @@ use Rattle.config_text.proofs.IdBack.{id_back}
 
 -- ---- arrays
 
-elements-items_of : (values : List Data) → elements (items_of values) ≡ values
+pub elements-items_of : (values : List Data) → elements (items_of values) ≡ values
 elements-items_of [] = refl
 elements-items_of (value ∷ values) = ap (λ rest. value ∷ rest) (elements-items_of values)
 
 module _ {A : Type 0} (show : A → Data) (test : Data → Bool) (passes : (value : A) → test (show value) ≡ true) where
-  all_pass : (values : List A) → list_all test (map show values) ≡ true
+  pub all_pass : (values : List A) → list_all test (map show values) ≡ true
   all_pass [] = refl
   all_pass (value ∷ values) = rw (passes value, all_pass values) refl
 
@@ -185,4 +185,4 @@ module _ (root : Data) (index : ℕ) (entry : PathEntry) (lawful : IsLawfulPath 
   pub path_back : path_at root index ≡ Ok entry
   path_back =
       let few : length entry.to ≤ 2 ^ 32 - 1 = few 1 8 (length entry.to) lawful.count (omega arith) in
-      rw (stands, lawful.name, lawful.from, all_of-back string (λ element. is_some (as_str element)) (λ text. refl) entry.to few, lawful.count, to_back, lawful.threshold) refl
+      rw (stands, lawful.name, lawful.from, all_of-back string (λ element. is_some (as_str element)) (λ text. refl) entry.to few, lawful.count, to_back, lawful.threshold, lawful.group) refl

@@ -99,10 +99,11 @@ channel_table entry = table (put_timers entry (put_shape entry (put_addresses en
 abbrev pub path_table : PathEntry → Data
 path_table entry = table
     (member (codes "from") (string entry.from)
+    (member (codes "group") (integer (pos entry.group))
     (member (codes "name") (string entry.name)
     (member (codes "store") (boolean entry.store)
     (member (codes "threshold") (integer (pos entry.threshold))
-    (member (codes "to") (array (items_of (map string entry.to))) no_members)))))
+    (member (codes "to") (array (items_of (map string entry.to))) no_members))))))
 
 -- the table of an interface path
 abbrev pub interface_table : InterfaceEntry → Data
@@ -123,13 +124,17 @@ cancel_table entry = table
     (member (codes "role") (string (role_text entry.role))
     (member (codes "tick") (integer (pos entry.tick.0)) no_members))))
 
+-- a group of buffers, by the cells of each
+abbrev pub group_value : List ℕ → Data
+group_value group = array (items_of (map (λ cells. integer (pos cells)) group))
+
 -- the top table
 abbrev pub config_table : Configuration → Data
 config_table config = table
-    (member (codes "buffers") (array (items_of (map (λ cells. integer (pos cells)) config.buffers)))
     (member (codes "bus") (array (items_of (map bus_table config.bus)))
     (member (codes "cancel") (array (items_of (map cancel_table config.cancel)))
     (member (codes "channel") (array (items_of (map channel_table config.channel)))
+    (member (codes "groups") (array (items_of (map group_value config.groups)))
     (member (codes "interface") (array (items_of (map interface_table config.interface)))
     (member (codes "linger") (integer (pos config.linger))
     (member (codes "mode") (string (mode_text config.mode))

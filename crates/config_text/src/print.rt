@@ -8,7 +8,7 @@ ghost use Rattle.toml.specs.View.{table_view};
 ghost use Rattle.config_text.specs.Printed.{config_table};
 
 use crate::tables::tables;
-use crate::values::{number, numbers, put, word};
+use crate::values::{groups, number, put, word};
 use crate::words::Word;
 use gw_base::{Bytes, Memory};
 use gw_config::Config;
@@ -35,8 +35,8 @@ fn config_table(alloc: Global, config: &Config) -> Result<Table, Memory>
     put(
         alloc,
         &mut members,
-        Key::Buffers,
-        numbers(alloc, config.buffers.items())?,
+        Key::Groups,
+        groups(alloc, config.groups.items())?,
     )?;
     put(
         alloc,

@@ -188,6 +188,7 @@ impl Printed for PathKeys {
         )?;
         put(alloc, &mut table, Key::Threshold, number(self.threshold))?;
         put(alloc, &mut table, Key::Store, flag(self.store))?;
+        put(alloc, &mut table, Key::Group, number(u32::from(self.group)))?;
         Ok(Value::Table(table))
     }
 }

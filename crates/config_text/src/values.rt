@@ -6,12 +6,12 @@ ghost use Rattle.gw_config.specs.Rows.{text_fits};
 ghost use Rattle.gw_settings.specs.Names.{key_name};
 ghost use Rattle.toml.specs.Data.{array, boolean, integer, string};
 ghost use Rattle.toml.specs.View.{items_of, table_view, view};
-ghost use Rattle.config_text.specs.Printed.{hex_text, id_text};
+ghost use Rattle.config_text.specs.Printed.{group_value, hex_text, id_text};
 ghost use Rattle.config_text.specs.Puts.{put, put_some};
 
 use can_frame::CanId;
 use gw_base::{Bytes, Memory};
-use gw_config::TextRow;
+use gw_config::{CellsList, TextRow};
 use gw_settings::Key;
 use std::alloc::Global;
 use toml::{Table, Value};
@@ -165,13 +165,24 @@ pub(crate) fn names(alloc: Global, row: TextRow, found: &[Bytes]) -> Result<Valu
     Ok(Value::Array(values))
 }
 
-/// The numbers, as an array.
-pub(crate) fn numbers(alloc: Global, found: &[u32]) -> Result<Value, Memory>
-    ensures { IfOk result (λ value. view value ≡ array (items_of (map (λ each. integer (pos each)) found.now))) }
+/// The cells of each buffer of a group, as an array.
+fn group(alloc: Global, found: &[u32]) -> Result<Value, Memory>
+    ensures { IfOk result (λ value. view value ≡ group_value found.now) }
 {
     let mut values = Vec::new(alloc);
-    for each in found {
-        values.push(number(*each))?;
+    for cells in found {
+        values.push(number(*cells))?;
+    }
+    Ok(Value::Array(values))
+}
+
+/// The groups of buffers, as an array of arrays.
+pub(crate) fn groups(alloc: Global, found: &[CellsList]) -> Result<Value, Memory>
+    ensures { IfOk result (λ value. view value ≡ array (items_of (map group_value found.now))) }
+{
+    let mut values = Vec::new(alloc);
+    for cells in found {
+        values.push(group(alloc, cells.items())?)?;
     }
     Ok(Value::Array(values))
 }

@@ -46,6 +46,7 @@ pub record PathEntry : Type 0 where
   pub to : List (List ℕ)
   pub threshold : ℕ
   pub store : Bool
+  pub group : ℕ
 
 -- what the table of an interface path says
 pub record InterfaceEntry : Type 0 where
@@ -70,7 +71,7 @@ pub record Configuration : Type 0 where
   pub window : ℕ
   pub linger : ℕ
   pub mode : Mode
-  pub buffers : List ℕ
+  pub groups : List (List ℕ)
   pub bus : List BusEntry
   pub channel : List ChannelEntry
   pub path : List PathEntry

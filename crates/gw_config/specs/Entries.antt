@@ -1,11 +1,12 @@
 -- What the entries and the whole text say: each row in its order, up to the first fault.
-use Rattle.std.specs.Prelude.{◌≡◌, ℕ, List, length, true, is_some, Option, None, Some, Result, Ok, Err, if◌then◌else◌}
+use Rattle.std.specs.Prelude.{◌≡◌, ℕ, List, length, Bool, true, is_some, Option, None, Some, Result, Ok, Err, if◌then◌else◌}
 use Rattle.std.specs.List.{list_all}
 use Rattle.toml.specs.Data.{Data}
 use Rattle.can_frame.specs.Id.{id_fits}
 use Rattle.gw_settings.specs.declared.key.Key.{Key}
 use Rattle.gw_settings.specs.declared.fault.ConfigFault.{ConfigFault}
 use Rattle.gw_settings.specs.declared.table_kind.TableKind.TheVariants as table
+use Rattle.gw_settings.specs.Readings.{group_count}
 use Rattle.gw_settings.specs.Tree.{entry_of}
 use Rattle.gw_config.specs.declared.keys.TheConstants as row
 use Rattle.gw_config.specs.declared.words.Addressing.{Addressing}
@@ -16,9 +17,10 @@ use Rattle.gw_config.specs.declared.read.Shape.{Shape}
 use Rattle.gw_config.specs.declared.read.Timers.{Timers}
 use Rattle.gw_config.specs.declared.read.Top.{Top}
 use Rattle.gw_config.specs.Config.{BusEntry, ChannelEntry, PathEntry, InterfaceEntry, CancelEntry, Configuration}
+use Rattle.gw_config.specs.Groups.{group_fits, groups_found}
 use Rattle.gw_config.specs.Outcome.{◌>>=◌}
 use Rattle.gw_config.specs.Repeated.{repeated_among}
-use Rattle.gw_config.specs.Rows.{number_row, flag_row, text_row, optional_text_row, word_row, count_row, numbers_row, texts_row, known_row, address_row, length_row, each_from, has_address, number_fits, count_fits, list_fits, address_fits, is_frame_length}
+use Rattle.gw_config.specs.Rows.{number_row, flag_row, text_row, optional_text_row, word_row, count_row, texts_row, known_row, address_row, length_row, each_from, has_address, number_fits, count_fits, list_fits, address_fits, is_frame_length}
 use Rattle.gw_config.specs.Words.{mode_of, addressing_of, queue_of, role_of, id_of}
 
 -- a bus, from the keys of its table
@@ -110,8 +112,9 @@ path_at root index = do
   to ← texts_row row.PATH_TO row.PATH_DESTINATION index root
   threshold ← number_row row.PATH_THRESHOLD index (entry_of root table.Path index)
   store ← flag_row row.PATH_STORE index (entry_of root table.Path index)
+  group ← number_row row.PATH_GROUP index (entry_of root table.Path index)
   known ← known_row table.Path index row.PATH_KEYS root
-  Ok (record { name = name; from = source; to = to; threshold = threshold; store = store })
+  Ok (record { name = name; from = source; to = to; threshold = threshold; store = store; group = group })
 
 -- an interface path, from the keys of its table
 abbrev pub interface_at : Data → ℕ → Result InterfaceEntry ConfigFault
@@ -143,8 +146,13 @@ top_in root = do
   window ← number_row row.WINDOW 0 (entry_of root table.Top 0)
   linger ← number_row row.LINGER 0 (entry_of root table.Top 0)
   mode ← word_row mode_of row.MODE 0 (entry_of root table.Top 0)
-  buffers ← numbers_row row.BUFFERS row.BUFFER 0 root
-  Ok (record { period = period; window = window; linger = linger; mode = mode; buffers = buffers })
+  count ← group_count root
+  groups ← groups_found root count
+  Ok (record { period = period; window = window; linger = linger; mode = mode; groups = groups; is_grouped = is_some count })
+
+-- the keys of a top table with groups, or without
+abbrev pub top_keys : Bool → List Key
+top_keys is_grouped = if is_grouped then row.GROUPED_TOP_KEYS else row.TOP_KEYS
 
 -- how many tables there are of each kind
 abbrev pub counts_in : Data → Result Counts ConfigFault
@@ -185,8 +193,8 @@ pub record TopFits (top : Top) : Type 0 where
   pub period : number_fits row.PERIOD top.period ≡ true
   pub window : number_fits row.WINDOW top.window ≡ true
   pub linger : number_fits row.LINGER top.linger ≡ true
-  pub buffer_count : list_fits row.BUFFERS (length top.buffers) ≡ true
-  pub buffers : list_all (number_fits row.BUFFER) top.buffers ≡ true
+  pub group_count : list_fits row.GROUPS (length top.groups) ≡ true
+  pub groups : list_all group_fits top.groups ≡ true
 
 pub record CountsFit (counts : Counts) : Type 0 where
   pub bus : count_fits row.BUSES counts.bus ≡ true
@@ -223,7 +231,7 @@ abbrev pub config_in : Data → Result Configuration ConfigFault
 config_in root = do
   top ← top_in root
   counts ← counts_in root
-  known ← known_row table.Top 0 row.TOP_KEYS root
+  known ← known_row table.Top 0 (top_keys top.is_grouped) root
   entries ← entries_in root counts
   unless (repeated_among entries.bus entries.channel entries.path entries.interface)
       (record {
@@ -231,7 +239,7 @@ config_in root = do
         window = top.window;
         linger = top.linger;
         mode = top.mode;
-        buffers = top.buffers;
+        groups = top.groups;
         bus = entries.bus;
         channel = entries.channel;
         path = entries.path;

@@ -5,6 +5,7 @@ use Rattle.can_frame.specs.Id.{id_fits}
 use Rattle.gw_config.specs.declared.rows.TextRow.{TextRow}
 use Rattle.gw_config.specs.declared.keys.TheConstants as row
 use Rattle.gw_config.specs.Config.{BusEntry, ChannelEntry, PathEntry, InterfaceEntry, CancelEntry, Configuration}
+use Rattle.gw_config.specs.Groups.{group_fits}
 use Rattle.gw_config.specs.Repeated.{repeated_in}
 use Rattle.gw_config.specs.Rows.{number_fits, text_fits, count_fits, list_fits, address_fits, has_address, is_frame_length}
 
@@ -45,6 +46,7 @@ pub record IsLawfulPath (entry : PathEntry) : Type 0 where
   pub count : list_fits row.PATH_TO (length entry.to) ≡ true
   pub to : list_all (text_fits row.PATH_DESTINATION) entry.to ≡ true
   pub threshold : number_fits row.PATH_THRESHOLD entry.threshold ≡ true
+  pub group : number_fits row.PATH_GROUP entry.group ≡ true
 
 -- so for an interface path
 pub record IsLawfulInterface (entry : InterfaceEntry) : Type 0 where
@@ -71,8 +73,8 @@ pub record IsLawful (config : Configuration) : Type 0 where
   pub period : number_fits row.PERIOD config.period ≡ true
   pub window : number_fits row.WINDOW config.window ≡ true
   pub linger : number_fits row.LINGER config.linger ≡ true
-  pub buffer_count : list_fits row.BUFFERS (length config.buffers) ≡ true
-  pub buffers : list_all (number_fits row.BUFFER) config.buffers ≡ true
+  pub group_count : list_fits row.GROUPS (length config.groups) ≡ true
+  pub groups : list_all group_fits config.groups ≡ true
   pub bus : count_fits row.BUSES (length config.bus) ≡ true
   pub channel : count_fits row.CHANNELS (length config.channel) ≡ true
   pub path : count_fits row.PATHS (length config.path) ≡ true

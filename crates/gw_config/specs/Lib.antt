@@ -3,6 +3,7 @@ pub mod Texts
 pub mod Hex
 pub mod Words
 pub mod Rows
+pub mod Groups
 pub mod Config
 pub mod Repeated
 pub mod Lawful

@@ -4,8 +4,11 @@ use can_frame::CanId;
 use gw_base::{Bytes, ListOf, Tick};
 use std::marker::Model;
 
-/// The cells of each buffer of the pool.
+/// The cells of each buffer of a group.
 pub type CellsList = ListOf<u32>;
+
+/// The groups of buffers, in order.
+pub type GroupList = ListOf<CellsList>;
 
 /// Names, in order.
 pub type NameList = ListOf<Bytes>;
@@ -36,8 +39,8 @@ pub struct Config {
     pub linger: u32,
     /// How the workers run.
     pub mode: Mode,
-    /// The cells of each buffer.
-    pub buffers: CellsList,
+    /// The cells of each buffer, group by group.
+    pub groups: GroupList,
     /// The buses.
     pub bus: BusList,
     /// The channels.
@@ -56,9 +59,9 @@ impl Model for Config {
 
     ghost Value = { Configuration };
 
-    ghost view = { λ c. record { period = c.period; window = c.window; linger = c.linger; mode = c.mode; buffers = c.buffers; bus = c.bus; channel = c.channel; path = c.path; interface = c.interface; cancel = c.cancel } };
+    ghost view = { λ c. record { period = c.period; window = c.window; linger = c.linger; mode = c.mode; groups = c.groups; bus = c.bus; channel = c.channel; path = c.path; interface = c.interface; cancel = c.cancel } };
 
-    ghost invariant = { λ c. IsLawful (record { period = c.period; window = c.window; linger = c.linger; mode = c.mode; buffers = c.buffers; bus = c.bus; channel = c.channel; path = c.path; interface = c.interface; cancel = c.cancel }) };
+    ghost invariant = { λ c. IsLawful (record { period = c.period; window = c.window; linger = c.linger; mode = c.mode; groups = c.groups; bus = c.bus; channel = c.channel; path = c.path; interface = c.interface; cancel = c.cancel }) };
 }
 
 /// A bus.
@@ -158,6 +161,8 @@ pub struct PathKeys {
     pub threshold: u32,
     /// Whether a unit is received whole before forwarding begins.
     pub store: bool,
+    /// The number of the group whose buffers its units are stored in, from 0.
+    pub group: u8,
 }
 
 impl Model for PathKeys {
@@ -166,9 +171,9 @@ impl Model for PathKeys {
 
     ghost Value = { PathEntry };
 
-    ghost view = { λ p. record { name = p.name; from = p.from; to = p.to; threshold = p.threshold; store = p.store } };
+    ghost view = { λ p. record { name = p.name; from = p.from; to = p.to; threshold = p.threshold; store = p.store; group = p.group } };
 
-    ghost invariant = { λ p. IsLawfulPath (record { name = p.name; from = p.from; to = p.to; threshold = p.threshold; store = p.store }) };
+    ghost invariant = { λ p. IsLawfulPath (record { name = p.name; from = p.from; to = p.to; threshold = p.threshold; store = p.store; group = p.group }) };
 }
 
 /// An interface path from one bus to another.

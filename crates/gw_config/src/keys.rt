@@ -38,7 +38,7 @@ pub const MODE: WordRow<Mode> = WordRow {
     default: Some(Mode::Serial),
 };
 
-/// The cells of each buffer of the pool.
+/// The cells of each buffer of the pool, which are one group; required where there is no `groups`, and else unknown.
 pub const BUFFERS: ListRow = ListRow {
     table: TableKind::Top,
     key: Key::Buffers,
@@ -50,6 +50,31 @@ pub const BUFFERS: ListRow = ListRow {
 pub const BUFFER: NumberRow = NumberRow {
     table: TableKind::Top,
     key: Key::Buffers,
+    low: 1,
+    high: 8192,
+    default: None,
+};
+
+/// The groups of the pool's buffers, in place of `buffers`.
+pub const GROUPS: ListRow = ListRow {
+    table: TableKind::Top,
+    key: Key::Groups,
+    least: 1,
+    most: 4,
+};
+
+/// The cells of each buffer of one group.
+pub const GROUP: ListRow = ListRow {
+    table: TableKind::Top,
+    key: Key::Groups,
+    least: 1,
+    most: 32,
+};
+
+/// The cells of one buffer of a group.
+pub const GROUP_BUFFER: NumberRow = NumberRow {
+    table: TableKind::Top,
+    key: Key::Groups,
     low: 1,
     high: 8192,
     default: None,
@@ -90,13 +115,27 @@ pub const CANCELS: CountRow = CountRow {
     high: 64,
 };
 
-/// All keys of the top table.
+/// All keys of a top table without `groups`.
 pub const TOP_KEYS: [Key; 10] = [
     Key::Period,
     Key::Window,
     Key::Linger,
     Key::Mode,
     Key::Buffers,
+    Key::Bus,
+    Key::Channel,
+    Key::Path,
+    Key::Interface,
+    Key::Cancel,
+];
+
+/// All keys of a top table with `groups`.
+pub const GROUPED_TOP_KEYS: [Key; 10] = [
+    Key::Period,
+    Key::Window,
+    Key::Linger,
+    Key::Mode,
+    Key::Groups,
     Key::Bus,
     Key::Channel,
     Key::Path,
@@ -423,8 +462,24 @@ pub const PATH_STORE: FlagRow = FlagRow {
     default: false,
 };
 
+/// The group whose buffers a path's units are stored in.
+pub const PATH_GROUP: NumberRow = NumberRow {
+    table: TableKind::Path,
+    key: Key::Group,
+    low: 0,
+    high: 3,
+    default: Some(0),
+};
+
 /// All keys of a path.
-pub const PATH_KEYS: [Key; 5] = [Key::Name, Key::From, Key::To, Key::Threshold, Key::Store];
+pub const PATH_KEYS: [Key; 6] = [
+    Key::Name,
+    Key::From,
+    Key::To,
+    Key::Threshold,
+    Key::Store,
+    Key::Group,
+];
 
 /// An interface path's name.
 pub const INTERFACE_NAME: TextRow = TextRow {

@@ -4,6 +4,7 @@
 #![tactic(auto)]
 
 mod config;
+mod groups;
 pub mod keys;
 mod lists;
 mod read;
@@ -13,7 +14,7 @@ mod words;
 
 pub use config::{
     BusKeys, BusList, CancelKeys, CancelList, CellsList, ChannelKeys, ChannelList, Config,
-    InterfaceKeys, InterfaceList, NameList, PathKeys, PathList,
+    GroupList, InterfaceKeys, InterfaceList, NameList, PathKeys, PathList,
 };
 pub use read::read_config;
 pub use rows::{CountRow, FlagRow, ListRow, NumberRow, TextRow, WordRow};

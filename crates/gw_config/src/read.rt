@@ -4,18 +4,18 @@ ghost use Rattle.gw_settings.specs.Settings.{tree};
 ghost use Rattle.gw_settings.specs.Tree.{entry_of};
 ghost use Rattle.gw_config.specs.Document.{HasFault, IfFault, Spells};
 ghost use Rattle.gw_config.specs.Outcome.{Gives};
-ghost use Rattle.gw_config.specs.Entries.{address_in, channel_keys, config_in, counts_in, entries_in, shape_in, timers_in, top_in, AddressFits, CountsFit, HasCounts, ShapeFits, TimersFit, TopFits};
+ghost use Rattle.gw_config.specs.Entries.{address_in, channel_keys, config_in, counts_in, entries_in, shape_in, timers_in, top_in, top_keys, AddressFits, CountsFit, HasCounts, ShapeFits, TimersFit, TopFits};
 ghost use Rattle.gw_config.specs.Repeated.{repeated_among};
 
 use crate::config::{
-    BusKeys, BusList, CancelKeys, CancelList, CellsList, ChannelKeys, ChannelList, Config,
+    BusKeys, BusList, CancelKeys, CancelList, ChannelKeys, ChannelList, Config, GroupList,
     InterfaceKeys, InterfaceList, PathKeys, PathList,
 };
 use crate::keys::*;
 use crate::lists::{self, Entry};
 use crate::repeated::first_repeat;
-use crate::rows;
 use crate::words::{Addressing, Mode};
+use crate::{groups, rows};
 use can_frame::CanId;
 use gw_base::Tick;
 use gw_settings::{ConfigError, ConfigFault, Key, Settings, TableKind};
@@ -82,6 +82,7 @@ impl Entry for PathKeys {
         let to = lists::texts(alloc, settings, index, PATH_TO, PATH_DESTINATION)?;
         let threshold = rows::number(settings, index, PATH_THRESHOLD)?;
         let store = rows::flag(settings, index, PATH_STORE)?;
+        let group = rows::byte(settings, index, PATH_GROUP)?;
         settings.known_only(TableKind::Path, index, &PATH_KEYS)?;
         Ok(PathKeys {
             name,
@@ -89,6 +90,7 @@ impl Entry for PathKeys {
             to,
             threshold,
             store,
+            group,
         })
     }
 }
@@ -261,7 +263,8 @@ struct Top {
     window: u32,
     linger: u32,
     mode: Mode,
-    buffers: CellsList,
+    groups: GroupList,
+    is_grouped: bool,
 }
 
 fn read_top(alloc: Global, settings: &Settings) -> Result<Top, ConfigError>
@@ -272,14 +275,27 @@ fn read_top(alloc: Global, settings: &Settings) -> Result<Top, ConfigError>
     let window = rows::number(settings, 0, WINDOW)?;
     let linger = rows::number(settings, 0, LINGER)?;
     let mode = rows::word(settings, 0, MODE)?;
-    let buffers = lists::numbers(alloc, settings, 0, BUFFERS, BUFFER)?;
+    let count = settings.groups()?;
+    let groups = groups::read_groups(alloc, settings, count)?;
     Ok(Top {
         period,
         window,
         linger,
         mode,
-        buffers,
+        groups,
+        is_grouped: count.is_some(),
     })
+}
+
+/// The keys of a top table with `groups`, or without.
+fn top_keys(is_grouped: bool) -> &'static [Key]
+    ensures { result.now ≡ top_keys is_grouped }
+{
+    if is_grouped {
+        &GROUPED_TOP_KEYS
+    } else {
+        &TOP_KEYS
+    }
 }
 
 /// How many tables there are of each kind.
@@ -364,7 +380,7 @@ fn read_settings(alloc: Global, settings: &Settings) -> Result<Config, ConfigErr
 {
     let top = read_top(alloc, settings)?;
     let counts = read_counts(settings)?;
-    settings.known_only(TableKind::Top, 0, &TOP_KEYS)?;
+    settings.known_only(TableKind::Top, 0, top_keys(top.is_grouped))?;
     let entries = read_entries(alloc, settings, counts)?;
     if let Some(fault) = repeated(&entries) {
         return Err(ConfigError::Fault(fault));
@@ -374,7 +390,7 @@ fn read_settings(alloc: Global, settings: &Settings) -> Result<Config, ConfigErr
         window: top.window,
         linger: top.linger,
         mode: top.mode,
-        buffers: top.buffers,
+        groups: top.groups,
         bus: entries.bus,
         channel: entries.channel,
         path: entries.path,
@@ -386,9 +402,9 @@ fn read_settings(alloc: Global, settings: &Settings) -> Result<Config, ConfigErr
 /// The configuration that the text spells.
 ///
 /// Else the text's first fault: `NotToml`; then of the top table's keys, in the order of the key table, `Missing`,
-/// `WrongKind` or `OutOfRange` of the first that isn't right; then `UnknownKey` of the top table; then so each entry
-/// of the buses, channels, paths, interface paths and cancellations, in order; then `Repeated` in that same order.
-/// `Memory` says nothing of the text.
+/// `WrongKind` or `OutOfRange` of the first that isn't right; then `UnknownKey` of the top table, which comes of
+/// `buffers` too where `groups` stands; then so each entry of the buses, channels, paths, interface paths and
+/// cancellations, in order; then `Repeated` in that same order. `Memory` says nothing of the text.
 pub fn read_config(alloc: Global, text: &[u8]) -> Result<Config, ConfigError>
     ensures ok { IfOk result (Spells text.now) }
     ensures fault { IfErr result (IfFault (HasFault text.now)) }

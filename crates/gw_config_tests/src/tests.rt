@@ -52,8 +52,30 @@ log = "can1.log"
 out = "can1.out"
 "#;
 
+/// A path with a group that no configuration can have.
+const PATH_OF_GROUP_4: &str = r#"groups = [[4], [4]]
+[[bus]]
+name = "can0"
+log = "can0.log"
+out = "can0.out"
+[[path]]
+name = "p"
+from = "A"
+to = ["B"]
+group = 4
+"#;
+
+/// Buffers beside groups, over a bus.
+const BUFFERS_BESIDE_GROUPS: &str = r#"buffers = [4]
+groups = [[4]]
+[[bus]]
+name = "can0"
+log = "can0.log"
+out = "can0.out"
+"#;
+
 /// Texts, and what is said of their first faults.
-const FAULTS: [(&str, &str); 8] = [
+const FAULTS: [(&str, &str); 16] = [
     ("buffers", "text: not toml"),
     ("", "buffers: missing"),
     ("linger = \"x\"", "linger: wrong kind"),
@@ -62,6 +84,14 @@ const FAULTS: [(&str, &str); 8] = [
     ("buffers = [4]\nbus = {}", "bus: wrong kind"),
     (COLOURED_BUS, "bus[0].?: unknown key"),
     (BUSES_OF_ONE_NAME, "bus[1].name: repeated"),
+    ("groups = [4]", "groups: wrong kind"),
+    ("groups = [[0], [\"x\"]]", "groups: wrong kind"),
+    ("groups = []", "groups: out of range"),
+    ("groups = [[1], [1], [1], [1], [1]]", "groups: out of range"),
+    ("groups = [[4], []]", "groups: out of range"),
+    ("groups = [[4], [8193]]", "groups: out of range"),
+    (BUFFERS_BESIDE_GROUPS, "?: unknown key"),
+    (PATH_OF_GROUP_4, "path[0].group: out of range"),
 ];
 
 #[test]
@@ -83,8 +113,8 @@ fn printed(alloc: Global, text: &[u8]) -> Result<Bytes, ConfigError> {
 }
 
 /// The base with each key that it leaves out at its default, in alphabetic order.
-const PRINTED: &str = r#"buffers = [4]
-cancel = []
+const PRINTED: &str = r#"cancel = []
+groups = [[4]]
 interface = []
 linger = 3000
 mode = "serial"
@@ -149,6 +179,7 @@ wft_max = 16
 
 [[path]]
 from = "A"
+group = 0
 name = "p"
 store = false
 threshold = 1
@@ -167,5 +198,33 @@ fn a_printed_text_reads_back(rt: HostRuntime) -> Result<(), Fail> {
     let once = printed(rt.alloc(), BASE.as_bytes())?;
     let twice = printed(rt.alloc(), once.items())?;
     assert_eq!(rt; twice.items(), once.items());
+    Ok(())
+}
+
+/// Two groups, of which a path has the second.
+const GROUPED: &str = r#"groups = [[4, 8192], [64]]
+[[bus]]
+name = "can0"
+log = "can0.log"
+out = "can0.out"
+[[path]]
+name = "p"
+from = "A"
+to = ["B"]
+group = 1
+"#;
+
+#[test]
+fn groups_are_read_in_order(rt: HostRuntime) -> Result<(), Fail> {
+    let config = read_config(rt.alloc(), GROUPED.as_bytes())?;
+    let [first, second] = config.groups.items() else {
+        return Err(Fail::from("not two groups"));
+    };
+    assert_eq!(rt; first.items(), [4, 8192].as_slice());
+    assert_eq!(rt; second.items(), [64].as_slice());
+    let [path] = config.path.items() else {
+        return Err(Fail::from("not one path"));
+    };
+    assert_eq!(rt; path.group, 1);
     Ok(())
 }

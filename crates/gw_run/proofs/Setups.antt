@@ -7,8 +7,8 @@ use Rattle.std.proofs.lemmas.Bool.Decides.{nat_tests}
 use Rattle.std.proofs.lemmas.Slice.Eq.{bytes_eq-Decides}
 use Rattle.gw_config.specs.Config.{BusEntry, ChannelEntry, Configuration, PathEntry}
 use Rattle.gw_config.specs.Lawful.{IsLawful, IsLawfulChannel}
-use Rattle.gw_config.specs.Rows.{is_frame_length, number_fits}
-use Rattle.gw_config.specs.declared.keys.TheConstants.{BUFFER}
+use Rattle.gw_config.specs.Groups.{group_fits}
+use Rattle.gw_config.specs.Rows.{is_frame_length}
 use Rattle.route_check.specs.Conflicts.{IsAccepted}
 use Rattle.route_check.specs.declared.conflict.ConflictKind.TheVariants.{MixedLength}
 use Rattle.route_check.specs.declared.conflict.Place.TheVariants.{Bus, Channel}
@@ -37,6 +37,9 @@ second-same l a b c d one other = let same : a ∷ b ∷ [] ≡ c ∷ d ∷ [] =
 only-same : {A : Type 0} (l : List A) (a b : A) → l ≡ a ∷ [] → l ≡ b ∷ [] → a ≡ b
 only-same l a b one other = let same : a ∷ [] ≡ b ∷ [] = sym one ∙ other in cc
 
+only-buffer : (groups : List (List ℕ)) (a b : ℕ) → groups ≡ (a ∷ []) ∷ [] → groups ≡ (b ∷ []) ∷ [] → a ≡ b
+only-buffer groups a b one other = let same : (a ∷ []) ∷ [] ≡ (b ∷ []) ∷ [] = sym one ∙ other in cc
+
 -- two are one where all of their fields are
 same-fields : (some other : Setup) → some.source ≡ other.source → some.destination ≡ other.destination → some.receiver ≡ other.receiver → some.sender ≡ other.sender → some.path ≡ other.path →
     some.cells ≡ other.cells → some.period ≡ other.period → some.linger ≡ other.linger → some ≡ other
@@ -54,7 +57,7 @@ setup-once c some other one two =
     (one.destination_bus ∙ ap bus_of (second-same c.bus one.source one.destination two.source two.destination one.buses two.buses) ∙ sym two.destination_bus)
     (first-same c.channel some.receiver some.sender other.receiver other.sender one.channels two.channels)
     (second-same c.channel some.receiver some.sender other.receiver other.sender one.channels two.channels) (only-same c.path some.path other.path one.paths two.paths)
-    (only-same c.buffers some.cells other.cells one.buffer two.buffer) (one.period ∙ sym two.period) (one.linger ∙ sym two.linger)
+    (only-buffer c.groups some.cells other.cells one.buffer two.buffer) (one.period ∙ sym two.period) (one.linger ∙ sym two.linger)
 
 -- ---- why a configuration isn't built
 
@@ -87,9 +90,9 @@ in-range : (low high n : ℕ) → (nat_le low n && nat_le n high) ≡ true → (
 in-range low high n is = grind (arith, nat_tests)
 
 -- the one buffer has a lawful size
-only-cells : (buffers : List ℕ) (cells : ℕ) → list_all (number_fits BUFFER) buffers ≡ true → buffers ≡ cells ∷ [] → (1 ≤ cells) × (cells ≤ 8192)
-only-cells buffers cells all is =
-    let fits : (nat_le 1 cells && nat_le cells 8192 && true) ≡ true = subst (λ l. list_all (number_fits BUFFER) l ≡ true) is all in
+only-cells : (groups : List (List ℕ)) (cells : ℕ) → list_all group_fits groups ≡ true → groups ≡ (cells ∷ []) ∷ [] → (1 ≤ cells) × (cells ≤ 8192)
+only-cells groups cells all is =
+    let fits : (((nat_le 1 cells && nat_le cells 8192) && true) && true) ≡ true = subst (λ l. list_all group_fits l ≡ true) is all in
     grind (arith, nat_tests)
 
 all-three : (a b : Bool) → (a && b) ≡ true → (a && true && b) ≡ true
@@ -108,13 +111,13 @@ fits-bus c place other channel bus accepted there here on true is =
 frame-size : (dl : ℕ) → is_frame_length dl ≡ true → is_frame_size dl ≡ true
 frame-size dl is = grind (arith, nat_tests)
 
-pub lawful_numbers : (c : Configuration) (setup : Setup) → IsLawful c → c.buffers ≡ setup.cells ∷ [] → setup.period ≡ c.period → setup.linger ≡ c.linger →
+pub lawful_numbers : (c : Configuration) (setup : Setup) → IsLawful c → c.groups ≡ (setup.cells ∷ []) ∷ [] → setup.period ≡ c.period → setup.linger ≡ c.linger →
     IsLawfulChannel setup.receiver → IsLawfulChannel setup.sender → setup.source.out ≢ setup.destination.out →
     2 ≤ setup.source.budget → 2 ≤ setup.destination.budget → FitsBus setup.source setup.receiver → FitsBus setup.destination setup.sender → HasLawfulNumbers setup
 lawful_numbers c setup lawful buffer period_is linger_is received sent apart source_budget destination_budget received_fits sent_fits =
     let ticks = in-range 1 1_000_000 c.period lawful.period in
     let on = in-range 0 1_000_000 c.linger lawful.linger in
-    let size = only-cells c.buffers setup.cells lawful.buffers buffer in
+    let size = only-cells c.groups setup.cells lawful.groups buffer in
     record {
       apart = apart;
       some_cells = size.0;

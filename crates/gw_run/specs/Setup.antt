@@ -84,8 +84,9 @@ bus_of keys = record { interface = keys.name; log = keys.log; out = keys.out; fd
 pub record IsBaseBus (bus : BusEntry) : Type 0 where
   pub budget : 2 ≤ bus.budget
 
--- the path from the one channel to the other
+-- the path from the one channel to the other, with the buffers of the first group
 pub record IsBasePath (from to : List ℕ) (path : PathEntry) : Type 0 where
+  pub group_is : path.group ≡ 0
   pub from_is : path.from ≡ from
   pub to_is : path.to ≡ to ∷ []
 
@@ -96,13 +97,13 @@ pub record HasBaseTop (config : Configuration) : Type 0 where
   pub interface : config.interface ≡ []
   pub cancel : config.cancel ≡ []
 
--- the configuration is built, and this is what it leaves free: all but the form, with one buffer, two buses, a channel on each,
+-- the configuration is built, and this is what it leaves free: all but the form, with one group of one buffer, two buses, a channel on each,
 -- and a path from the one to the other
 pub record IsBuiltConfig (config : Configuration) (setup : Setup) : Type 0 where
   pub top : HasBaseTop config
   pub source : BusEntry
   pub destination : BusEntry
-  pub buffer : config.buffers ≡ setup.cells ∷ []
+  pub buffer : config.groups ≡ (setup.cells ∷ []) ∷ []
   pub buses : config.bus ≡ source ∷ destination ∷ []
   pub channels : config.channel ≡ setup.receiver ∷ setup.sender ∷ []
   pub paths : config.path ≡ setup.path ∷ []

@@ -1,4 +1,4 @@
-//! The one form of configuration that is run: a buffer, two buses with a channel on each, and a path from the one to the other.
+//! The one form of configuration that is run: one group of one buffer, two buses with a channel on each, and a path from the one to the other.
 ghost use Rattle.std.specs.Prelude.{◌≡◌, ◌≢◌, [], ◌∷◌, ℕ, MatchBool, MatchOption};
 ghost use Rattle.route_check.specs.Conflicts.{IsAccepted};
 ghost use Rattle.gw_run.specs.Setup.{IsBaseBus, IsBasePath, IsBuiltConfig, HasBaseTop};
@@ -25,10 +25,13 @@ fn is_on(bus: &[u8], channel: &ChannelKeys) -> bool
     are_same(channel.bus.items(), bus)
 }
 
-/// Whether the path leads from the one channel to the other alone.
+/// Whether the path leads from the one channel to the other alone, with the buffers of the first group.
 fn is_base_path(from: &[u8], to: &[u8], path: &PathKeys) -> bool
     ensures { MatchBool result (IsBasePath from.now to.now path.now) (¬ IsBasePath from.now to.now path.now) }
 {
+    if path.group != 0 {
+        return false;
+    }
     let [destination] = path.to.items() else {
         return false;
     };
@@ -54,11 +57,14 @@ fn has_base_top(config: &Config) -> bool
     config.cancel.items().is_empty()
 }
 
-/// The cells of the one buffer; None exactly where there are several.
+/// The cells of the one buffer of the one group; None exactly where there are several.
 fn one_buffer(config: &Config) -> Option<u32>
-    ensures { MatchOption result ((cells : ℕ) → config.now.buffers ≢ cells ∷ []) (λ cells. config.now.buffers ≡ cells ∷ []) }
+    ensures { MatchOption result ((cells : ℕ) → config.now.groups ≢ (cells ∷ []) ∷ []) (λ cells. config.now.groups ≡ (cells ∷ []) ∷ []) }
 {
-    let [cells] = config.buffers.items() else {
+    let [group] = config.groups.items() else {
+        return None;
+    };
+    let [cells] = group.items() else {
         return None;
     };
     Some(*cells)

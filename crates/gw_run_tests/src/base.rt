@@ -50,6 +50,9 @@ pub(crate) const SAME_ADDRESS: Change = (
     "to = [\"B\"]\n[[channel]]\nname = \"C\"\nbus = \"can0\"\nrx = \"700\"\ntx = \"70A\"\n",
 );
 
+/// Two groups in place of the buffers.
+pub(crate) const TWO_GROUPS: Change = ("buffers = [4]", "groups = [[4], [4]]");
+
 /// A file that is there.
 pub(crate) const EMPTY: &[u8] = b"";
 

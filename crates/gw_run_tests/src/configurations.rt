@@ -2,7 +2,7 @@
 
 use crate::base::{
     AS_IT_IS, BAD, CHECK, CONFIGURATION, Change, EMPTY, NOTHING, Outcome, RESULTS, RUN,
-    SAME_ADDRESS, changed, depot_with, expect,
+    SAME_ADDRESS, TWO_GROUPS, changed, depot_with, expect,
 };
 use gw_depot::{MemDepot, MemSink};
 use std::test::Fail;
@@ -14,10 +14,11 @@ const BOTH: &[&[&str]] = &[CHECK, RUN];
 
 /// A change of the configuration, the bytes that line feeds after it fill up, commands, their exit code, and what is
 /// said.
-const CONFIGURATIONS: [(Change, usize, &[&[&str]], u8, &[u8]); 11] = [
+const CONFIGURATIONS: [(Change, usize, &[&[&str]], u8, &[u8]); 14] = [
     (AS_IT_IS, 0, CHECK_ALONE, 0, b"accepted\n"),
     (AS_IT_IS, 65_536, CHECK_ALONE, 0, b"accepted\n"),
     (("", "window = 2\n"), 0, CHECK_ALONE, 0, b"accepted\n"),
+    (TWO_GROUPS, 0, CHECK_ALONE, 0, b"accepted\n"),
     (AS_IT_IS, 65_537, BOTH, 7, b"limit config-bytes 65537\n"),
     (
         (CONFIGURATION, ""),
@@ -33,6 +34,13 @@ const CONFIGURATIONS: [(Change, usize, &[&[&str]], u8, &[u8]); 11] = [
         BOTH,
         2,
         b"config linger: wrong kind\n",
+    ),
+    (
+        ("", "groups = [[4]]\n"),
+        0,
+        BOTH,
+        2,
+        b"config ?: unknown key\n",
     ),
     (
         ("name = \"can1\"", "name = \"can0\""),
@@ -61,6 +69,13 @@ const CONFIGURATIONS: [(Change, usize, &[&[&str]], u8, &[u8]); 11] = [
         BOTH,
         2,
         b"config: same-address channel 0 channel 2\n",
+    ),
+    (
+        ("to = [\"B\"]\n", "to = [\"B\"]\ngroup = 1\n"),
+        0,
+        BOTH,
+        2,
+        b"config: no-buffer path 0 bus 0\n",
     ),
 ];
 

@@ -2,7 +2,7 @@
 
 use crate::base::{
     AS_IT_IS, BAD, CONFIGURATION, Change, EMPTY, NOTHING, Outcome, RESULTS, RUN, SAME_ADDRESS,
-    SHORT, changed, depot_with, expect,
+    SHORT, TWO_GROUPS, changed, depot_with, expect,
 };
 use gw_depot::MemSink;
 use std::alloc::Global;
@@ -50,7 +50,7 @@ const UNBUILT: &[u8] = b"unbuilt configuration\n";
 /// A change of the configuration, the report's name, the exit code, and what is said. The log of can0 is bad.
 type ConfigurationRow = (Change, &'static str, u8, &'static [u8]);
 
-const REFUSED_CONFIGURATIONS: [ConfigurationRow; 9] = [
+const REFUSED_CONFIGURATIONS: [ConfigurationRow; 10] = [
     // A report that is a log or an output.
     (AS_IT_IS, "can0.log", 2, b"config bus[0].log: repeated\n"),
     (AS_IT_IS, "can0.out", 2, b"config bus[0].out: repeated\n"),
@@ -63,6 +63,7 @@ const REFUSED_CONFIGURATIONS: [ConfigurationRow; 9] = [
     ),
     // Accepted configurations that aren't built.
     (("[4]", "[4, 4]"), "gw.report", 9, UNBUILT),
+    (TWO_GROUPS, "gw.report", 9, UNBUILT),
     (("", "window = 2\n"), "gw.report", 9, UNBUILT),
     (("", "mode = \"threads\"\n"), "gw.report", 9, UNBUILT),
     (

@@ -19,7 +19,7 @@ pub(crate) type Row = (
     &'static [u8],
 );
 
-const RUNS: [Row; 23] = [
+const RUNS: [Row; 24] = [
     // No frame, and defaults that are written out.
     (
         (
@@ -61,6 +61,14 @@ const RUNS: [Row; 23] = [
     // A single frame.
     (
         AS_IT_IS,
+        [SHORT, EMPTY],
+        [EMPTY, SHORT_SENT],
+        SHORT_REPORT,
+        DONE,
+    ),
+    // The same, with the one group by its key.
+    (
+        ("buffers = [4]", "groups = [[4]]"),
         [SHORT, EMPTY],
         [EMPTY, SHORT_SENT],
         SHORT_REPORT,

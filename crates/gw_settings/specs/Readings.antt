@@ -1,9 +1,11 @@
 -- What a value is read as, or why it can't be.
 use Rattle.std.specs.Prelude.{ℕ, ℤ, ◌-◌, ◌^◌, min, ◌&&◌, Bool, false, List, length, Option, Some, None, Result, Ok, Err, is_some, if◌then◌else◌, int_le, ◌≤ℤ◌, IfSome}
 use Rattle.std.specs.List.{list_all, list_any}
+use Rattle.std.specs.Result.{result_ok}
 use Rattle.std.specs.Str.{bytes_eq}
 use Rattle.toml.specs.Data.{Data, string, integer, boolean, array, table, Items, as_array, as_integer, as_str, as_table}
 use Rattle.gw_settings.specs.declared.key.Key.{Key}
+use Rattle.gw_settings.specs.declared.key.Key.TheVariants.{Groups}
 use Rattle.gw_settings.specs.declared.fault.FaultKind.{FaultKind}
 use Rattle.gw_settings.specs.declared.fault.FaultKind.TheVariants.{Missing, WrongKind, OutOfRange, UnknownKey}
 use Rattle.gw_settings.specs.declared.fault.ConfigFault.{ConfigFault}
@@ -11,7 +13,7 @@ use Rattle.gw_settings.specs.declared.table_kind.TableKind.{TableKind}
 use Rattle.gw_settings.specs.declared.table_kind.TableKind.TheVariants.{Top}
 use Rattle.gw_settings.specs.Faults.{placed}
 use Rattle.gw_settings.specs.Names.{key_name, array_key}
-use Rattle.gw_settings.specs.Tree.{elements, names, value_in, value_at, element_at}
+use Rattle.gw_settings.specs.Tree.{elements, names, value_in, value_at, element_at, group_element}
 
 -- an integer from `low` to `high`
 abbrev pub integer_in : ℤ → ℤ → Data → Result ℤ FaultKind
@@ -52,6 +54,14 @@ integers_in value = all_of (λ element. is_some (as_integer element)) (as_array 
 abbrev pub texts_in : Data → Result ℕ FaultKind
 texts_in value = all_of (λ element. is_some (as_str element)) (as_array value)
 
+-- an array of integers alone
+abbrev pub is_group : Data → Bool
+is_group value = is_some (result_ok (integers_in value))
+
+-- an array of such arrays alone: the number of its elements
+abbrev pub groups_in : Data → Result ℕ FaultKind
+groups_in value = all_of is_group (as_array value)
+
 -- the number, if there is one, is from `low` to `high`
 abbrev pub IsWithin : ℤ → ℤ → Option ℤ → Type 0
 IsWithin low high found = IfSome found (λ number. (low ≤ℤ number) × (number ≤ℤ high))
@@ -80,6 +90,18 @@ setting read root kind index key = placed kind index key (optional read (value_a
 abbrev pub setting_item : {A : Type 0} → (Data → Result A FaultKind) → Data → TableKind → ℕ → Key → ℕ →
     Result A ConfigFault
 setting_item read root kind index key at = placed kind index key (required read (element_at root kind index key at))
+
+-- the number of groups, None where the key is absent, or its fault in the top table
+abbrev pub group_count : Data → Result (Option ℕ) ConfigFault
+group_count root = setting groups_in root Top 0 Groups
+
+-- the number of elements of the group of this number, or its fault in the top table
+abbrev pub group_size : Data → ℕ → Result ℕ ConfigFault
+group_size root group = setting_item items_in root Top 0 Groups group
+
+-- the integer of this number in a group, from `low` to `high`, or its fault in the top table
+abbrev pub group_integer : ℤ → ℤ → Data → ℕ → ℕ → Result ℤ ConfigFault
+group_integer low high root group n = placed Top 0 Groups (required (integer_in low high) (group_element root group n))
 
 -- the number of tables of this kind, None where their array is absent, or its fault in the top table
 abbrev pub table_count : Data → TableKind → Result (Option ℕ) ConfigFault

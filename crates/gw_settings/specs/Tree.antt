@@ -4,6 +4,7 @@ use Rattle.std.specs.Option.{option_and_then}
 use Rattle.toml.specs.Data.{Data, table, Items, no_items, item, Members, no_members, member, get, at}
 use Rattle.toml.specs.Parse.{parse_document}
 use Rattle.gw_settings.specs.declared.key.Key.{Key}
+use Rattle.gw_settings.specs.declared.key.Key.TheVariants.{Groups}
 use Rattle.gw_settings.specs.declared.table_kind.TableKind.{TableKind}
 use Rattle.gw_settings.specs.declared.table_kind.TableKind.TheVariants.{Top}
 use Rattle.gw_settings.specs.declared.fault.ConfigError.{ConfigError}
@@ -40,6 +41,10 @@ value_at root kind index key = option_and_then (λ entry. value_in entry key) (e
 -- the element of this number of an array key
 abbrev pub element_at : Data → TableKind → ℕ → Key → ℕ → Option Data
 element_at root kind index key n = option_and_then (at n) (value_at root kind index key)
+
+-- the element of this number of the group of that number
+abbrev pub group_element : Data → ℕ → ℕ → Option Data
+group_element root group n = option_and_then (at n) (element_at root Top 0 Groups group)
 
 -- the elements of an array, in order
 abbrev pub elements : Items → List Data

@@ -14,8 +14,10 @@ pub enum Key {
     Linger,
     /// `mode`: how the workers run.
     Mode,
-    /// `buffers`: the sizes of the pool's buffers.
+    /// `buffers`: the sizes of the pool's buffers, which are one group.
     Buffers,
+    /// `groups`: the sizes of the pool's buffers, group by group.
+    Groups,
     /// `bus`: the buses, or a channel's bus.
     Bus,
     /// `channel`: the channels.
@@ -82,6 +84,8 @@ pub enum Key {
     Threshold,
     /// `store`: whether a unit is stored whole before it is forwarded.
     Store,
+    /// `group`: the group of a path's buffers.
+    Group,
     /// `from_bus`: the bus that an interface path leads from.
     FromBus,
     /// `from_id`: the identifier that an interface path takes.
@@ -113,6 +117,7 @@ impl Key {
             Key::Linger => Some("linger"),
             Key::Mode => Some("mode"),
             Key::Buffers => Some("buffers"),
+            Key::Groups => Some("groups"),
             Key::Bus => Some("bus"),
             Key::Channel => Some("channel"),
             Key::Path => Some("path"),
@@ -146,6 +151,7 @@ impl Key {
             Key::To => Some("to"),
             Key::Threshold => Some("threshold"),
             Key::Store => Some("store"),
+            Key::Group => Some("group"),
             Key::FromBus => Some("from_bus"),
             Key::FromId => Some("from_id"),
             Key::ToBus => Some("to_bus"),

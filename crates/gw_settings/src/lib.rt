@@ -4,6 +4,7 @@
 #![tactic(auto)]
 
 mod fault;
+mod groups;
 mod key;
 mod settings;
 mod table_kind;

@@ -240,14 +240,14 @@ impl Settings {
     }
 
     /// The value of a key.
-    fn value(&self, table: TableKind, index: u32, key: Key) -> Option<&Value>
+    pub(crate) fn value(&self, table: TableKind, index: u32, key: Key) -> Option<&Value>
         ensures { option_map (λ value. view value.now) result ≡ value_at (tree self.now) table index key }
     {
         member(self.entry(table, index)?, key)
     }
 
     /// The element numbered `at` of an array key.
-    fn element(&self, table: TableKind, index: u32, key: Key, at: u32) -> Option<&Value>
+    pub(crate) fn element(&self, table: TableKind, index: u32, key: Key, at: u32) -> Option<&Value>
         ensures { option_map (λ value. view value.now) result ≡ element_at (tree self.now) table index key at }
     {
         self.value(table, index, key)?.get(at as usize)
@@ -278,7 +278,7 @@ fn parse_error(error: toml::de::Error) -> ConfigError
 }
 
 /// The fault of a value of another kind.
-fn wrong_kind(table: TableKind, index: u32, key: Key) -> ConfigFault
+pub(crate) fn wrong_kind(table: TableKind, index: u32, key: Key) -> ConfigFault
     ensures { result ≡ fault_at table index key FaultKind.WrongKind }
 {
     ConfigFault {
@@ -290,7 +290,7 @@ fn wrong_kind(table: TableKind, index: u32, key: Key) -> ConfigFault
 }
 
 /// The integer that the value is, from `low` to `high`.
-fn integer_in(value: &Value, low: i64, high: i64) -> Result<i64, FaultKind>
+pub(crate) fn integer_in(value: &Value, low: i64, high: i64) -> Result<i64, FaultKind>
     ensures value { result ≡ integer_in low high (view value.now) }
     ensures within { IfOk result (λ number. IsWithin low high (Some number)) }
 {
@@ -305,7 +305,7 @@ fn integer_in(value: &Value, low: i64, high: i64) -> Result<i64, FaultKind>
 }
 
 /// The number of elements, where the value is an array.
-fn items_in(value: &Value) -> Option<u32>
+pub(crate) fn items_in(value: &Value) -> Option<u32>
     ensures { result ≡ result_ok (items_in (view value.now)) }
 {
     Some(count_of(value.as_array()?))
@@ -331,7 +331,7 @@ fn are_tables(values: &[Value]) -> bool
 }
 
 /// The number of elements, where the value is an array of integers alone.
-fn integers_in(value: &Value) -> Option<u32>
+pub(crate) fn integers_in(value: &Value) -> Option<u32>
     ensures { result ≡ result_ok (integers_in (view value.now)) }
 {
     let array = value.as_array()?;
@@ -370,7 +370,7 @@ fn are_texts(values: &[Value]) -> bool
 
 /// The number of elements, at most what a `u32` holds.
 #[tactic(auto, using(crate::proofs::TreeLemmas::element_counts))]
-fn count_of(array: &Array) -> u32
+pub(crate) fn count_of(array: &Array) -> u32
     ensures { result ≡ count_of (array_view array.now) }
 {
     array.as_slice().len().min(u32::MAX as usize) as u32

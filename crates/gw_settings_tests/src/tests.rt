@@ -7,6 +7,7 @@ window = 1001
 linger = \"x\"
 mode = \"serial\"
 buffers = [4, \"x\"]
+groups = [[4, 64], [0]]
 path = [3]
 [[bus]]
 name = \"can0\"
@@ -86,6 +87,22 @@ fn elements(rt: HostRuntime) -> Result<(), Fail> {
     let wrong = settings.integer_at(TableKind::Top, 0, Key::Buffers, 1, 1, 8192);
     assert_eq!(rt; wrong, Err(at_top(FaultKind::WrongKind, Key::Buffers)));
     assert_eq!(rt; settings.text_at(TableKind::Top, 0, Key::Buffers, 1)?, "x");
+    Ok(())
+}
+
+#[test]
+fn groups(rt: HostRuntime) -> Result<(), Fail> {
+    let settings = Settings::parse(rt.alloc(), TEXT.as_bytes())?;
+    assert_eq!(rt; settings.groups()?, Some(2));
+    assert_eq!(rt; settings.group_size(0)?, 2);
+    assert_eq!(rt; settings.group_integer(0, 1, 1, 8192)?, 64);
+    let low = settings.group_integer(1, 0, 1, 8192);
+    assert_eq!(rt; low, Err(at_top(FaultKind::OutOfRange, Key::Groups)));
+    let flat = Settings::parse(rt.alloc(), b"groups = [[4], 4]".as_slice())?;
+    assert_eq!(rt;
+        flat.groups(),
+        Err(at_top(FaultKind::WrongKind, Key::Groups))
+    );
     Ok(())
 }
 

@@ -1,8 +1,8 @@
--- What a port's take says, from what the seat's last exchange told.
-use Rattle.std.proofs.Common.{◌≡◌, ℕ, List, Some, refl, ap, sym, ◌∙◌, subst, arith}
+-- What a port's take and its look for a session say, from what the seat's steps told.
+use Rattle.std.proofs.Common.{◌≡◌, ℕ, List, Option, Some, None, refl, ap, sym, ◌∙◌, subst, arith}
 use Rattle.hub_core.proofs.Fresh.{rise-same}
-use Rattle.hub_core.proofs.Growing.{at_one-same, by-took, by-refused}
-use Rattle.hub_core.specs.Calls.{Answers, SameParties, TakeUsed, took_of}
+use Rattle.hub_core.proofs.Growing.{at_one-same, by-joining, by-missed, by-took, by-refused}
+use Rattle.hub_core.specs.Calls.{Answers, ByReader, SameParties, TakeUsed, joins, next_of, took_of}
 use Rattle.hub_core.specs.Floors.{Floors, Rise}
 use Rattle.hub_core.specs.Past.{event_of}
 use Rattle.hub_core.specs.Stays.{Stays}
@@ -10,6 +10,7 @@ use Rattle.hub_core.specs.View.{View, Taking, Took, grow}
 use Rattle.hub_core.specs.declared.port.Take.{Take}
 use Rattle.hub_core.specs.declared.port.Take.TheVariants.{Granted, Overflow}
 use Rattle.hub_core.specs.declared.token.Held.{Held}
+use Rattle.hub_core.specs.declared.token.Joined.{Joined}
 use Rattle.hub_shared.proofs.Histories.{goes-did}
 use Rattle.hub_shared.specs.History.{SeatState, state_of}
 use Rattle.hub_shared.specs.Seats.{as_port, seat_view}
@@ -34,6 +35,11 @@ answers groups group need word v w (Overflow change free) is number so = so
 by-take : (group need : ℕ) (v w : View) (take : Take) → w ≡ grow (took_of group need take) v → SameParties v w
 by-take group need v w (Granted change held) is = by-took group change held.buf.0 held.cells need v w is
 by-take group need v w (Overflow change free) is = by-refused group change free need v w is
+
+-- what a look for a session changes
+pub by-next : (group path dest seq : ℕ) (v w : View) (found : Option Joined) → w ≡ grow (next_of group path dest seq found) v → ByReader path dest (joins found) v w
+by-next group path dest seq v w None is = by-missed group path dest seq v w is
+by-next group path dest seq v w (Some t) is = by-joining path dest seq t.buf.0 t.len v w is
 
 module _ (groups : List (List ℕ)) (group need : ℕ) (old new : HubSeat) (take : Take) (so : IsTaken groups group need old.seat.me new.seat.me take) where
   state : state_of new.seat.me.0.entries ≡ record { view = grow (took_of group need take) (seat_view old); part = (state_of old.seat.me.0.entries).part }

@@ -76,6 +76,7 @@ pub shown-on : (groups : List (List ℕ)) (words : List ℕ) (group word : ℕ) 
 shown-on groups words group word core next there sessions readings so = subst (λ (x : (ℕ → List Session) × (ℕ → ℕ → List Reading)). ShowCards groups (set words group word) (record next { sessions = x.0; readings = x.1 })) (λ i. (sym sessions i, sym readings i)) (record {
   cards = λ path seq s at some. get_or-set_other words group (place_of_word groups (Card s.buf)) word 0 (λ e. past-card s.buf e) ∙ so.cards path seq s at some;
   lengths = λ path seq s at some. get_or-set_other words group (place_of_word groups (Length s.buf)) word 0 (λ e. past-length s.buf e) ∙ so.lengths path seq s at some;
+  small = so.small;
   empty = λ buf below none. ap (λ (n : ℕ). n % 2 ^ 9) (get_or-set_other words group (place_of_word groups (Card buf)) word 0 (λ e. past-card buf e)) ∙ so.empty buf below none;
 })
   where

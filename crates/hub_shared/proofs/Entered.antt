@@ -1,5 +1,5 @@
 -- The card of a session is stored in a buffer that the seat holds, and so the session is entered.
-use Rattle.std.proofs.Common.{◌≡◌, ◌≢◌, ℕ, ◌+◌, ◌%◌, ◌^◌, ◌<◌, inl, inr, zero, suc, Bool, true, false, List, [], ◌∷◌, ◌++◌, length, set, get_or, Option, Some, None, refl, ap, sym, ◌∙◌, subst, arith, length-set, get_or-set_same}
+use Rattle.std.proofs.Common.{◌≡◌, ◌≢◌, ℕ, ◌+◌, ◌%◌, ◌^◌, ◌<◌, ◌≤◌, inl, inr, zero, suc, Bool, true, false, List, [], ◌∷◌, ◌++◌, length, set, get_or, Option, Some, None, refl, ap, sym, ◌∙◌, subst, arith, length-append, length-set, get_or-set_same}
 use Rattle.std.proofs.lemmas.Bool.Decides.{eqb_tells}
 use Rattle.std.proofs.lemmas.List.{get_or-set_other}
 use Rattle.std.proofs.lemmas.Option.{slice_get_within}
@@ -15,20 +15,21 @@ use Rattle.hub_core.specs.Core.{Does, MayDo}
 use Rattle.hub_core.specs.Floors.{Rise, floors_of, has_left}
 use Rattle.hub_core.specs.Groups.{all_sizes}
 use Rattle.hub_core.specs.Joint.{IsFreed, IsOver, IsQuiet}
-use Rattle.hub_core.specs.View.{View, Taking, Session, Reading, Event, Entered, session_new, session_at, reading_at, empty_view, grow}
+use Rattle.hub_core.specs.View.{View, Taking, Session, Reading, Event, Entered, at_one, session_new, session_at, reading_at, empty_view, grow}
 use Rattle.hub_layout.proofs.Places.{differ, within}
 use Rattle.hub_layout.specs.Places.{Card, Length}
 use Rattle.pool_words.proofs.Bits.{power}
 use Rattle.pool_words.specs.Pools.{pool_of}
 use Rattle.hub_shared.proofs.Cores.{HubState, law}
+use Rattle.hub_shared.proofs.Counted.{count-used}
 use Rattle.hub_shared.proofs.Dealt.{each-set, total-set, dealt-same}
 use Rattle.hub_shared.proofs.Enters.{apart, card-length, held-there, held-whole, session-there}
 use Rattle.hub_shared.proofs.Histories.{Goes, goes-did}
 use Rattle.hub_shared.proofs.Holding.{held-same, held-used}
 use Rattle.hub_shared.proofs.Parties.{of-one-own, of-one-same}
 use Rattle.hub_shared.proofs.Steps.{IsLength, knows-on}
-use Rattle.hub_shared.specs.Cards.{ShowCards, card_of, dests_of, parties_of, place_of_word}
-use Rattle.hub_shared.specs.Counts.{IsOfOne, IsHeldByOne}
+use Rattle.hub_shared.specs.Cards.{IsSmall, ShowCards, card_of, dests_of, parties_of, place_of_word}
+use Rattle.hub_shared.specs.Counts.{count_held, IsOfOne, IsHeldByOne}
 use Rattle.hub_shared.specs.History.{state_of}
 use Rattle.hub_shared.specs.Plays.{SeatMe, entered, entry_of, with_deed}
 use Rattle.hub_shared.specs.Rule.{HandKnows, Knows, Kept}
@@ -66,6 +67,7 @@ pub record CanEnter (m : SeatMe) (o : Opening) (parties : ℕ) : Type 0 where
   pub some_len : 0 < o.len
   pub some_readers : 0 < o.readers
   pub all : parties + 1 ≡ 2 ^ (o.readers + 1)
+  pub small : IsSmall o.path (session_of o)
 
 module _ (groups : List (List ℕ)) (id : ℕ) (m : SeatMe) (o : Opening) (parties : ℕ) (can : CanEnter m o parties) (s : HubState) (k : Kept groups s) (at : get_elem? s.views id ≡ some m.0) where
   abbrev next : View
@@ -159,6 +161,7 @@ module _ (groups : List (List ℕ)) (id : ℕ) (m : SeatMe) (o : Opening) (parti
         (λ some. get_or-set_other s.words p (place_of_word groups (Length o.buf)) (card_of o.path o.seq parties) 0 (λ e. card-length groups o.buf o.buf there there (sym e)) ∙ prepared-is.1)
         (λ was some. get_or-set_other s.words p (place_of_word groups (Length t.buf)) (card_of o.path o.seq parties) 0 (λ e. card-length groups o.buf t.buf there (session-there groups s k path seq t was) (sym e)) ∙ k.shown.lengths path seq t was some)
         stands;
+    small = λ path seq t is. either-session path seq t is (λ q j u. IsSmall q u) can.small (λ was. k.shown.small path seq t was);
     empty = λ buf below none-here. elim (eqb_tells buf o.buf) [
       | inl same ↦ absurd (let zero-is = none-here o.path o.seq new pushed (sym same.1) in omega (arith, zero-is))
       | inr other ↦ ap (λ (n : ℕ). n % 2 ^ 9) (get_or-set_other s.words p (place_of_word groups (Card buf)) (card_of o.path o.seq parties) 0 (card-card groups buf o.buf below there other.1))
@@ -192,6 +195,17 @@ module _ (groups : List (List ℕ)) (id : ℕ) (m : SeatMe) (o : Opening) (parti
         (held-same _ _ s.views (k.holders buf) id m.0 at w (ap (λ x. x.view.held buf) went.is ∙ at_one-other o.buf buf None (view_of m.0).held other.1))
   ]
 
+  more-entered : (path : ℕ) → length (next.sessions path) + count_held next.held (length (all_sizes groups)) ≤ length next.changes
+  unfolding grow
+  more-entered path =
+      let used = count-used k.core.held o.buf (length (all_sizes groups)) h there whole in
+      let before = k.entered path in
+      elim (eqb_tells path o.path) [
+        | inl same ↦ (let list = ap (λ (q : ℕ). length (at_one o.path (k.core.sessions o.path ++ new ∷ []) k.core.sessions q)) same.1 ∙ ap (λ (l : List Session). length l) (at_one-same o.path (k.core.sessions o.path ++ new ∷ []) k.core.sessions) in
+            omega (arith, used, before, list, length-append (k.core.sessions o.path) (new ∷ []), ap (λ (q : ℕ). length (k.core.sessions q)) same.1))
+        | inr other ↦ (let list = ap (λ (l : List Session). length l) (at_one-other o.path path (k.core.sessions o.path ++ new ∷ []) k.core.sessions other.1) in omega (arith, used, before, list))
+      ]
+
   length-stays : (other : Opening) → other.buf < length (all_sizes groups) → IsLength groups s.words other → IsLength groups words other
   length-stays other below is = get_or-set_other s.words p (place_of_word groups (Length other.buf)) (card_of o.path o.seq parties) 0 (λ e. card-length groups o.buf other.buf there below (sym e)) ∙ is
 
@@ -209,12 +223,13 @@ module _ (groups : List (List ℕ)) (id : ℕ) (m : SeatMe) (o : Opening) (parti
     writers = writers;
     readers = λ path dest. of-one-same _ _ _ s.views (k.readers path dest) id m.0 at w (ap (λ x. x.part.reads path dest) went.is) (ap (λ x. x.view.readings path dest) went.is);
     holders = holders;
+    entered = more-entered;
     shown = shown;
     takes = let t = total-set (λ u. u.takes) s.views id m.0 w at in omega (arith, t, k.takes);
     parts = let t = total-set (λ u. u.parts) s.views id m.0 w at in omega (arith, t, k.parts);
     each = each-set (λ j u. 0 < u.parts → Knows groups next words u) s.views id w
         (λ some-part. record { groups_are = known.groups_are; whole = went.whole; floors = rise-twice (floors_at m.0) (floors_of groups k.core) (floors_of groups next) known.floors rise; hand = tt })
-        (λ j u other is some-part. knows-on groups k.core next s.words words rise (λ g word so. so) u
+        (λ j u other is some-part. knows-on groups k.core next s.words words rise (λ g word so. so) (λ path seq t is. (t, still-there path seq t is, refl, refl)) u
         (λ o' theirs so. length-stays o' (held-there groups s k o'.buf (record { number = o'.change; size = o'.cells }) (held-whole groups s k j u is o'.buf (record { number = o'.change; size = o'.cells }) theirs)) so) (k.each j u is some-part));
     spent_is = each-set (λ j u. u.parts ≡ 0 → u.entries ≡ []) s.views id w (λ nothing. absurd (omega (arith, nothing, can.live))) (λ j u other is. k.spent_is j u is);
   }

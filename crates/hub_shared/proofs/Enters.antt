@@ -22,7 +22,7 @@ use Rattle.hub_shared.proofs.Cores.{HubState, lawful}
 use Rattle.hub_shared.proofs.Dealt.{each-set, total-set, dealt-same}
 use Rattle.hub_shared.proofs.Holding.{held-same, others-none}
 use Rattle.hub_shared.proofs.Parties.{of-one-same}
-use Rattle.hub_shared.proofs.Steps.{Goes, knows-on, same-word, stays}
+use Rattle.hub_shared.proofs.Steps.{Goes, knows-on, same-stay, same-word, stays}
 use Rattle.hub_shared.specs.Cards.{dests_of, parties_of, place_of_word}
 use Rattle.hub_shared.specs.Counts.{counts_one}
 use Rattle.hub_shared.specs.Plays.{SeatMe, IsEntering, entering, prepared}
@@ -101,17 +101,19 @@ prepares groups slots id m o live hand holds s k long at low = (
     writers = λ path. of-one-same _ _ _ s.views (k.writers path) id m.0 at w refl refl;
     readers = λ path dest. of-one-same _ _ _ s.views (k.readers path dest) id m.0 at w refl refl;
     holders = λ buf. held-same _ _ s.views (k.holders buf) id m.0 at w refl;
+    entered = k.entered;
     shown = record {
       cards = λ path seq t is stands. get_or-set_other s.words p (place_of_word groups (Card t.buf)) o.len 0 (card-length groups t.buf o.buf (session-there groups s k path seq t is) there) ∙ k.shown.cards path seq t is stands;
       lengths = λ path seq t is stands.
           get_or-set_other s.words p (place_of_word groups (Length t.buf)) o.len 0 (length-length groups t.buf o.buf (session-there groups s k path seq t is) there (apart groups s k o.buf h whole path seq t is stands)) ∙ k.shown.lengths path seq t is stands;
+      small = k.shown.small;
       empty = λ buf below nobody. ap (λ (n : ℕ). n % 2 ^ 9) (get_or-set_other s.words p (place_of_word groups (Card buf)) o.len 0 (card-length groups buf o.buf below there)) ∙ k.shown.empty buf below nobody;
     };
     takes = let t = total-set (λ u. u.takes) s.views id m.0 w at in omega (arith, t, k.takes);
     parts = let t = total-set (λ u. u.parts) s.views id m.0 w at in omega (arith, t, k.parts);
     each = each-set (λ j u. 0 < u.parts → Knows groups k.core words u) s.views id w
         (λ some-part. record { groups_are = known.groups_are; whole = known.whole; floors = known.floors; hand = (holds, get_or-set_same s.words p o.len 0 (omega (arith, k.wide, within (length groups) (all_sizes groups) (Length o.buf) there))) })
-        (λ j u other is some-part. knows-on groups k.core k.core s.words words (rise-same (floors_of groups k.core)) (λ g word so. so) u (λ o' theirs so.
+        (λ j u other is some-part. knows-on groups k.core k.core s.words words (rise-same (floors_of groups k.core)) (λ g word so. so) (same-stay k.core k.core refl) u (λ o' theirs so.
         get_or-set_other s.words p (place_of_word groups (Length o'.buf)) o.len 0
         (length-length groups o'.buf o.buf (held-there groups s k o'.buf (record { number = o'.change; size = o'.cells }) (held-whole groups s k j u is o'.buf (record { number = o'.change; size = o'.cells }) theirs)) there
         (λ same. absurd (let no : None ≡ Some (record { number = o'.change; size = o'.cells }) = sym (others-none _ _ s.views (k.holders o.buf) id m.0 at h holds j u other is) ∙ ap (view_of u).held (sym same) ∙ theirs in cc)))

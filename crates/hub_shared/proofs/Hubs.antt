@@ -1,8 +1,8 @@
 -- What a hub keeps of its memory, named by the hub.
-use Rattle.std.proofs.Common.{◌≡◌, ℕ, ◌+◌, ◌-◌, ◌<◌, ◌≤◌, List, length, take, drop, Some, ap, arith, sym, ◌∙◌}
+use Rattle.std.proofs.Common.{◌≡◌, ℕ, ◌+◌, ◌-◌, ◌<◌, ◌≤◌, List, length, take, drop, Some, subst, ap, arith, sym, ◌∙◌}
 use Rattle.std.specs.Prelude.{get_or, slice_get}
 use Rattle.std.specs.Vec.{vec_len}
-use Rattle.hub_core.proofs.Cut.{all-cut, groups-cut}
+use Rattle.hub_core.proofs.Cut.{all-cut, count-cut, groups-cut, there-cut}
 use Rattle.hub_core.proofs.GroupReads.{few-cells, is-buffer, read-cells, few-in, read-count, within-cells, buffer-by}
 use Rattle.hub_core.specs.Calls.{IsBufferOf}
 use Rattle.hub_core.specs.Groups.{all_sizes, first_of, group_of, grouped, place_of, sizes_of}
@@ -87,3 +87,18 @@ module _ (hub : SharedHub) where
       let low = within hub.layout.groups hub.layout.cells p there in
       let all : words_in hub.layout.groups hub.layout.cells ≡ words_in (length counts) cells = ap (λ (l : Rattle.hub_layout.specs.Pool.Pool). words_in l.groups l.cells) hub.laid in
       omega (arith, is, low, all, hub.wide)
+
+  -- a group's buffers are those from its first on
+  pub in-group : (group first last buf : ℕ) → group < length (groups_of hub) → first ≡ first_of counts group → last ≡ first + length (sizes_of (groups_of hub) group) → group_of (groups_of hub) buf ≡ group → buf < length (all_sizes (groups_of hub)) → (first ≤ buf) × (buf < last)
+  in-group group first last buf there begin end its below =
+      let is = there-cut counts cells buf hub.pool.all (omega (arith, below, ap (λ (l : List ℕ). length l) (all-cut counts cells hub.pool.all))) in
+      let from : first_of counts group + place_of (groups_of hub) buf ≡ buf = subst (λ (g : ℕ). first_of counts g + place_of (groups_of hub) buf ≡ buf) its is.at in
+      let low : place_of (groups_of hub) buf < get_or counts group 0 = subst (λ (g : ℕ). place_of (groups_of hub) buf < get_or counts g 0) its is.place in
+      let many = count-cut counts cells group (omega (arith, there, groups-long)) hub.pool.all in
+      (omega (arith, begin, from), omega (arith, begin, from, low, many, end))
+
+  pub of-group : (group first last buf : ℕ) → group < length (groups_of hub) → first ≡ first_of counts group → last ≡ first + length (sizes_of (groups_of hub) group) → first ≤ buf → buf < last → (group_of (groups_of hub) buf ≡ group) × (buf < length (all_sizes (groups_of hub)))
+  of-group group first last buf there begin end low high =
+      let its = buffer-from group first (buf - first) there begin (omega (arith, low, high, end)) in
+      let same : first + (buf - first) ≡ buf = omega (arith, low) in
+      (ap (group_of (groups_of hub)) (sym same) ∙ its.0, omega (arith, high, end, begin, group-within group there, ap (λ (l : List ℕ). length l) (all-cut counts cells hub.pool.all)))

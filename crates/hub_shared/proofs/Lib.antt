@@ -1,6 +1,8 @@
 mod Answering
+mod CardBits
 mod Closings
 mod Cores
+mod Counted
 mod Dealt
 mod Entered
 mod Enters
@@ -8,10 +10,13 @@ mod Exchanges
 mod Histories
 mod Holding
 mod Hubs
+mod JoinedIn
 mod Learns
+mod Nexts
 mod Opened
 mod Parties
 mod Seats
+mod Sighted
 mod Steps
 mod Takes
 mod Weights

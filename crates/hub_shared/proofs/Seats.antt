@@ -22,7 +22,7 @@ use Rattle.hub_shared.proofs.Histories.{Goes, begins, goes-kept, goes-given, goe
 use Rattle.hub_shared.proofs.Parties.{of-one-divided, of-one-joined}
 use Rattle.hub_shared.proofs.Weights.{length-weight, journal-weight}
 use Rattle.hub_shared.specs.History.{state_of, part_of, without, within, united}
-use Rattle.hub_shared.specs.Counts.{weigh}
+use Rattle.hub_shared.specs.Counts.{count_held, weigh}
 use Rattle.hub_shared.specs.Cards.{place_of_word}
 use Rattle.hub_shared.specs.Rule.{AreWhole, HandKnows, Knows, Kept}
 use Rattle.hub_shared.specs.Sights.{view_of, newcomer, kept_sight, given_sight, kept_by, given_by, both_sights, spent}
@@ -76,6 +76,7 @@ divides groups id v named hand parts takes s k at =
       readers = λ path dest. of-one-divided _ _ _ s.views (k.readers path dest) id v at ((part_of named).reads path dest) l r
           (ap (λ p. p.part.reads path dest) mine.is) (ap (λ p. p.part.reads path dest) theirs.is) (ap (λ p. p.view.readings path dest) mine.is) (ap (λ p. p.view.readings path dest) theirs.is);
       holders = λ buf. held-divided _ _ s.views (k.holders buf) id v at l r (ap (λ p. p.view.held buf) mine.is) (ap (λ p. p.view.held buf) theirs.is);
+      entered = k.entered;
       shown = k.shown;
       takes = let t = total-set (λ u. u.takes) s.views id v l at in let n = total-added (λ u. u.takes) (set s.views id l) r in omega (arith, t, n, k.takes, takes);
       parts = let t = total-set (λ u. u.parts) s.views id v l at in let n = total-added (λ u. u.parts) (set s.views id l) r in omega (arith, t, n, k.parts, parts);
@@ -117,6 +118,7 @@ unites groups id other v w idle live alive s k at apart found = record {
   writers = λ path. of-one-joined _ _ _ s.views (k.writers path) id v at other w b spent apart found (ap (λ p. p.part.writes path) went.is) (ap (λ p. p.view.sessions path) went.is) refl refl;
   readers = λ path dest. of-one-joined _ _ _ s.views (k.readers path dest) id v at other w b spent apart found (ap (λ p. p.part.reads path dest) went.is) (ap (λ p. p.view.readings path dest) went.is) refl refl;
   holders = λ buf. held-joined _ _ s.views (k.holders buf) id v at other w b spent apart found (ap (λ p. p.view.held buf) went.is) refl;
+  entered = k.entered;
   shown = k.shown;
   takes = let t = total-set (λ u. u.takes) s.views id v b at in let n = total-set (λ u. u.takes) views other w spent found in omega (arith, t, n, k.takes);
   parts = let t = total-set (λ u. u.parts) s.views id v b at in let n = total-set (λ u. u.parts) views other w spent found in omega (arith, t, n, k.parts);
@@ -155,9 +157,11 @@ opens groups words wide full rest = record {
   writers = λ path. record { one = refl; each = λ id v is. only id v is (λ u. (view_of u).sessions path ≡ (if (state_of u.entries).part.writes path then [] else [])) refl };
   readers = λ path dest. record { one = refl; each = λ id v is. only id v is (λ u. (view_of u).readings path dest ≡ (if (state_of u.entries).part.reads path dest then [] else [])) refl };
   holders = λ buf. record { one = refl; each = λ id v is. only id v is (λ u. ((view_of u).held buf ≡ None) ⊎ ((view_of u).held buf ≡ None)) (inl refl) };
+  entered = λ path. omega (arith, nothing (length (all_sizes groups)));
   shown = record {
     cards = λ path seq t at some. absurd cc;
     lengths = λ path seq t at some. absurd cc;
+    small = λ path seq t at. absurd cc;
     empty = λ buf below nobody. ap (λ (n : ℕ). n % 2 ^ 9) (rest (place_of_word groups (Card buf)) (omega arith));
   };
   takes = omega arith;
@@ -166,6 +170,10 @@ opens groups words wide full rest = record {
   spent_is = λ id v is. only id v is (λ u. u.parts ≡ 0 → u.entries ≡ []) (λ none. absurd (omega (arith, none)));
 }
   where
+    nothing : (n : ℕ) → count_held empty_view.held n ≡ 0
+    nothing zero = refl
+    nothing (suc n) = let rest = nothing n in omega (arith, rest)
+
     only : (id : ℕ) (v : Sight) → get_elem? (newcomer groups ∷ []) id ≡ some v → (P : Sight → Type 0) → P (newcomer groups) → P v
     only zero v is P holds = let same : newcomer groups ≡ v = cc in subst P same holds
     only (suc id) v is P holds = absurd cc

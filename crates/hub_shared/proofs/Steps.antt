@@ -1,5 +1,5 @@
 -- Each step of a seat keeps the rule.
-use Rattle.std.proofs.Common.{◌≡◌, ◌≢◌, ℕ, ◌-◌, ◌<◌, ◌≤◌, List, [], ◌∷◌, ◌++◌, length, set, get_or, Some, refl, ap, sym, ◌∙◌, subst, arith, eqb, length-append}
+use Rattle.std.proofs.Common.{◌≡◌, ◌≢◌, ℕ, ◌+◌, ◌-◌, ◌<◌, ◌≤◌, List, [], ◌∷◌, ◌++◌, length, set, get_or, Some, refl, ap, sym, ◌∙◌, subst, arith, eqb, length-append}
 use Rattle.std.proofs.lemmas.List.{set-get_or}
 use mathlib.Core.Option.{none, some}
 use lib.ListN.{get_elem?}
@@ -14,7 +14,7 @@ use Rattle.hub_core.specs.Groups.{all_sizes}
 use Rattle.hub_core.specs.Joint.{IsQuiet}
 use Rattle.hub_core.specs.Past.{event_of}
 use Rattle.hub_core.specs.Plain.{pool_after}
-use Rattle.hub_core.specs.View.{View, Change, Taken, Taking, Refusal, at_one, Took as TookEvent, Refused as RefusedEvent, grow}
+use Rattle.hub_core.specs.View.{View, Change, Taken, Taking, Refusal, Session, session_at, at_one, Took as TookEvent, Refused as RefusedEvent, grow}
 use Rattle.hub_core.specs.declared.history.Deed.{Deed}
 use Rattle.hub_layout.specs.Places.{Length, words_in}
 use Rattle.pool_words.specs.Pools.{pool_of}
@@ -25,19 +25,21 @@ use Rattle.hub_shared.proofs.Histories.{goes-did}
 use Rattle.hub_shared.proofs.Parties.{of-one-same}
 use Rattle.hub_shared.specs.History.{state_of}
 use Rattle.hub_shared.specs.Plays.{SeatMe, with_look, IsSeen, Lost, looked, with_deed, announced}
-use Rattle.hub_shared.specs.Counts.{total}
+use Rattle.hub_shared.specs.Counts.{total, count_held}
 use Rattle.hub_shared.specs.Cards.{ShowCards, place_of_word}
 use Rattle.hub_shared.specs.Counts.{IsHeldByOne}
-use Rattle.hub_shared.specs.Rule.{WasWord, HandKnows, Knows, Kept}
+use Rattle.hub_shared.specs.Rule.{IsWhere, WasWord, HandKnows, Knows, Kept}
 use Rattle.hub_shared.specs.Sights.{view_of, floors_at}
 use Rattle.hub_shared.specs.declared.part.HubPart.{HubPart}
 use Rattle.hub_shared.specs.declared.sight.Entry.TheVariants.{Did}
 use Rattle.hub_shared.specs.declared.sight.Hand.{Hand}
-use Rattle.hub_shared.specs.declared.sight.Hand.TheVariants.{Idle, Looked, Parting, Entering, Prepared}
+use Rattle.hub_shared.specs.declared.sight.Hand.TheVariants.{Idle, Looked, Parting, Entering, Prepared, Seeking}
 use Rattle.hub_shared.specs.declared.sight.Note.{Note}
 use Rattle.hub_shared.specs.declared.sight.Note.TheVariants.{Parts}
 use Rattle.hub_shared.specs.declared.sight.Opening.{Opening}
 use Rattle.hub_shared.specs.declared.sight.Sight.{Sight}
+use Rattle.hub_shared.specs.declared.sight.Sought.{Sought}
+use Rattle.std.specs.Prelude.{slice_get, Option, None}
 
 -- a state with other words, and another view of a seat
 abbrev changed : HubState → List ℕ → ℕ → Sight → HubState
@@ -47,10 +49,23 @@ changed s words id w = record { words = words; homes = s.homes; views = set s.vi
 abbrev pub IsLength : List (List ℕ) → List ℕ → Opening → Type 0
 IsLength groups words o = get_or words (place_of_word groups (Length o.buf)) 0 ≡ o.len
 
+-- each session goes on in its buffer, for its destinations
+abbrev pub SessionsStay : View → View → Type 0
+SessionsStay v w = (path seq : ℕ) (s : Session) → session_at v path seq ≡ Some s → (t : Session) × (session_at w path seq ≡ Some t) × (t.buf ≡ s.buf) × (t.dests ≡ s.dests)
+
+pub same-stay : (v w : View) → w.sessions ≡ v.sessions → SessionsStay v w
+same-stay v w same path seq s is = (s, ap (λ (f : ℕ → List Session). slice_get (f path) seq) same ∙ is, refl, refl)
+
+where-on : (groups : List (List ℕ)) (v w : View) → SessionsStay v w → (sought : Sought) (buf : Option ℕ) → IsWhere groups v sought buf → IsWhere groups w sought buf
+where-on groups v w stay sought None so = tt
+where-on groups v w stay sought (Some buf) so =
+    let now = stay sought.path sought.seq so.session so.known in
+    record { session = now.0; known = now.1; buf_is = now.2 ∙ so.buf_is; its = so.its; for = subst (λ (n : ℕ). sought.dest < n) (sym now.3) so.for }
+
 -- what a seat knows as the machine and the words go on
-pub knows-on : (groups : List (List ℕ)) (core next : View) (words more : List ℕ) → Rise (floors_of groups core) (floors_of groups next) → ((group word : ℕ) → WasWord groups group core word → WasWord groups group next word) → (v : Sight) →
+pub knows-on : (groups : List (List ℕ)) (core next : View) (words more : List ℕ) → Rise (floors_of groups core) (floors_of groups next) → ((group word : ℕ) → WasWord groups group core word → WasWord groups group next word) → SessionsStay core next → (v : Sight) →
     ((o : Opening) → (view_of v).held o.buf ≡ Some (record { number = o.change; size = o.cells }) → IsLength groups words o → IsLength groups more o) → Knows groups core words v → Knows groups next more v
-knows-on groups core next words more rise was v length-on known = record { groups_are = known.groups_are; whole = known.whole; floors = rise-twice (floors_at v) (floors_of groups core) (floors_of groups next) known.floors rise; hand = on v.hand known.hand }
+knows-on groups core next words more rise was stay v length-on known = record { groups_are = known.groups_are; whole = known.whole; floors = rise-twice (floors_at v) (floors_of groups core) (floors_of groups next) known.floors rise; hand = on v.hand known.hand }
   where
     on : (hand : Hand) → HandKnows groups core words (view_of v).held hand → HandKnows groups next more (view_of v).held hand
     on Idle so = tt
@@ -58,6 +73,7 @@ knows-on groups core next words more rise was v length-on known = record { group
     on (Parting named) so = tt
     on (Entering opening) so = tt
     on (Prepared opening) so = (so.0, length-on opening so.0 so.1)
+    on (Seeking sought buf) so = where-on groups core next stay sought buf so
 
 -- a step of a seat
 module _ (groups : List (List ℕ)) (s : HubState) (k : Kept groups s) (id : ℕ) (v : Sight) (at : get_elem? s.views id ≡ some v) (live : 0 < v.parts) where
@@ -78,6 +94,7 @@ module _ (groups : List (List ℕ)) (s : HubState) (k : Kept groups s) (id : ℕ
     writers = λ path. of-one-same _ _ _ s.views (k.writers path) id v at w refl refl;
     readers = λ path dest. of-one-same _ _ _ s.views (k.readers path dest) id v at w refl refl;
     holders = λ buf. held-same _ _ s.views (k.holders buf) id v at w refl;
+    entered = k.entered;
     shown = k.shown;
     takes = let t = total-set (λ u. u.takes) s.views id v w at in omega (arith, t, k.takes);
     parts = let t = total-set (λ u. u.parts) s.views id v w at in omega (arith, t, k.parts);
@@ -99,6 +116,7 @@ module _ (groups : List (List ℕ)) (s : HubState) (k : Kept groups s) (id : ℕ
     pub quiet : IsQuiet groups (grow (event_of deed) k.core)
     pub was : (group word : ℕ) → WasWord groups group k.core word → WasWord groups group (grow (event_of deed) k.core) word
     pub holders : (w : Sight) → ((buf : ℕ) → (view_of w).held buf ≡ (grow (event_of deed) (view_of v)).held buf) → (buf : ℕ) → IsHeldByOne (λ u. (view_of u).held buf) ((grow (event_of deed) k.core).held buf) (set s.views id w)
+    pub entered : (path : ℕ) → length ((grow (event_of deed) k.core).sessions path) + count_held (grow (event_of deed) k.core).held (length (all_sizes groups)) ≤ length (grow (event_of deed) k.core).changes
     pub shown : ShowCards groups words (grow (event_of deed) k.core)
     pub lengths : (o : Opening) → IsLength groups s.words o → IsLength groups words o
     pub wide : words_in (length groups) (all_sizes groups) ≤ length words
@@ -122,11 +140,12 @@ module _ (groups : List (List ℕ)) (s : HubState) (k : Kept groups s) (id : ℕ
     readers = λ path dest. subst (λ l. Rattle.hub_shared.specs.Counts.IsOfOne (λ u. (state_of u.entries).part.reads path dest) (λ u. (view_of u).readings path dest) l (set s.views id w)) (sym (ap (λ f. f path dest) (so.readings k.core)))
         (of-one-same _ _ _ s.views (k.readers path dest) id v at w (ap (λ p. p.part.reads path dest) went.is) (ap (λ (u : View). u.readings path dest) view-is ∙ ap (λ f. f path dest) (so.readings (view_of v))));
     holders = so.holders w (λ buf. ap (λ (u : View). u.held buf) view-is);
+    entered = so.entered;
     shown = so.shown;
     takes = let t = total-set (λ u. u.takes) s.views id v w at in omega (arith, t, k.takes, spare, so.few, ap (λ (l : List Change). length l) (so.changes k.core), length-append k.core.changes made);
     parts = let t = total-set (λ u. u.parts) s.views id v w at in omega (arith, t, k.parts);
     each = each-set (λ j u. 0 < u.parts → Knows groups next words u) s.views id w (λ some-part. record { groups_are = more.groups_are; whole = went.whole; floors = more.floors; hand = tt })
-        (λ j u other is some-part. knows-on groups k.core next s.words words rise so.was u (λ o held. so.lengths o) (k.each j u is some-part));
+        (λ j u other is some-part. knows-on groups k.core next s.words words rise so.was stay u (λ o held. so.lengths o) (k.each j u is some-part));
     spent_is = each-set (λ j u. u.parts ≡ 0 → u.entries ≡ []) s.views id w (λ none. absurd (omega (arith, none, live))) (λ j u other is. k.spent_is j u is);
   }
     where
@@ -145,8 +164,11 @@ module _ (groups : List (List ℕ)) (s : HubState) (k : Kept groups s) (id : ℕ
       rise : Rise (floors_of groups k.core) (floors_of groups next)
       rise = rise-grow groups (event_of deed) k.core next (law groups s k).streams refl
 
+      stay : SessionsStay k.core next
+      stay = same-stay k.core next (so.sessions k.core)
+
       more : Knows groups next words v
-      more = knows-on groups k.core next s.words words rise so.was v (λ o held. so.lengths o) known
+      more = knows-on groups k.core next s.words words rise so.was stay v (λ o held. so.lengths o) known
 
 -- a word that stays
 pub same-word : (groups : List (List ℕ)) (s : HubState) (views : List Sight) (group : ℕ) → Kept groups (record { words = s.words; homes = s.homes; views = views }) → Kept groups (record { words = set s.words group (get_or s.words group 0); homes = s.homes; views = views })

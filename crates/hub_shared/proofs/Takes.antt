@@ -1,5 +1,5 @@
 -- A take and an overflow keep the rule.
-use Rattle.std.proofs.Common.{◌≡◌, ℕ, ◌+◌, ◌-◌, ◌/◌, ◌%◌, ◌^◌, ◌<◌, inl, inr, List, [], ◌∷◌, ◌++◌, length, set, get_or, Some, refl, ap, sym, ◌∙◌, subst, arith, eqb, append-nil, length-set, get_or-set_same}
+use Rattle.std.proofs.Common.{◌≡◌, ℕ, ◌+◌, ◌-◌, ◌/◌, ◌%◌, ◌^◌, ◌<◌, inl, inr, List, [], ◌∷◌, ◌++◌, length, set, get_or, Some, refl, ap, sym, ◌∙◌, subst, arith, eqb, append-nil, length-append, length-set, get_or-set_same}
 use Rattle.std.proofs.lemmas.Bool.Decides.{eqb_tells}
 use Rattle.std.proofs.lemmas.List.{get_or-set_other}
 use Rattle.std.specs.Prelude.{slice_get, IsBitSet, Option, None}
@@ -21,6 +21,7 @@ use Rattle.hub_layout.specs.Places.{Length}
 use Rattle.pool_words.specs.Pools.{pool_of}
 use Rattle.pool_words.specs.declared.pool.Pool.{Pool}
 use Rattle.hub_shared.proofs.Cores.{HubState, law, count-now, was-pushed, freed-pushed, free-unheld, shown-on}
+use Rattle.hub_shared.proofs.Counted.{count-more}
 use Rattle.hub_shared.proofs.Holding.{held-same, held-taken}
 use Rattle.hub_shared.specs.Plays.{SeatMe, with_take, with_overflow, taking, refusing}
 use Rattle.hub_shared.specs.Cards.{place_of_word}
@@ -71,6 +72,7 @@ module _ (groups : List (List ℕ)) (slots id group old new need buf cells : ℕ
           (held-same _ _ s.views (k.holders b) id m.0 at w (is b ∙ at_one-other buf b (Some t) (view_of m.0).held other.1))
     ];
     shown = shown-on groups s.words group new k.core next there refl refl k.shown;
+    entered = λ path. let more = count-more k.core.held buf (Some t) (length (all_sizes groups)) in omega (arith, more, k.entered path, length-append k.core.changes (c ∷ []));
     lengths = λ o is. get_or-set_other s.words group (place_of_word groups (Length o.buf)) new 0 (λ e. omega (arith, e, there)) ∙ is;
     wide = omega (arith, k.wide, length-set s.words group new);
     pools = λ g below. elim (eqb_tells g group) [
@@ -143,7 +145,8 @@ module _ (groups : List (List ℕ)) (slots id group old need : ℕ) (m : SeatMe)
     quiet = quiet-refused groups k.core group (old / 2 ^ 32) (old % 2 ^ 32) need k.quiet;
     was = λ g word so. so;
     holders = λ w is b. held-same _ _ s.views (k.holders b) id m.0 at w (is b);
-    shown = record { cards = k.shown.cards; lengths = k.shown.lengths; empty = k.shown.empty };
+    shown = record { cards = k.shown.cards; lengths = k.shown.lengths; small = k.shown.small; empty = k.shown.empty };
+    entered = k.entered;
     lengths = λ o is. is;
     wide = k.wide;
     pools = k.pools;

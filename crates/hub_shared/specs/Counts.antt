@@ -1,5 +1,5 @@
 -- Numbers and lists of all seats, added up.
-use Rattle.std.specs.Prelude.{◌≡◌, ℕ, ◌+◌, ◌⊎◌, if◌then◌else◌, Bool, List, [], ◌∷◌, Option, Some, None}
+use Rattle.std.specs.Prelude.{◌≡◌, ℕ, ◌+◌, ◌⊎◌, zero, suc, if◌then◌else◌, Bool, List, [], ◌∷◌, Option, Some, None}
 use mathlib.Core.Option.{some}
 use lib.ListN.{get_elem?}
 use Rattle.hub_core.specs.View.{Taking}
@@ -24,6 +24,11 @@ counts_one b = if b then 1 else 0
 abbrev pub counts_some : Option Taking → ℕ
 counts_some None = 0
 counts_some (Some t) = 1
+
+-- the buffers below a number that are held
+abbrev pub count_held : (ℕ → Option Taking) → ℕ → ℕ
+count_held held zero = 0
+count_held held (suc buf) = counts_some (held buf) + count_held held buf
 
 -- just one seat acts for a party, and has the party's whole list; the others have nothing of it
 pub record IsOfOne {A : Type 0} (acts : Sight → Bool) (own : Sight → List A) (whole : List A) (views : List Sight) : Type 0 where

@@ -6,5 +6,6 @@ pub mod Plays
 pub mod Ports
 pub mod Rule
 pub mod Seats
+pub mod Seeks
 pub mod Sights
 pub mod Takes

@@ -1,19 +1,22 @@
 -- What each kind of step tells the seat that makes it.
-use Rattle.std.specs.Prelude.{◌≡◌, ◌≢◌, ℕ, ◌+◌, ◌-◌, ◌/◌, ◌%◌, ◌^◌, ◌<◌, ◌≤◌, ◌∷◌, length, Some}
+use Rattle.std.specs.Prelude.{◌≡◌, ◌≢◌, ℕ, ◌+◌, ◌-◌, ◌/◌, ◌%◌, ◌^◌, ◌<◌, ◌≤◌, false, List, ◌∷◌, length, Option, Some, None}
 use mathlib.Core.Option.{some}
 use Rattle.atomic_table.specs.Table.{Me, Step}
-use Rattle.hub_core.specs.Groups.{IsWordOf, all_sizes}
+use Rattle.hub_core.specs.Groups.{IsWordOf, all_sizes, group_of}
 use Rattle.hub_core.specs.Joint.{Joint}
 use Rattle.hub_core.specs.declared.history.Deed.{Deed}
-use Rattle.hub_core.specs.declared.history.Deed.TheVariants.{Took, Refused, Entered as EnteredDeed}
+use Rattle.hub_core.specs.declared.history.Deed.TheVariants.{Took, Refused, Entered as EnteredDeed, Joining}
+use Rattle.hub_layout.specs.Places.{Card}
+use Rattle.hub_shared.specs.Cards.{IsCardFor, place_of_word}
 use Rattle.hub_shared.specs.Sights.{view_of, floors_at}
 use Rattle.hub_shared.specs.declared.part.HubPart.{HubPart}
 use Rattle.hub_shared.specs.declared.sight.Entry.TheVariants.{Did}
-use Rattle.hub_shared.specs.declared.sight.Hand.TheVariants.{Idle, Looked, Parting, Entering, Prepared}
+use Rattle.hub_shared.specs.declared.sight.Hand.TheVariants.{Idle, Looked, Parting, Entering, Prepared, Seeking}
 use Rattle.hub_shared.specs.declared.sight.Note.{Note}
-use Rattle.hub_shared.specs.declared.sight.Note.TheVariants.{Takes, Refuses, Parts, Opens}
+use Rattle.hub_shared.specs.declared.sight.Note.TheVariants.{Takes, Refuses, Parts, Opens, Seeks}
 use Rattle.hub_shared.specs.declared.sight.Opening.{Opening}
 use Rattle.hub_shared.specs.declared.sight.Sight.{Sight}
+use Rattle.hub_shared.specs.declared.sight.Sought.{Sought}
 
 abbrev pub SeatMe : Type 0
 SeatMe = Me Note Sight
@@ -90,3 +93,45 @@ prepared step m found after = (opening : Opening) → m.0.hand ≡ Entering open
 
 abbrev pub entered : Step Note → SeatMe → ℕ → SeatMe → Type 0
 entered step m found after = (opening : Opening) → m.0.hand ≡ Prepared opening → after ≡ (with_deed (entry_of opening) m.0, m.1)
+
+-- a buffer in which the session that is sought may be: one of the group, and the destination is one of eight
+pub record IsPlaceFor (groups : List (List ℕ)) (sought : Sought) (buf : ℕ) : Type 0 where
+  pub its : group_of groups buf ≡ sought.group
+  pub below : buf < length (all_sizes groups)
+  pub few : sought.dest < 8
+
+-- a seat announced the session that it looks for: where it isn't there, no floor has it, and else it is in a buffer of the group
+pub record IsSeeking (sought : Sought) (m after : SeatMe) : Type 0 where
+  pub buf : Option ℕ
+  pub me : after ≡ (record m.0 { hand = Seeking sought buf }, m.1)
+  pub missed : buf ≡ None → (floors_at m.0).entered sought.group sought.path sought.dest sought.seq ≡ false
+  pub there : (at : ℕ) → buf ≡ Some at → IsPlaceFor m.0.groups sought at
+
+abbrev pub seeking : Step Note → SeatMe → ℕ → SeatMe → Type 0
+seeking step m found after = (sought : Sought) → step.said ≡ some (Seeks sought) → IsSeeking sought m after
+
+-- it looked at a buffer's card, and the session is there, or it wasn't there as the look began
+pub record IsSighted (sought : Sought) (buf : Option ℕ) (at found : ℕ) (m after : SeatMe) : Type 0 where
+  pub shows : IsCardFor sought found → after ≡ (record m.0 { hand = Seeking sought (Some at) }, m.1)
+  pub hides : (IsCardFor sought found → ⊥) → (after ≡ m) × (buf ≢ Some at)
+
+abbrev pub sighted : Step Note → SeatMe → ℕ → SeatMe → Type 0
+sighted step m found after = (sought : Sought) (buf : Option ℕ) (at : ℕ) → m.0.hand ≡ Seeking sought buf →
+    at < length (all_sizes m.0.groups) → step.word ≡ place_of_word m.0.groups (Card at) → IsSighted sought buf at found m after
+
+-- it looked at the length of a session that is there, and so joined it
+abbrev pub join_of : Sought → (buf len : ℕ) → Deed
+join_of sought buf len = Joining sought.path sought.dest sought.seq buf len
+
+pub record IsJoined (sought : Sought) (buf len : ℕ) (m after : SeatMe) : Type 0 where
+  pub me : after ≡ (with_deed (join_of sought buf len) m.0, m.1)
+  pub some : 0 < len
+  pub small : len < 2 ^ 32
+  pub few : sought.seq < 8000000
+
+abbrev pub joined : Step Note → SeatMe → ℕ → SeatMe → Type 0
+joined step m found after = (sought : Sought) (buf : ℕ) → m.0.hand ≡ Seeking sought (Some buf) → IsJoined sought buf found m after
+
+-- it ends a look that found nothing
+abbrev pub rested : Step Note → SeatMe → ℕ → SeatMe → Type 0
+rested step m found after = after ≡ (record m.0 { hand = Idle }, m.1)

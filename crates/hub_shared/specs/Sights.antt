@@ -5,7 +5,7 @@ use Rattle.hub_core.specs.View.{View}
 use Rattle.hub_shared.specs.History.{state_of}
 use Rattle.hub_shared.specs.declared.sight.Entry.TheVariants.{Begun, Kept, Given, Joined}
 use Rattle.hub_shared.specs.declared.sight.Hand.{Hand}
-use Rattle.hub_shared.specs.declared.sight.Hand.TheVariants.{Idle, Looked, Parting, Entering, Prepared}
+use Rattle.hub_shared.specs.declared.sight.Hand.TheVariants.{Idle, Looked, Parting, Entering, Prepared, Seeking}
 use Rattle.hub_shared.specs.declared.sight.Sight.{Sight}
 
 -- what the seat did and saw
@@ -26,6 +26,7 @@ kept_by Idle v = v
 kept_by (Looked group word) v = v
 kept_by (Entering opening) v = v
 kept_by (Prepared opening) v = v
+kept_by (Seeking sought buf) v = v
 kept_by (Parting named) v = record v { parts = v.parts - 1; takes = v.takes - named.takes; entries = Kept named ∷ v.entries; base = v.entries; hand = Idle }
 
 abbrev pub given_by : Hand → Sight → Sight
@@ -33,6 +34,7 @@ given_by Idle v = v
 given_by (Looked group word) v = v
 given_by (Entering opening) v = v
 given_by (Prepared opening) v = v
+given_by (Seeking sought buf) v = v
 given_by (Parting named) v = record v { parts = 1; takes = named.takes; entries = Given named ∷ v.entries; base = v.entries; hand = Idle }
 
 abbrev pub kept_sight : Sight → Sight

@@ -1,16 +1,17 @@
 //! The calls of a port.
 ghost use Rattle.std.specs.Prelude.{◌≡◌, ◌<◌, ◌≤◌, true, length};
-ghost use Rattle.hub_core.specs.Calls.{Answers, ByWriter, SameMeans, SameParties, TakeUsed, entered_of, took_of};
+ghost use Rattle.hub_core.specs.Calls.{Answers, ByReader, ByWriter, Joins, SameMeans, SameParties, TakeUsed};
+ghost use Rattle.hub_core.specs.Calls.{entered_of, joins, next_of, took_of};
 ghost use Rattle.hub_core.specs.Tokens.{Holds, Writes, opened_new};
 ghost use Rattle.hub_core.specs.Floors.{IsFresh};
-ghost use Rattle.hub_core.specs.Stays.{Stays};
+ghost use Rattle.hub_core.specs.Stays.{IsFreshFor, Stays};
 ghost use Rattle.hub_core.specs.View.{grow};
 ghost use Rattle.hub_shared.specs.Ports.{hub_of, port_state, seat_of, view_of};
 ghost use Rattle.hub_shared.specs.Seats.{IsSeatOf, groups_of};
 
 use crate::{HubSeat, SharedHub, SharedPort};
-use gw_base::{GroupNo, PathNo};
-use hub_core::{Held, Opened, Take};
+use gw_base::{DestNo, GroupNo, PathNo};
+use hub_core::{Held, Joined, Opened, Take};
 
 impl<'a> SharedPort<'a> {
     /// The port of a seat.
@@ -64,5 +65,21 @@ impl<'a> SharedPort<'a> {
     {
         let hub = self.hub;
         hub.enter(&mut self.seat, held, path, seq, len, readers)
+    }
+
+    /// Joins the destination's next session, the path's one with the number `seq`, which lies in the group. `None` where
+    /// no such session was known in the group as the call began to look. It waits for nobody, and returns.
+    pub fn next(&mut self, group: GroupNo, path: PathNo, dest: DestNo, seq: u32) -> Option<Joined>
+        requires group { group.0 < length (port_state self.old).means.groups }
+        requires acts { (port_state self.old).means.reads path.0 dest.0 ≡ true }
+        requires seq { length ((view_of self.old).readings path.0 dest.0) ≡ seq }
+        ensures view { view_of self.new ≡ grow (next_of group.0 path.0 dest.0 seq result) (view_of self.old) }
+        ensures joins { Joins (port_state self.new).view path dest seq result }
+        ensures fresh { IsFreshFor (port_state self.old) (next_of group.0 path.0 dest.0 seq result) }
+        ensures stays { Stays (ByReader path.0 dest.0 (joins result)) SameMeans (port_state self.old) (port_state self.new) }
+        ensures hub { hub_of self.new ≡ hub_of self.old }
+    {
+        let hub = self.hub;
+        hub.next(&mut self.seat, group, path, dest, seq)
     }
 }

@@ -5,6 +5,7 @@ mod calls;
 mod enter;
 mod hub;
 mod make;
+mod next;
 mod part;
 mod plays;
 mod port;

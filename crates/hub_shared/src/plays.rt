@@ -85,6 +85,42 @@ impl Play<Note, Sight> for Enter {
     ghost then = { entered };
 }
 
+/// A step that announces the session which a destination looks for.
+pub(crate) struct Seek;
+
+impl Play<Note, Sight> for Seek {
+    ghost use Rattle.hub_shared.specs.Plays.{seeking};
+
+    ghost then = { seeking };
+}
+
+/// A look at a card, by a destination that looks for its session.
+pub(crate) struct LookAtCard;
+
+impl Play<Note, Sight> for LookAtCard {
+    ghost use Rattle.hub_shared.specs.Plays.{sighted};
+
+    ghost then = { sighted };
+}
+
+/// A look at the length of a session that is there, by which its destination joins it.
+pub(crate) struct JoinSession;
+
+impl Play<Note, Sight> for JoinSession {
+    ghost use Rattle.hub_shared.specs.Plays.{joined};
+
+    ghost then = { joined };
+}
+
+/// A look by which a destination that found nothing ends.
+pub(crate) struct Rest;
+
+impl Play<Note, Sight> for Rest {
+    ghost use Rattle.hub_shared.specs.Plays.{rested};
+
+    ghost then = { rested };
+}
+
 /// A look at a pool word, by a seat that may know the whole.
 pub(crate) struct Learn;
 

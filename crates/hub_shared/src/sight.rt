@@ -29,6 +29,15 @@ pub struct Opening {
     pub readers: u8,
 }
 
+/// A session that a destination looks for in a group.
+#[derive(Clone, Copy, Debug)]
+pub struct Sought {
+    pub group: u8,
+    pub path: u8,
+    pub dest: u8,
+    pub seq: u32,
+}
+
 /// What a seat is in the midst of.
 pub enum Hand {
     /// It is between calls.
@@ -40,6 +49,8 @@ pub enum Hand {
     /// It is about to enter this session, and then the session's length is stored.
     Entering(Opening),
     Prepared(Opening),
+    /// It looks for this session, which is in this buffer where it is there.
+    Seeking { sought: Sought, buf: Option<u8> },
 }
 
 /// What a seat knows. No value of it is made.
@@ -67,4 +78,6 @@ pub enum Note {
     Parts(HubPart),
     /// The session that is entered.
     Opens(Opening),
+    /// The session that is looked for.
+    Seeks(Sought),
 }

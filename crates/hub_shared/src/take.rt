@@ -15,7 +15,7 @@ use pool_words::{after_take, pool_of, smallest_fitting, word_of};
 
 impl SharedHub {
     /// The group's first buffer, and the one after its last.
-    fn buffers_of(&self, group: GroupNo) -> (usize, usize)
+    pub(crate) fn buffers_of(&self, group: GroupNo) -> (usize, usize)
         requires { group.0 < length (groups_of self.now) }
         ensures first { result.0 ≡ first_of self.now.buffers.counts.items group.0 }
         ensures last { result.1 ≡ result.0 + length (sizes_of (groups_of self.now) group.0) }

@@ -2,8 +2,10 @@
 //! proved once.
 #![tactic(auto)]
 
+mod sessions;
 mod takers;
 
+pub use sessions::{Meeting, enter_and_join};
 pub use takers::{Outcome, four_takers, two_takers};
 
 #[cfg(test)]

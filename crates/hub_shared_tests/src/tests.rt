@@ -38,3 +38,15 @@ fn one_buffer_is_granted_once(rt: HostRuntime) {
     assert_eq!(rt; granted(&outcome), 1);
     assert_eq!(rt; outcome.word, 1 << 32);
 }
+
+/// A port enters sessions of a path while another one joins them, in threads: three buffers make three sessions, and all
+/// are joined once both threads have ended.
+#[test]
+fn sessions_are_joined_in_another_thread(rt: HostRuntime) {
+    let Ok(meeting) = enter_and_join(&rt, rt.alloc(), &[4, 8, 2], &[3], 1000) else {
+        return;
+    };
+    assert_eq!(rt; meeting.entered, 3);
+    assert_eq!(rt; meeting.joined <= 3, true);
+    assert_eq!(rt; meeting.later, 3);
+}

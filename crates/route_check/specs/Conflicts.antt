@@ -68,9 +68,9 @@ has_if_overlap config Interface i Channel c = are_so overlaps_channel (slice_get
 has_if_overlap config Interface i Interface j = nat_lt i j && are_so share_target (slice_get config.interface i) (slice_get config.interface j)
 has_if_overlap config _ _ _ _ = false
 
--- no buffer is large enough for path i from its bus b
+-- no buffer of the group of path i is large enough for it from its bus b
 abbrev pub has_no_buffer : Configuration → Place → ℕ → Place → ℕ → Bool
-has_no_buffer config Path i Bus b = are_so (lacks_buffer config.buffers config.channel) (slice_get config.path i) (slice_get config.bus b)
+has_no_buffer config Path i Bus b = are_so (lacks_buffer config.groups config.channel) (slice_get config.path i) (slice_get config.bus b)
 has_no_buffer config _ _ _ _ = false
 
 -- cancellation i doesn't fit its path p

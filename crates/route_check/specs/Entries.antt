@@ -1,5 +1,5 @@
 -- What two entries have in conflict.
-use Rattle.std.specs.Prelude.{ℕ, ◌+◌, ◌-◌, ◌==◌, max, Bool, true, false, not, ◌&&◌, ◌||◌, nat_lt, List, [], ◌∷◌, Option, None, Some, if◌then◌else◌}
+use Rattle.std.specs.Prelude.{ℕ, ◌+◌, ◌-◌, ◌==◌, max, Bool, true, false, not, ◌&&◌, ◌||◌, nat_lt, List, [], ◌∷◌, Option, None, Some, slice_get, unwrap_or, if◌then◌else◌}
 use Rattle.std.specs.List.{list_any, list_all}
 use Rattle.std.specs.Str.{bytes_eq}
 use Rattle.can_frame.specs.declared.id.CanId.{CanId}
@@ -76,10 +76,15 @@ frame_cells fd = if fd then 9 else 1
 abbrev pub least_cells : PathEntry → Bool → ℕ
 least_cells path fd = if path.store then frame_cells fd else max (frame_cells fd) (path.threshold + frame_cells fd - 1)
 
--- a path from this bus for whose units every buffer is too small
-abbrev pub lacks_buffer : List ℕ → List ChannelEntry → PathEntry → BusEntry → Bool
-lacks_buffer buffers channels path bus =
-    is_source_bus channels path bus && list_all (λ cells. nat_lt cells (least_cells path bus.fd)) buffers
+-- the buffers of the group of this number; there are none where that group isn't there
+abbrev pub buffers_of : List (List ℕ) → ℕ → List ℕ
+buffers_of groups number = unwrap_or (slice_get groups number) []
+
+-- a path from this bus for whose units every buffer of its group is too small
+abbrev pub lacks_buffer : List (List ℕ) → List ChannelEntry → PathEntry → BusEntry → Bool
+lacks_buffer groups channels path bus =
+    is_source_bus channels path bus
+    && list_all (λ cells. nat_lt cells (least_cells path bus.fd)) (buffers_of groups path.group)
 
 -- a receiving side has no destination, and a sending side has one of the path's; else they don't fit
 abbrev pub is_misplaced : Role → Option (List ℕ) → List (List ℕ) → Bool

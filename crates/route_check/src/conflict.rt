@@ -18,7 +18,7 @@ pub enum ConflictKind {
     FunctionalSend,
     /// An interface path meets a channel's frames or another interface path's.
     IfOverlap,
-    /// No buffer is large enough for a path.
+    /// No buffer of its group is large enough for a path, or its group isn't there.
     NoBuffer,
     /// A cancellation doesn't fit its path.
     BadCancel,

@@ -3,11 +3,11 @@ ghost use Rattle.std.specs.Prelude.{◌≡◌, ◌&&◌, nat_lt};
 ghost use Rattle.std.specs.List.{list_all, list_any};
 ghost use Rattle.std.specs.Str.{bytes_eq};
 ghost use Rattle.route_check.specs.Names.{is_among};
-ghost use Rattle.route_check.specs.Entries.{addresses_overlap, frame_cells, is_misplaced, is_source_bus, is_too_long_for, lacks_buffer, least_cells, is_unfit_for, overlaps_channel, repeats, leads_back, leads_back_to, same_id, sends_functionally, share_address, share_channel, share_target};
+ghost use Rattle.route_check.specs.Entries.{addresses_overlap, buffers_of, frame_cells, is_misplaced, is_source_bus, is_too_long_for, lacks_buffer, least_cells, is_unfit_for, overlaps_channel, repeats, leads_back, leads_back_to, same_id, sends_functionally, share_address, share_channel, share_target};
 
 use can_frame::CanId;
 use gw_base::Bytes;
-use gw_config::{BusKeys, CancelKeys, ChannelKeys, InterfaceKeys, PathKeys, Role};
+use gw_config::{BusKeys, CancelKeys, CellsList, ChannelKeys, InterfaceKeys, PathKeys, Role};
 
 /// The most bytes of a classic frame.
 const CLASSIC_LENGTH: u8 = 8;
@@ -163,16 +163,28 @@ fn least_cells(path: &PathKeys, fd: bool) -> u64
     frame.max(u64::from(path.threshold) + frame - 1)
 }
 
-/// Whether every buffer is too small for units of the path from this bus, which is its source's.
+/// The buffers of the group of this number; none where that group isn't there.
+fn buffers_of(groups: &[CellsList], number: u8) -> &[u32]
+    ensures { result.now ≡ buffers_of groups.now number }
+{
+    match groups.get(usize::from(number)) {
+        Some(group) => group.items(),
+        None => &[],
+    }
+}
+
+/// Whether every buffer of its group is too small for units of the path from this bus, which is its source's. So they
+/// are where the group isn't there.
 pub(crate) fn lacks_buffer(
-    buffers: &[u32],
+    groups: &[CellsList],
     channels: &[ChannelKeys],
     path: &PathKeys,
     bus: &BusKeys,
 ) -> bool
-    ensures { result ≡ lacks_buffer buffers.now channels.now path.now bus.now }
+    ensures { result ≡ lacks_buffer groups.now channels.now path.now bus.now }
 {
     let least = least_cells(path, bus.fd);
+    let buffers = buffers_of(groups, path.group);
     is_source_bus(channels, path, bus) && are_below(buffers, least)
 }
 

@@ -171,7 +171,7 @@ fn has_if_overlap(config: &Config, at: Conflict) -> bool
     }
 }
 
-/// Whether no buffer is large enough for a path.
+/// Whether no buffer of its group is large enough for a path.
 fn has_no_buffer(config: &Config, at: Conflict) -> bool
     ensures { result ≡ has_no_buffer config.now at.place at.first at.other at.second }
 {
@@ -179,7 +179,7 @@ fn has_no_buffer(config: &Config, at: Conflict) -> bool
         (Place::Path, Place::Bus) => {
             match (path_at(config, at.first), bus_at(config, at.second)) {
                 (Some(path), Some(bus)) => {
-                    lacks_buffer(config.buffers.items(), config.channel.items(), path, bus)
+                    lacks_buffer(config.groups.items(), config.channel.items(), path, bus)
                 }
                 _ => false,
             }

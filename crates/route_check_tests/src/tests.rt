@@ -31,7 +31,7 @@ to = ["B"]
 "#;
 
 /// What is added to the base, what is said of the first conflict then, and what has none when it is added instead.
-const ADDED: [(&str, &str, &str); 12] = [
+const ADDED: [(&str, &str, &str); 13] = [
     (
         "[[channel]]\nname = 'C'\nbus = 'can2'\nrx = '701'\ntx = '709'\n",
         "unknown-name channel 2 bus 0",
@@ -87,6 +87,7 @@ const ADDED: [(&str, &str, &str); 12] = [
         "no-buffer path 0 bus 0",
         "threshold = 5\nstore = true\n",
     ),
+    ("group = 1\n", "no-buffer path 0 bus 0", "group = 0\n"),
     (
         "[[cancel]]\npath = 'p'\ntick = 0\nrole = 'receive'\nto = 'B'\n",
         "bad-cancel cancel 0 path 0",
@@ -94,20 +95,51 @@ const ADDED: [(&str, &str, &str); 12] = [
     ),
 ];
 
+/// The bus of one path's source and the groups of buffers: a path with a threshold of 5 cells, which the first group's
+/// buffers haven't, and the second's have.
+const GROUPED: &str = r#"groups = [[4, 4], [1, 5]]
+[[bus]]
+name = "can0"
+log = "can0.log"
+out = "can0.out"
+[[channel]]
+name = "A"
+bus = "can0"
+rx = "700"
+tx = "708"
+[[channel]]
+name = "B"
+bus = "can0"
+rx = "718"
+tx = "710"
+[[path]]
+name = "p"
+from = "A"
+to = ["B"]
+threshold = 5
+"#;
+
+/// What is added to it, and what is said then.
+const OF_GROUPS: [(&str, &str); 3] = [
+    ("group = 0\n", "no-buffer path 0 bus 0"),
+    ("group = 1\n", ACCEPTED),
+    ("group = 2\n", "no-buffer path 0 bus 0"),
+];
+
 /// What is said of a configuration without a conflict.
 const ACCEPTED: &str = "accepted";
 
-/// The base with this text after it.
-fn config_with(alloc: Global, added: &str) -> Result<Config, Fail> {
+/// The configuration with this text after it.
+fn config_with(alloc: Global, configuration: &str, added: &str) -> Result<Config, Fail> {
     let mut text = Bytes::new(alloc);
-    text.append(BASE.as_bytes())?;
+    text.append(configuration.as_bytes())?;
     text.append(added.as_bytes())?;
     Ok(read_config(alloc, text.items())?)
 }
 
-/// What is said of the first conflict of the base with this text after it.
-fn said_of(alloc: Global, added: &str) -> Result<String, Fail> {
-    match check(config_with(alloc, added)?) {
+/// What is said of the first conflict of the configuration with this text after it.
+fn said_of(alloc: Global, configuration: &str, added: &str) -> Result<String, Fail> {
+    match check(config_with(alloc, configuration, added)?) {
         Ok(_) => Ok(String::from_str(alloc, ACCEPTED)?),
         Err(refused) => Ok(refused.conflict.to_string(alloc)?),
     }
@@ -115,15 +147,23 @@ fn said_of(alloc: Global, added: &str) -> Result<String, Fail> {
 
 #[test]
 fn the_base_is_accepted(rt: HostRuntime) -> Result<(), Fail> {
-    assert_eq!(rt; said_of(rt.alloc(), "")?.as_str(), ACCEPTED);
+    assert_eq!(rt; said_of(rt.alloc(), BASE, "")?.as_str(), ACCEPTED);
     Ok(())
 }
 
 #[test]
 fn each_conflict_is_said_and_can_be_mended(rt: HostRuntime) -> Result<(), Fail> {
     for (added, said, mended) in ADDED {
-        assert_eq!(rt; said_of(rt.alloc(), added)?.as_str(), said);
-        assert_eq!(rt; said_of(rt.alloc(), mended)?.as_str(), ACCEPTED);
+        assert_eq!(rt; said_of(rt.alloc(), BASE, added)?.as_str(), said);
+        assert_eq!(rt; said_of(rt.alloc(), BASE, mended)?.as_str(), ACCEPTED);
+    }
+    Ok(())
+}
+
+#[test]
+fn a_path_has_the_buffers_of_its_group(rt: HostRuntime) -> Result<(), Fail> {
+    for (added, said) in OF_GROUPS {
+        assert_eq!(rt; said_of(rt.alloc(), GROUPED, added)?.as_str(), said);
     }
     Ok(())
 }

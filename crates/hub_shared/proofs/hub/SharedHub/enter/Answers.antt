@@ -56,6 +56,7 @@ store-requires-2 c =
         some_len = c.requires.len;
         some_readers = c.requires.readers.0;
         all = some-power (c.args.readers + 1);
+        small = record { path_small = omega (arith, c.ranges); dests_small = c.requires.readers.1; len_small = omega (arith, c.ranges) };
       }),
     )
 

@@ -16,3 +16,5 @@ pub mod Heard
 pub mod HeardAll
 pub mod Counted
 pub mod Ticking
+pub mod Emitted
+pub mod Leavings

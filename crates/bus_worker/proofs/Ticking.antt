@@ -71,7 +71,7 @@ ticks {Home = Home} tick frames u a b c d pu pa pb pc pd hears times turns_all e
     let M : ℕ → Type 0 = λ k. Did {Home = Home} n k (four.done ++ (three.done ++ (two.done ++ one.done))) u d pu pd in
     let T : ℕ → Type 0 = λ k. AreTimers tick k u.channels.items two.done in
     let S : ℕ → Type 0 = λ k. AreTurns tick k u.channels.items three.done in
-    let B : ℕ → Type 0 = λ k. IsEmitted k c.boxes four.out d.boxes in
+    let B : ℕ → Type 0 = λ k. IsEmitted k c.boxes four.out four.after in
     record {
       came = one.done;
       timers = two.done;
@@ -85,6 +85,7 @@ ticks {Home = Home} tick frames u a b c d pu pa pb pc pd hears times turns_all e
       before = c;
       lay = three.at.lie;
       out = four.out;
+      after = four.after;
       emitted = subst B second.budget four.emitted;
       told = four.are;
       sent = four.sent ∙ ap (λ l. l ++ all_sent_in tick four.out) (three.sent ∙ two.sent ∙ one.sent);

@@ -1,5 +1,6 @@
 -- The frames that leave a bus in a tick, in their order, and that each of their machines is told of its own.
-use Rattle.std.specs.Prelude.{◌≡◌, ℕ, ◌≤◌, Option, None, List, [], ◌∷◌, ◌++◌, map}
+use Rattle.std.specs.Prelude.{◌≡◌, ◌≢◌, ℕ, ◌≤◌, Option, None, List, [], ◌∷◌, ◌++◌, map}
+use Rattle.can_frame.specs.Frame.{CanFrame}
 use Rattle.hub_core.specs.Stays.{PortState}
 use Rattle.tp_receiver.specs.State.{RxTurn, FcLeft}
 use Rattle.tp_sender.specs.State.{TxTurn}
@@ -46,27 +47,36 @@ sent_in tick entry = record { tick = tick; frame = entry.1 }
 abbrev pub all_sent_in : (tick : ℕ) → List Pending → List Written
 all_sent_in tick left = map (sent_in tick) left
 
--- one frame left, and its machine was told: what lies in the boxes stays
-pub record OneLeft {Home : Type 0} (tick : ℕ) (entry : Pending) (later : List Pending) (acts : List Act) (v w : Worker) (old new : PortState Home) : Type 0 where
+-- a frame left the box of that number, which is empty, and so is that of each frame that left after it
+pub record LeftBox {Home : Type 0} (tick number : ℕ) (w : Worker) (port : PortState Home) : Type 0 where
+  pub since : ℕ
+  pub acts : List Act
+  pub frame : CanFrame
+  pub later : List Pending
+  pub by : since ≤ tick
+  pub at : RestsBut since acts ((number, frame) ∷ later) w port
+  pub out : content number (later ++ w.boxes) ≡ None
+
+-- the machine of a frame that left was told: what lies in the other boxes stays
+pub record OneLeft {Home : Type 0} (tick number : ℕ) (later : List Pending) (acts : List Act) (v w : Worker) (old new : PortState Home) : Type 0 where
   pub act : Act
   pub at : RestsBut tick (act ∷ acts) later w new
   pub did : Did 0 0 (act ∷ []) v w old new
-  pub is : IsLeaving tick entry.0 act
-  pub sent : w.sent ≡ v.sent ++ sent_in tick entry ∷ []
-  pub boxes : (number : ℕ) → content number w.boxes ≡ content number v.boxes
+  pub is : IsLeaving tick number act
+  pub sent : w.sent ≡ v.sent
+  pub others : (other : ℕ) → other ≢ number → content other w.boxes ≡ content other v.boxes
 
 -- whatever was done before, and whatever left after it
-abbrev pub LeavesAfter : {Home : Type 0} → (tick : ℕ) → Pending → (v w : Worker) → (old new : PortState Home) → Type 0
-LeavesAfter tick entry v w old new = (since : ℕ) (acts : List Act) (later : List Pending) → since ≤ tick → RestsBut since acts (entry ∷ later) v old → content entry.0 (later ++ v.boxes) ≡ None → OneLeft tick entry later acts v w old new
+abbrev pub LeavesAfter : {Home : Type 0} → (tick number : ℕ) → (v w : Worker) → (old new : PortState Home) → Type 0
+LeavesAfter tick number v w old new = (since : ℕ) (acts : List Act) (frame : CanFrame) (later : List Pending) → since ≤ tick → RestsBut since acts ((number, frame) ∷ later) v old → content number (later ++ v.boxes) ≡ None → OneLeft tick number later acts v w old new
 
--- these frames left, and their machines were told: what lies in the boxes stays
+-- these frames left, and their machines were told
 pub record AllLeft {Home : Type 0} (tick : ℕ) (left : List Pending) (acts : List Act) (v w : Worker) (old new : PortState Home) : Type 0 where
   pub done : List Act
   pub at : Rests tick (done ++ acts) w new
   pub did : Did 0 0 done v w old new
   pub are : AreLeaving tick left done
   pub sent : w.sent ≡ v.sent ++ all_sent_in tick left
-  pub boxes : (number : ℕ) → content number w.boxes ≡ content number v.boxes
 
 -- whatever was done before
 abbrev pub AllLeaveAfter : {Home : Type 0} → (tick : ℕ) → (left : List Pending) → (v w : Worker) → (old new : PortState Home) → Type 0
@@ -75,7 +85,9 @@ AllLeaveAfter tick left v w old new = (since : ℕ) (acts : List Act) → since 
 -- a tick's frames left, at most a budget of them, by arbitration, and their machines were told
 pub record Emits {Home : Type 0} (tick : ℕ) (acts : List Act) (v w : Worker) (old new : PortState Home) : Type 0 where
   pub out : List Pending
-  pub emitted : IsEmitted v.budget v.boxes out w.boxes
+  -- what lay in the boxes right after the emission
+  pub after : List Pending
+  pub emitted : IsEmitted v.budget v.boxes out after
   pub done : List Act
   pub at : Rests tick (done ++ acts) w new
   pub did : Did 0 0 done v w old new

@@ -31,7 +31,8 @@ pub record TickIsDone {Home : Type 0} (tick : ℕ) (frames : List CanFrame) (act
   pub before : Worker
   pub lay : LieThere (turns ++ (timers ++ (came ++ acts))) before.channels.items (λ number. content number before.boxes)
   pub out : List Pending
-  pub emitted : IsEmitted v.budget before.boxes out w.boxes
+  pub after : List Pending
+  pub emitted : IsEmitted v.budget before.boxes out after
   pub told : AreLeaving tick out left
   pub sent : w.sent ≡ v.sent ++ all_sent_in tick out
   pub clear : (place : ℕ) → clear_from (sent_at place (acts_of came timers turns left acts)) ≤ tick + 1

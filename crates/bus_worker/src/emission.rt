@@ -1,7 +1,6 @@
 //! The frames that leave the bus in a tick, and who is told of them.
-ghost use Rattle.std.specs.Prelude.{◌≡◌, ◌≤◌, ◌∷◌, List, OnOk};
-ghost use Rattle.tx_mailbox.specs.Boxes.{Pending};
-ghost use Rattle.bus_worker.specs.Emission.{AllLeaveAfter, AwaitsLeft, EmitsAfter, LeavesAfter};
+ghost use Rattle.std.specs.Prelude.{◌≡◌, ◌≤◌, OnOk};
+ghost use Rattle.bus_worker.specs.Emission.{AllLeaveAfter, AwaitsLeft, EmitsAfter, LeavesAfter, LeftBox};
 ghost use Rattle.bus_worker.specs.Phases.{RestsBy};
 
 use crate::sent::Sent;
@@ -40,8 +39,13 @@ impl Worker {
         Ok(())
     }
 
-    /// These frames left their boxes: each one's machine is told, in this order.
-    fn leave_all<P: Port>(&mut self, left: &[(u8, Frame)], tick: Tick, port: &mut P) -> Result<(), Memory>
+    /// These frames left their boxes: each one's machine is told, in this order, and the frame is noted.
+    fn leave_all<P: Port>(
+        &mut self,
+        left: &[(u8, Frame)],
+        tick: Tick,
+        port: &mut P,
+    ) -> Result<(), Memory>
         requires tick { tick.0 ≤ 10_000_000 }
         requires left { AwaitsLeft tick.0 left.now self.old (P.state port.old) }
         ensures { OnOk result (AllLeaveAfter tick.0 left.now self.old self.new (P.state port.old) (P.state port.new)) }
@@ -49,20 +53,21 @@ impl Worker {
         let [first, later @ ..] = left else {
             return Ok(());
         };
-        self.leave(first, tick, port)?;
+        self.leave(first.0, tick, port)?;
+        self.sent.push(Sent {
+            tick,
+            frame: copy_of(&first.1),
+        })?;
         self.leave_all(later, tick, port)?;
         Ok(())
     }
 
-    /// A frame left the box of that number: it is noted, and its machine is told.
-    fn leave<P: Port>(&mut self, entry: &(u8, Frame), tick: Tick, port: &mut P) -> Result<(), Memory>
+    /// A frame left the box of that number: its machine is told.
+    fn leave<P: Port>(&mut self, number: u8, tick: Tick, port: &mut P) -> Result<(), Memory>
         requires tick { tick.0 ≤ 10_000_000 }
-        requires left { (later : List Pending) × AwaitsLeft tick.0 (entry.now ∷ later) self.old (P.state port.old) }
-        ensures { OnOk result (LeavesAfter tick.0 entry.now self.old self.new (P.state port.old) (P.state port.new)) }
+        requires left { LeftBox tick.0 number self.old (P.state port.old) }
+        ensures { OnOk result (LeavesAfter tick.0 number self.old self.new (P.state port.old) (P.state port.new)) }
     {
-        let number = entry.0;
-        let frame = copy_of(&entry.1);
-        self.sent.push(Sent { tick, frame })?;
         let place = usize::from(number / 2);
         if number % 2 == 0 {
             self.tell_receiver(place, RxEvent::FcLeft, tick, port)?;

@@ -18,3 +18,4 @@ pub mod Counted
 pub mod Ticking
 pub mod Emitted
 pub mod Leavings
+pub mod LeavingAll

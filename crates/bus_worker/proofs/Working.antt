@@ -33,6 +33,19 @@ rests-later since tick acts w port by at = record {
   routed = at.routed;
 }
 
+pub but-later : {Home : Type 0} (since tick : ℕ) (acts : List Act) (lies : ℕ → Option CanFrame) (w : Worker) (port : PortState Home) → since ≤ tick → IsAt since acts lies w port → IsAt tick acts lies w port
+but-later since tick acts lies w port by at = record {
+  stand = record {
+    receivers = λ place r is. receiver-stays r since tick [] port.view port.view _ (at.stand.receivers place r is) by refl refl;
+    senders = λ place s is. sender-stays s since tick [] port.view port.view _ (at.stand.senders place s is) by refl refl;
+    apart = at.stand.apart;
+    few = at.stand.few;
+  };
+  acts_for = at.acts_for;
+  lie = at.lie;
+  routed = at.routed;
+}
+
 -- a receiver's step that takes nothing out of its box
 pub receiver-works : {Home : Type 0} (place tick : ℕ) (event : RxEvent) (v w : Worker) (old new : PortState Home) (told : ReceiverWasTold place event tick v w old new) → ((lies : Option CanFrame) → control_frame_once event lies ≡ lies) →
     WorksAfter tick (takes_for event) (spare_for event) (λ done. done ≡ act-of place tick event v w old new told ∷ []) v w old new

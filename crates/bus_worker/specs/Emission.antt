@@ -70,6 +70,30 @@ pub record OneLeft {Home : Type 0} (tick number : ℕ) (later : List Pending) (a
 abbrev pub LeavesAfter : {Home : Type 0} → (tick number : ℕ) → (v w : Worker) → (old new : PortState Home) → Type 0
 LeavesAfter tick number v w old new = (since : ℕ) (acts : List Act) (frame : CanFrame) (later : List Pending) → since ≤ tick → RestsBut since acts ((number, frame) ∷ later) v old → content number (later ++ v.boxes) ≡ None → OneLeft tick number later acts v w old new
 
+-- the same, and the frame was noted
+pub record OneNoted {Home : Type 0} (tick : ℕ) (entry : Pending) (later : List Pending) (acts : List Act) (v w : Worker) (old new : PortState Home) : Type 0 where
+  pub act : Act
+  pub at : RestsBut tick (act ∷ acts) later w new
+  pub did : Did 0 0 (act ∷ []) v w old new
+  pub is : IsLeaving tick entry.0 act
+  pub sent : w.sent ≡ v.sent ++ sent_in tick entry ∷ []
+  pub others : (other : ℕ) → other ≢ entry.0 → content other w.boxes ≡ content other v.boxes
+
+abbrev pub NotedAfter : {Home : Type 0} → (tick : ℕ) → Pending → (v w : Worker) → (old new : PortState Home) → Type 0
+NotedAfter tick entry v w old new = (since : ℕ) (acts : List Act) (later : List Pending) → since ≤ tick → RestsBut since acts ((entry.0, entry.1) ∷ later) v old → content entry.0 (later ++ v.boxes) ≡ None → OneNoted tick entry later acts v w old new
+
+-- some of the frames that left were noted, the others not yet
+pub record SomeLeft {Home : Type 0} (tick : ℕ) (front rest : List Pending) (acts : List Act) (v w : Worker) (old new : PortState Home) : Type 0 where
+  pub done : List Act
+  pub at : RestsBut tick (done ++ acts) rest w new
+  pub out : AreOut rest w.boxes
+  pub did : Did 0 0 done v w old new
+  pub are : AreLeaving tick front done
+  pub sent : w.sent ≡ v.sent ++ all_sent_in tick front
+
+abbrev pub SomeLeaveAfter : {Home : Type 0} → (tick : ℕ) → (left front rest : List Pending) → (v w : Worker) → (old new : PortState Home) → Type 0
+SomeLeaveAfter tick left front rest v w old new = (since : ℕ) (acts : List Act) → since ≤ tick → RestsBut since acts left v old → AreOut left v.boxes → SomeLeft tick front rest acts v w old new
+
 -- these frames left, and their machines were told
 pub record AllLeft {Home : Type 0} (tick : ℕ) (left : List Pending) (acts : List Act) (v w : Worker) (old new : PortState Home) : Type 0 where
   pub done : List Act

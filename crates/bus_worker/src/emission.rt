@@ -1,6 +1,6 @@
 //! The frames that leave the bus in a tick, and who is told of them.
 ghost use Rattle.std.specs.Prelude.{◌≡◌, ◌≤◌, OnOk};
-ghost use Rattle.bus_worker.specs.Emission.{AllLeaveAfter, AwaitsLeft, EmitsAfter, LeavesAfter, LeftBox};
+ghost use Rattle.bus_worker.specs.Emission.{AllLeaveAfter, AwaitsLeft, EmitsAfter, LeavesAfter, LeftBox, NotedAfter};
 ghost use Rattle.bus_worker.specs.Phases.{RestsBy};
 
 use crate::sent::Sent;
@@ -50,15 +50,28 @@ impl Worker {
         requires left { AwaitsLeft tick.0 left.now self.old (P.state port.old) }
         ensures { OnOk result (AllLeaveAfter tick.0 left.now self.old self.new (P.state port.old) (P.state port.new)) }
     {
-        let [first, later @ ..] = left else {
-            return Ok(());
-        };
-        self.leave(first.0, tick, port)?;
+        for entry in left {
+            self.leave_one(entry, tick, port)?;
+        }
+        Ok(())
+    }
+
+    /// A frame left its box: its machine is told, and it is noted.
+    fn leave_one<P: Port>(
+        &mut self,
+        entry: &(u8, Frame),
+        tick: Tick,
+        port: &mut P,
+    ) -> Result<(), Memory>
+        requires tick { tick.0 ≤ 10_000_000 }
+        requires left { LeftBox tick.0 entry.now.0 self.old (P.state port.old) }
+        ensures { OnOk result (NotedAfter tick.0 entry.now self.old self.new (P.state port.old) (P.state port.new)) }
+    {
+        self.leave(entry.0, tick, port)?;
         self.sent.push(Sent {
             tick,
-            frame: copy_of(&first.1),
+            frame: copy_of(&entry.1),
         })?;
-        self.leave_all(later, tick, port)?;
         Ok(())
     }
 

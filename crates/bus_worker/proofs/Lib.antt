@@ -19,3 +19,4 @@ pub mod Ticking
 pub mod Emitted
 pub mod Leavings
 pub mod LeavingAll
+pub mod Emitting

@@ -93,15 +93,15 @@ module _ {Home : Type 0} (place t tick : ℕ) (event : RxEvent) (acts : List Act
           let did = told.tells.did in
           let own : content (control_box place) w.boxes ≡ framed told.before.shape (control_after (turn-of event did ∷ turns)) =
           told.tells.box.own ∙ ap (frame_then told.before.shape did.act) (box ∙ ap (control_frame_once event) (at.lie.controls place told.before told.was) ∙ sym (framed-control told.before.shape event (control_after turns)))
-              ∙ sym (framed-then told.before.shape did.act (control_once event (control_after turns))) in
+          ∙ sym (framed-then told.before.shape did.act (control_once event (control_after turns))) in
           let shape : told.before.shape ≡ r.shape = sym told.tells.shape ∙ ap (λ (x : Receiving). x.shape) after-is in
           ap (λ (p : ℕ). lies-then place w lies (control_box p)) here ∙ at_one-same (control_box place) (content (control_box place) w.boxes) lies ∙ own
-              ∙ ap (λ (x : Shape). framed x (control_after (turn-of event did ∷ turns))) shape
-              ∙ ap (λ (l : List RxTurn). framed r.shape (control_after l)) (sym (ap (λ (p : ℕ). received_at p (act-of place tick event v w old new told ∷ acts)) here ∙ received-own place (turn-of event did) acts))
+          ∙ ap (λ (x : Shape). framed x (control_after (turn-of event did ∷ turns))) shape
+          ∙ ap (λ (l : List RxTurn). framed r.shape (control_after l)) (sym (ap (λ (p : ℕ). received_at p (act-of place tick event v w old new told ∷ acts)) here ∙ received-own place (turn-of event did) acts))
       | inr ne ↦
           at_one-other (control_box place) (control_box other) (content (control_box place) w.boxes) lies (λ eq. ne (omega (arith, eq)))
-              ∙ at.lie.controls other r (sym (told.others.receivers other ne) ∙ is)
-              ∙ ap (λ (l : List RxTurn). framed r.shape (control_after l)) (sym (received-other place other (turn-of event told.tells.did) acts ne))
+          ∙ at.lie.controls other r (sym (told.others.receivers other ne) ∙ is)
+          ∙ ap (λ (l : List RxTurn). framed r.shape (control_after l)) (sym (received-other place other (turn-of event told.tells.did) acts ne))
     ];
     frames = λ other s is. at_one-other (control_box place) (frame_box other) (content (control_box place) w.boxes) lies (λ eq. omega (arith, eq)) ∙ at.lie.frames other s (sym (senders-are other) ∙ is);
     no_controls = λ other none. elim (cases_eq other place) [

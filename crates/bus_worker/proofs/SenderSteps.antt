@@ -102,15 +102,15 @@ module _ {Home : Type 0} (place t tick : ℕ) (event : TxEvent) (acts : List Act
           let did = told.tells.did in
           let own : content (frame_box place) w.boxes ≡ framed told.before.shape (box_after (sent-of event did ∷ turns)) =
           told.tells.box.own ∙ ap (frame_then told.before.shape did.act) (box ∙ ap (data_frame_once event) (at.lie.frames place told.before told.was) ∙ sym (framed-data told.before.shape event (box_after turns)))
-              ∙ sym (framed-then told.before.shape did.act (box_once event (box_after turns))) in
+          ∙ sym (framed-then told.before.shape did.act (box_once event (box_after turns))) in
           let shape : told.before.shape ≡ s.shape = sym told.before.own ∙ ap (λ (x : TxSet). x.shape) (sym told.tells.set) ∙ told.after.own ∙ ap (λ (x : Sending). x.shape) after-is in
           ap (λ (p : ℕ). lies-then place w lies (frame_box p)) here ∙ at_one-same (frame_box place) (content (frame_box place) w.boxes) lies ∙ own
-              ∙ ap (λ (x : Shape). framed x (box_after (sent-of event did ∷ turns))) shape
-              ∙ ap (λ (l : List TxTurn). framed s.shape (box_after l)) (sym (ap (λ (p : ℕ). sent_at p (act-of place tick event v w old new told ∷ acts)) here ∙ sent-own place (sent-of event did) acts))
+          ∙ ap (λ (x : Shape). framed x (box_after (sent-of event did ∷ turns))) shape
+          ∙ ap (λ (l : List TxTurn). framed s.shape (box_after l)) (sym (ap (λ (p : ℕ). sent_at p (act-of place tick event v w old new told ∷ acts)) here ∙ sent-own place (sent-of event did) acts))
       | inr ne ↦
           at_one-other (frame_box place) (frame_box other) (content (frame_box place) w.boxes) lies (λ eq. ne (omega (arith, eq)))
-              ∙ at.lie.frames other s (sym (told.others.senders other ne) ∙ is)
-              ∙ ap (λ (l : List TxTurn). framed s.shape (box_after l)) (sym (sent-other place other (sent-of event told.tells.did) acts ne))
+          ∙ at.lie.frames other s (sym (told.others.senders other ne) ∙ is)
+          ∙ ap (λ (l : List TxTurn). framed s.shape (box_after l)) (sym (sent-other place other (sent-of event told.tells.did) acts ne))
     ];
     no_controls = λ other none. at_one-other (frame_box place) (control_box other) (content (frame_box place) w.boxes) lies (λ eq. omega (arith, eq)) ∙ at.lie.no_controls other (sym (receivers-are other) ∙ none);
     no_frames = λ other none. elim (cases_eq other place) [

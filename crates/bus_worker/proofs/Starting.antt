@@ -209,7 +209,7 @@ module _ (plans : List ChannelPlan) (w : Worker) (planned : IsBusPlan plans) (zi
         let same : from.0 ≡ mine.plan = same-some from.1 mine.there in
         let so = source-is (bytes_of_address mine.plan.comes.byte) mine.plan.source mine.one mine.is (planned.each place mine.plan mine.there).source in
         ap (λ (x : RxSet × Shape). x.0.a) (sym a.2) ∙ ap (λ (x : RxSet). x.a) mine.new.set ∙ so.address_is
-            ∙ ap (λ (x : ChannelPlan). bytes_of_address x.comes.byte) (sym same) ∙ ap (λ (x : Comes). bytes_of_address x.byte) from.2;
+        ∙ ap (λ (x : ChannelPlan). bytes_of_address x.comes.byte) (sym same) ∙ ap (λ (x : Comes). bytes_of_address x.byte) from.2;
   }
 
   nothing : (number : ℕ) → content number w.boxes ≡ None

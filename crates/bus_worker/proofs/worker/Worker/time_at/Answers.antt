@@ -1,0 +1,20 @@
+use Rattle.std.proofs.Common.{refl}
+use Rattle.tp_receiver.specs.State.{Timer}
+use Rattle.bus_worker.proofs.Phasing.{can-time, not-received, received-is}
+use Rattle.bus_worker.proofs.Working.{receiver-works, works-none, works-so}
+use Rattle.bus_worker.specs.Phases.{IsTimer}
+use Rattle.bus_worker.proofs.worker.Worker.time_at.Goals as goal
+
+pub tell_receiver-requires-clause-can : goal.tell_receiver-requires-clause-can
+tell_receiver-requires-clause-can g c = can-time c.args.tick.0 c.args.place c.args.self.now _ c.requires.rests
+
+pub returns-in_ok-tell_receiver : goal.returns-in_ok-tell_receiver
+returns-in_ok-tell_receiver g c since acts by at =
+    let told = c.in_ok-tell_receiver.ensures in
+    works-so c.args.tick.0 0 0 _ (IsTimer c.args.tick.0 c.args.place c.args.self.now.channels.items) acts c.args.self.now c.tell_receiver.new.self _ _
+    (received-is c.args.place c.args.tick.0 Timer c.args.self.now c.tell_receiver.new.self _ _ told)
+    (receiver-works c.args.place c.args.tick.0 Timer c.args.self.now c.tell_receiver.new.self _ _ told (λ lies. refl) since acts by at)
+
+pub returns-else-is_source : goal.returns-else-is_source
+returns-else-is_source g c =
+    works-none c.args.tick.0 (IsTimer c.args.tick.0 c.args.place c.args.self.now.channels.items) c.args.self.now _ (not-received c.args.tick.0 Timer c.args.place c.args.self.now.channels.items c.if-is_source.ensures)

@@ -1,0 +1,12 @@
+pub mod Acts
+pub mod Boxed
+pub mod Comes
+pub mod Did
+pub mod Emission
+pub mod Hearing
+pub mod Phases
+pub mod Stands
+pub mod Start
+pub mod Steps
+pub mod Tick
+pub mod Told

@@ -1,0 +1,23 @@
+//! One bus of a run: the machines of its channels, and the boxes in which their frames wait to leave.
+#![tactic(auto)]
+
+mod boxed;
+mod channel;
+mod comes;
+mod emission;
+mod hearing;
+mod notes;
+mod plan;
+mod receiving;
+mod sending;
+mod sent;
+mod start;
+mod tick;
+mod ticks;
+mod told;
+mod worker;
+
+pub use comes::Comes;
+pub use plan::{ChannelPlan, SourcePlan};
+pub use sent::Sent;
+pub use worker::Worker;

@@ -1,7 +1,6 @@
 -- Acts and what each machine did among them.
 use Rattle.std.proofs.Common.{◌≡◌, ◌≢◌, ◌==◌, ℕ, true, false, cond, arith, List, [], ◌∷◌, ◌++◌, refl, ap, sym, ◌∙◌, append-nil, append_assoc}
 use Rattle.std.proofs.lemmas.Bool.Decides.{nat_tests}
-use Rattle.hub_core.specs.View.{Event}
 use Rattle.tp_receiver.specs.State.{RxTurn}
 use Rattle.tp_sender.specs.State.{TxTurn}
 use Rattle.bus_worker.specs.Acts.{Act, Received, Sent, calls_in, calls_of, received_at, received_by, sent_at, sent_by}

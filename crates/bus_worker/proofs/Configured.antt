@@ -1,5 +1,5 @@
 -- Channels that are configured as before keep what rests on how they are configured.
-use Rattle.std.proofs.Common.{◌≡◌, ℕ, ◌<◌, ◌≤◌, List, length, ap, sym, subst, ◌∙◌, arith}
+use Rattle.std.proofs.Common.{◌≡◌, ℕ, ◌<◌, ◌≤◌, List, length, ap, sym, subst, ◌∙◌}
 use Rattle.hub_core.specs.Calls.{Means, SamePool}
 use Rattle.tp_receiver.specs.Port.{ActsFor}
 use Rattle.tp_receiver.specs.declared.set.RxSet.{RxSet}

@@ -1,5 +1,5 @@
 -- In the phases in which each machine is told once no frame comes, and none leaves.
-use Rattle.std.proofs.Common.{◌≡◌, ◌⊎◌, inl, inr, ℕ, ◌+◌, ◌≤◌, ◌<◌, Option, None, Some, List, [], ◌∷◌, ◌++◌, length, length-append, refl, ap, sym, subst, ◌∙◌, arith, append-nil}
+use Rattle.std.proofs.Common.{◌≡◌, inl, inr, ℕ, ◌≤◌, Option, None, Some, List, [], ◌++◌, refl, ap, sym, subst, ◌∙◌, append-nil}
 use Rattle.std.proofs.lemmas.Bool.{cases_lt}
 use Rattle.hub_core.proofs.Turns.{came-append}
 use Rattle.hub_core.specs.Turns.{came_by}

@@ -1,5 +1,5 @@
 -- Some work after some other, and no work at all.
-use Rattle.std.proofs.Common.{◌≡◌, ℕ, ◌+◌, ◌≤◌, Option, List, [], ◌++◌, refl, ap, sym, subst, ◌∙◌, arith, append-nil, append_assoc, ◌*◌, length}
+use Rattle.std.proofs.Common.{◌≡◌, ℕ, ◌+◌, Option, List, [], ◌++◌, refl, ap, sym, subst, ◌∙◌, arith, append-nil, append_assoc, ◌*◌, length}
 use Rattle.can_frame.specs.Frame.{CanFrame}
 use Rattle.hub_core.proofs.Fresh.{are-fresh-append, rise-same, rise-twice}
 use Rattle.hub_core.proofs.Growing.{grows-append}

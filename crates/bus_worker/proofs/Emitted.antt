@@ -1,11 +1,11 @@
 -- What lies in boxes of which some frames left, as long as these count as lying there still.
-use Rattle.std.proofs.Common.{◌≡◌, ◌≢◌, ◌==◌, ◌⊎◌, inl, inr, ℕ, zero, suc, ◌≤◌, ◌<◌, true, false, cond, Option, None, Some, List, [], ◌∷◌, ◌++◌, refl, ap, sym, subst, ◌∙◌, arith}
+use Rattle.std.proofs.Common.{◌≡◌, ◌≢◌, ◌⊎◌, inl, inr, ℕ, zero, suc, ◌<◌, cond, None, Some, List, [], ◌∷◌, ◌++◌, refl, ap, sym, ◌∙◌, arith}
 use Rattle.std.specs.Prelude.{slice_get}
 use Rattle.std.proofs.lemmas.Bool.{cases_eq}
 use Rattle.can_frame.specs.Frame.{CanFrame}
-use Rattle.can_frame.specs.Priority.{priority_of, IsLower}
+use Rattle.can_frame.specs.Priority.{priority_of}
 use Rattle.gw_base.proofs.Lists.{none-some, same-some}
-use Rattle.tx_mailbox.specs.Boxes.{IsEmitted, LeavesBefore, Pending, content}
+use Rattle.tx_mailbox.specs.Boxes.{IsEmitted, Pending, content}
 use Rattle.bus_worker.proofs.ActLists.{differs, is-same}
 use Rattle.bus_worker.specs.Emission.{AreOut}
 

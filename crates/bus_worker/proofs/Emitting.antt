@@ -1,7 +1,5 @@
 -- The emission of a tick, and what is told of it.
-use Rattle.std.proofs.Common.{◌≡◌, ◌≤◌, ◌<◌, ℕ, Option, None, Some, List, [], ◌∷◌, ◌++◌, length, refl, ap, sym, subst, ◌∙◌, arith, append-nil}
-use Rattle.std.specs.Prelude.{slice_get}
-use Rattle.can_frame.specs.Frame.{CanFrame}
+use Rattle.std.proofs.Common.{◌≡◌, ◌≤◌, ℕ, None, List, [], ◌++◌, refl, sym, arith, append-nil}
 use Rattle.gw_base.proofs.Lists.{none-some}
 use Rattle.hub_core.specs.Stays.{PortState}
 use Rattle.tx_mailbox.specs.Boxes.{IsEmitted, Pending, content}

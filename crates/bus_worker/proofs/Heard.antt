@@ -1,5 +1,5 @@
 -- What a machine needs to be told of a frame that comes, and what that is.
-use Rattle.std.proofs.Common.{◌≡◌, inl, inr, ℕ, ◌+◌, ◌*◌, ◌≤◌, ◌<◌, Bool, true, false, Option, None, Some, List, [], ◌∷◌, ◌++◌, length, length-append, refl, ap, sym, subst, ◌∙◌, arith}
+use Rattle.std.proofs.Common.{◌≡◌, inl, inr, ℕ, ◌+◌, ◌≤◌, Bool, true, false, Option, None, Some, List, [], ◌++◌, length, length-append, refl, ap, sym, subst, ◌∙◌, arith}
 use Rattle.std.specs.Prelude.{option_map, slice_get}
 use Rattle.std.proofs.lemmas.Bool.{cases_eq}
 use Rattle.std.proofs.lemmas.Bool.Decides.{nat_tests}
@@ -25,10 +25,9 @@ use Rattle.bus_worker.proofs.Knowing.{waits-later}
 use Rattle.bus_worker.proofs.Lying.{data_frame_once}
 use Rattle.bus_worker.proofs.ActLists.{received-append, sent-append}
 use Rattle.bus_worker.specs.Acts.{Act, received_at, sent_at}
-use Rattle.bus_worker.specs.Did.{Did}
 use Rattle.bus_worker.specs.Hearing.{HearsAfter, HearsBy, IsAnswer, IsAnswerHeard, IsFrameHeard}
 use Rattle.bus_worker.specs.Phases.{IsReceived, IsSent, OneReceived, Works}
-use Rattle.bus_worker.specs.Stands.{SameChannels, receiver_at, receives_at, sender_at, sends_at}
+use Rattle.bus_worker.specs.Stands.{SameChannels, receiver_at, receives_at, sender_at}
 use Rattle.bus_worker.specs.declared.channel.Channel.{Channel}
 use Rattle.bus_worker.specs.Told.{CanTellReceiver, CanTellSender}
 use Rattle.bus_worker.specs.declared.channel.Receiving.{Receiving}

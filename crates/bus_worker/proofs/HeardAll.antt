@@ -1,6 +1,5 @@
 -- Frames that come one after another in a tick.
-use Rattle.std.proofs.Common.{◌≡◌, ◌⊎◌, inl, inr, ℕ, suc, ◌+◌, ◌-◌, ◌*◌, ◌≤◌, ◌<◌, Option, None, Some, List, [], ◌∷◌, ◌++◌, length, length-append, length-take, take, get_or, refl, ap, sym, subst, ◌∙◌, arith, append-nil, append_assoc}
-use Rattle.std.specs.Prelude.{slice_get}
+use Rattle.std.proofs.Common.{◌≡◌, inl, inr, ℕ, suc, ◌+◌, ◌*◌, ◌≤◌, ◌<◌, Option, None, Some, List, [], ◌∷◌, ◌++◌, length, length-append, take, get_or, refl, ap, sym, subst, ◌∙◌, arith, append-nil, append_assoc}
 use Rattle.std.proofs.Math.Seq.{take-suc}
 use Rattle.std.proofs.lemmas.Bool.{cases_eq}
 use Rattle.can_frame.specs.Frame.{CanFrame}
@@ -20,11 +19,10 @@ use Rattle.gw_law.specs.Channels.{bytes_of_address}
 use Rattle.bus_worker.proofs.ActLists.{received-append, sent-append}
 use Rattle.bus_worker.proofs.Doing.{did-then}
 use Rattle.bus_worker.proofs.Heard.{came-few, sent-same, still-clear}
-use Rattle.bus_worker.proofs.Working.{rests-later}
 use Rattle.bus_worker.specs.Acts.{Act, received_at, sent_at}
 use Rattle.bus_worker.specs.Did.{Did}
-use Rattle.bus_worker.specs.Hearing.{AreHeard, Hears, HearsAfter, HearsAll, HearsBy, IsAnswerHeard, IsFrameHeard, IsHeard, Nowhere, Somewhere}
-use Rattle.bus_worker.specs.Phases.{IsReceived, IsSent, OneSent, Rests, Works}
+use Rattle.bus_worker.specs.Hearing.{AreHeard, Hears, HearsAll, HearsBy, IsAnswerHeard, IsHeard, Nowhere, Somewhere}
+use Rattle.bus_worker.specs.Phases.{IsReceived, IsSent, OneSent, Rests}
 use Rattle.bus_worker.specs.Stands.{SameChannels, sends_at}
 use Rattle.bus_worker.specs.declared.channel.Channel.{Channel}
 use Rattle.bus_worker.specs.declared.comes.Comes.{Comes}

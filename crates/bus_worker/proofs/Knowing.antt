@@ -1,8 +1,8 @@
 -- What a machine and a port know of one another holds as long as the machine's own lists stay, and what is waited for is waited for later too.
-use Rattle.std.proofs.Common.{◌≡◌, ℕ, ◌≤◌, length, Option, Some, None, ap, sym, subst, ◌∙◌, arith}
+use Rattle.std.proofs.Common.{◌≡◌, ℕ, ◌≤◌, length, Option, Some, None, ap, sym, ◌∙◌, arith}
 use Rattle.gw_base.specs.declared.numbers.Tick.{Tick}
 use Rattle.hub_core.proofs.Growing.{reads_kept, writes_kept}
-use Rattle.hub_core.specs.View.{Reading, Session, View}
+use Rattle.hub_core.specs.View.{View}
 use Rattle.tp_receiver.specs.Port.{Knows, KnowsState}
 use Rattle.tp_receiver.specs.State.{LiesBy, WaitsBy, WaitsIn}
 use Rattle.tp_receiver.specs.declared.receiver.Receiver.{Receiver}

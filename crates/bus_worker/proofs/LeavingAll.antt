@@ -1,16 +1,14 @@
 -- Frames that left are told of one after another.
-use Rattle.std.proofs.Common.{◌≡◌, ◌≢◌, ℕ, suc, ◌+◌, ◌≤◌, ◌<◌, Option, None, Some, List, [], ◌∷◌, ◌++◌, length, take, drop, get_or, refl, ap, sym, subst, ◌∙◌, arith, append-nil, append_assoc}
-use Rattle.std.specs.Prelude.{map}
+use Rattle.std.proofs.Common.{◌≡◌, ℕ, suc, ◌+◌, ◌<◌, List, [], ◌∷◌, ◌++◌, length, take, drop, get_or, refl, ap, sym, subst, ◌∙◌, arith, append_assoc}
 use Rattle.std.proofs.Math.Seq.{drop-cons, take-suc}
 use Rattle.std.proofs.lemmas.List.{map-append}
 use Rattle.hub_core.specs.Stays.{PortState}
 use Rattle.tp_unit.specs.Box.{Written}
-use Rattle.tx_mailbox.specs.Boxes.{Pending, content}
+use Rattle.tx_mailbox.specs.Boxes.{Pending}
 use Rattle.bus_worker.proofs.Doing.{did-then}
 use Rattle.bus_worker.proofs.Emitted.{content-front, out-stays}
 use Rattle.bus_worker.specs.Acts.{Act}
-use Rattle.bus_worker.specs.Did.{Did}
-use Rattle.bus_worker.specs.Emission.{AreLeaving, AreOut, AwaitsLeft, IsLeaving, LeftBox, NotedAfter, RestsBut, SomeLeaveAfter, SomeLeft, all_sent_in, sent_in}
+use Rattle.bus_worker.specs.Emission.{AreLeaving, AreOut, AwaitsLeft, IsLeaving, LeftBox, NotedAfter, RestsBut, SomeLeaveAfter, all_sent_in, sent_in}
 use Rattle.bus_worker.specs.declared.worker.Worker.{Worker}
 
 -- one frame more

@@ -1,5 +1,5 @@
 -- A frame left its box, and its machine is told.
-use Rattle.std.proofs.Common.{◌≡◌, ◌≢◌, inl, inr, ℕ, ◌+◌, ◌*◌, ◌≤◌, ◌<◌, Option, None, Some, List, [], ◌∷◌, ◌++◌, length, refl, ap, sym, subst, ◌∙◌, arith, append_assoc}
+use Rattle.std.proofs.Common.{◌≡◌, ◌≢◌, inl, inr, ℕ, ◌≤◌, ◌<◌, Option, None, Some, List, ◌∷◌, ◌++◌, length, refl, ap, sym, ◌∙◌, arith}
 use Rattle.std.specs.Prelude.{IsSome, option_and_then, option_map, slice_get}
 use Rattle.std.proofs.lemmas.Bool.{cases_eq}
 use Rattle.std.proofs.lemmas.Option.{slice_get_within}
@@ -18,8 +18,7 @@ use Rattle.bus_worker.proofs.Emitted.{content-back, content-behind, content-fron
 use Rattle.bus_worker.proofs.Knowing.{waits-later}
 use Rattle.bus_worker.proofs.ReceiverSteps.{act-of, lies-then, receiver-at, receiver-did}
 use Rattle.bus_worker.proofs.SenderSteps.{act-of as sent-act, lies-then as frame-lies, sender-at, sender-did}
-use Rattle.bus_worker.specs.Acts.{Act}
-use Rattle.bus_worker.specs.Emission.{Control, Data, LeavesAfter, LeftBox, OneLeft}
+use Rattle.bus_worker.specs.Emission.{Control, Data, LeavesAfter, LeftBox}
 use Rattle.bus_worker.specs.Stands.{Lies, control_box, frame_box, framed, receiver_at, sender_at}
 use Rattle.bus_worker.specs.Steps.{ReceiverWasTold, SenderWasTold}
 use Rattle.bus_worker.specs.Told.{CanTellReceiver, CanTellSender}

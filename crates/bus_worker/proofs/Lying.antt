@@ -1,5 +1,5 @@
 -- What lies in a machine's box after a step: as a unit, and as the frame of it.
-use Rattle.std.proofs.Common.{◌≡◌, Option, Some, None, refl}
+use Rattle.std.proofs.Common.{◌≡◌, Option, None, refl}
 use Rattle.can_frame.specs.Frame.{CanFrame}
 use Rattle.tp_receiver.specs.Runs.{control_once}
 use Rattle.tp_receiver.specs.State.{RxEvent, Came, Timer, FcLeft, RunEnd}

@@ -1,5 +1,5 @@
 -- A machine stands after one more turn of its own, and after steps of others.
-use Rattle.std.proofs.Common.{◌≡◌, ℕ, ◌+◌, ◌≤◌, Option, List, ◌∷◌, ◌++◌, length, refl, ap, sym, subst, ◌∙◌, arith, length-append}
+use Rattle.std.proofs.Common.{◌≡◌, ℕ, ◌+◌, ◌≤◌, List, ◌∷◌, ◌++◌, length, refl, ap, sym, subst, ◌∙◌, arith, length-append}
 use Rattle.hub_core.proofs.Beside.{readings-grown, sessions-grown}
 use Rattle.hub_core.specs.Stays.{PortState}
 use Rattle.hub_core.specs.Turns.{calls_by, came_by, state_after}
@@ -10,21 +10,20 @@ use Rattle.tp_receiver.specs.State.{RxDid, RxEvent, RxState, RxTurn, Came, Timer
 use Rattle.tp_receiver.specs.Table.{RxStep}
 use Rattle.tp_receiver.specs.declared.set.RxSet.{RxSet}
 use Rattle.tp_sender.specs.Runs.{HasSent, InOrder, box_after, box_once}
-use Rattle.tp_sender.specs.State.{HasFrame, StillHasFrame, TxDid, TxState, TxTurn, set_of, state_of, tx_new}
+use Rattle.tp_sender.specs.State.{StillHasFrame, TxDid, TxState, TxTurn, set_of, state_of, tx_new}
 use Rattle.tp_sender.specs.Table.{TxStep}
 use Rattle.tp_sender.specs.declared.event.TxEvent.{TxEvent}
 use Rattle.tp_sender.specs.declared.set.TxSet.{TxSet}
-use Rattle.tp_unit.specs.Box.{box_then}
 use Rattle.tp_unit.specs.declared.shape.Shape.{Shape}
 use Rattle.tx_mailbox.specs.Boxes.{Pending}
 use Rattle.hub_core.specs.declared.record.Move.{Move}
 use Rattle.gw_law.specs.Deeds.{own_view}
 use Rattle.bus_worker.proofs.Fitting.{control-act, frame-act}
 use Rattle.bus_worker.proofs.Knowing.{knows-stays, port-stays, waits-later}
-use Rattle.bus_worker.proofs.Lying.{Both, fits-control, fits-frame, fits-put, has-still, has-then}
+use Rattle.bus_worker.proofs.Lying.{fits-control, fits-frame, fits-put, has-still, has-then}
 use Rattle.bus_worker.proofs.Made.{made-more, made-stays}
 use Rattle.bus_worker.specs.Boxed.{FitsAct}
-use Rattle.bus_worker.specs.Stands.{FitsIn, Lies, ReceiverStands, SenderStands}
+use Rattle.bus_worker.specs.Stands.{FitsIn, ReceiverStands, SenderStands}
 use Rattle.bus_worker.specs.Told.{TellsReceiver, TellsSender}
 use Rattle.bus_worker.specs.declared.channel.Receiving.{Receiving}
 use Rattle.bus_worker.specs.declared.channel.Sending.{Sending}

@@ -1,16 +1,13 @@
 -- The phases of a tick in which each machine is told once: what they need, and how they go from channel to channel.
-use Rattle.std.proofs.Common.{◌≡◌, ◌≢◌, inl, inr, ℕ, zero, suc, ◌+◌, ◌≤◌, ◌<◌, Option, Some, None, List, [], ◌∷◌, ◌++◌, refl, ap, sym, subst, ◌∙◌, arith, append-nil}
+use Rattle.std.proofs.Common.{◌≡◌, inl, inr, ℕ, ◌+◌, ◌≤◌, Some, None, List, [], ◌∷◌, ◌++◌, refl, ap, sym, subst, ◌∙◌, arith, append-nil}
 use Rattle.std.specs.Prelude.{option_map}
 use Rattle.std.proofs.lemmas.Bool.{cases_eq}
 use Rattle.gw_base.proofs.Lists.{none-some}
 use Rattle.hub_core.specs.Stays.{PortState}
 use Rattle.tp_receiver.specs.State.{RxEvent, RxTurn, Timer}
-use Rattle.tp_receiver.specs.declared.set.RxSet.{RxSet}
 use Rattle.tp_sender.specs.State.{TxTurn}
 use Rattle.tp_sender.specs.declared.event.TxEvent.{TxEvent}
 use Rattle.tp_sender.specs.declared.event.TxEvent.TheVariants.{Turn}
-use Rattle.tp_sender.specs.declared.set.TxSet.{TxSet}
-use Rattle.tp_unit.specs.declared.shape.Shape.{Shape}
 use Rattle.bus_worker.proofs.ActLists.{received-append, received-other, received-own, sent-append, sent-other, sent-own}
 use Rattle.bus_worker.proofs.Knowing.{waits-later}
 use Rattle.bus_worker.proofs.ReceiverSteps.{act-of}

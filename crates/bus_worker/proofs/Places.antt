@@ -1,7 +1,6 @@
 -- Items at places of a list in which one was exchanged, and the machines of channels there.
-use Rattle.std.proofs.Common.{◌≡◌, ◌≢◌, ◌<◌, ℕ, zero, suc, Option, Some, None, List, [], ◌∷◌, length, refl, ap, sym, ◌∙◌, arith}
+use Rattle.std.proofs.Common.{◌≡◌, ◌≢◌, ◌<◌, ℕ, zero, suc, Option, Some, List, [], ◌∷◌, length, refl, ap, arith}
 use Rattle.std.specs.Prelude.{slice_get, slice_set, option_and_then}
-use Rattle.std.proofs.lemmas.Option.{slice_get-get_or}
 use Rattle.bus_worker.specs.declared.channel.Channel.{Channel}
 use Rattle.bus_worker.specs.declared.channel.Receiving.{Receiving}
 use Rattle.bus_worker.specs.declared.channel.Sending.{Sending}

@@ -1,5 +1,5 @@
 -- A step of one sender of the bus: all machines stand after it.
-use Rattle.std.proofs.Common.{◌≡◌, ◌≢◌, inl, inr, ℕ, ◌+◌, ◌*◌, ◌≤◌, Option, Some, None, List, [], ◌∷◌, ◌++◌, refl, ap, sym, subst, ◌∙◌, arith}
+use Rattle.std.proofs.Common.{◌≡◌, ◌≢◌, inl, inr, ℕ, ◌≤◌, Option, Some, List, [], ◌∷◌, ap, sym, subst, ◌∙◌, arith}
 use Rattle.std.specs.Prelude.{option_map}
 use Rattle.std.proofs.lemmas.Bool.{cases_eq}
 use Rattle.can_frame.specs.Frame.{CanFrame}
@@ -20,7 +20,7 @@ use Rattle.bus_worker.proofs.Machines.{receiver-stays, sender-stays, sender-turn
 use Rattle.bus_worker.specs.Acts.{Act, Sent, received_at, sent_at}
 use Rattle.bus_worker.specs.Boxed.{frame_then}
 use Rattle.bus_worker.specs.Did.{Did, IsAt}
-use Rattle.bus_worker.specs.Stands.{LieThere, ReceiverStands, SameChannels, SenderStands, Stand, control_box, frame_box, framed, receiver_at, sender_at, sends_at}
+use Rattle.bus_worker.specs.Stands.{LieThere, ReceiverStands, SameChannels, SenderStands, control_box, frame_box, framed, receiver_at, sender_at, sends_at}
 use Rattle.bus_worker.specs.Steps.{SenderWasTold}
 use Rattle.bus_worker.specs.declared.channel.Receiving.{Receiving}
 use Rattle.bus_worker.specs.declared.channel.Sending.{Sending}

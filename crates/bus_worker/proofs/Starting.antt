@@ -9,19 +9,19 @@ use Rattle.gw_base.specs.declared.numbers.Tick.{Tick}
 use Rattle.hub_core.specs.Calls.{Means}
 use Rattle.hub_core.specs.View.{View}
 use Rattle.tp_receiver.specs.Port.{ActsFor, KnowsState}
-use Rattle.tp_receiver.specs.State.{LiesBy, RxState, WaitsIn, reception_in, state_of as receiver_state}
+use Rattle.tp_receiver.specs.State.{LiesBy, RxState, WaitsIn, reception_in}
 use Rattle.tp_receiver.specs.declared.reception.State.{State}
 use Rattle.tp_receiver.specs.declared.reception.State.TheVariants.{Idle, Busy}
 use Rattle.tp_receiver.specs.declared.set.RxSet.{RxSet}
 use Rattle.tp_sender.specs.Port.{ActsForSet, KnowsLive}
-use Rattle.tp_sender.specs.State.{HasFrame, TxState, since_of, state_of as sender_state, transmission_of}
+use Rattle.tp_sender.specs.State.{HasFrame, TxState, since_of, transmission_of}
 use Rattle.tp_sender.specs.declared.set.TxSet.{TxSet}
 use Rattle.tp_sender.specs.declared.transmission.Transmission.{Transmission}
 use Rattle.tp_unit.specs.declared.shape.Shape.{Shape}
 use Rattle.gw_law.specs.Channels.{bytes_of_address}
 use Rattle.tx_mailbox.specs.Boxes.{Pending, content}
 use Rattle.bus_worker.specs.Did.{IsAtView}
-use Rattle.bus_worker.specs.Stands.{ActsForAll, AreApart, AreRouted, LieThere, ReceiverStands, SenderStands, Stand, receiver_at, receives_at, sender_at, sends_at}
+use Rattle.bus_worker.specs.Stands.{ActsForAll, AreApart, AreRouted, ReceiverStands, SenderStands, receiver_at, receives_at, sender_at, sends_at}
 use Rattle.bus_worker.specs.Start.{IsBusPlan, IsNewChannel, IsNewDestination, IsNewReceiving, IsNewSending, IsNewSource, IsReady, IsSource, IsSourcePlan}
 use Rattle.bus_worker.specs.declared.channel.Channel.{Channel}
 use Rattle.bus_worker.specs.declared.channel.Receiving.{Receiving}

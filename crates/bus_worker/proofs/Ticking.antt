@@ -1,24 +1,23 @@
 -- The phases of a tick, one after another.
-use Rattle.std.proofs.Common.{◌≡◌, ◌≢◌, inl, inr, ℕ, ◌+◌, ◌*◌, ◌≤◌, ◌<◌, List, [], ◌∷◌, ◌++◌, length, refl, ap, sym, subst, ◌∙◌, arith, append_assoc}
+use Rattle.std.proofs.Common.{inl, inr, ℕ, ◌+◌, ◌*◌, ◌≤◌, List, [], ◌∷◌, ◌++◌, length, ap, sym, subst, ◌∙◌, arith, append_assoc}
 use Rattle.std.proofs.lemmas.Bool.{cases_eq}
 use Rattle.can_frame.specs.Frame.{CanFrame}
 use Rattle.hub_core.specs.Stays.{PortState}
 use Rattle.tp_sender.specs.Runs.{after_left, clear_from}
 use Rattle.tp_sender.specs.State.{TxTurn}
 use Rattle.tp_sender.specs.declared.event.TxEvent.{TxEvent}
-use Rattle.tp_sender.specs.declared.event.TxEvent.TheVariants.{Left}
 use Rattle.tx_mailbox.specs.Boxes.{IsEmitted, Pending}
 use Rattle.bus_worker.proofs.ActLists.{sent-other, sent-own}
 use Rattle.bus_worker.proofs.Counted.{timers-clear, turns-clear}
 use Rattle.bus_worker.proofs.Doing.{did-then}
 use Rattle.bus_worker.proofs.HeardAll.{are-heard-clear}
-use Rattle.bus_worker.specs.Acts.{Act, Received, Sent, sent_at}
+use Rattle.bus_worker.specs.Acts.{Act, Sent, sent_at}
 use Rattle.bus_worker.specs.Did.{Did}
 use Rattle.bus_worker.specs.Emission.{AreLeaving, Control, Data, EmitsAfter, IsLeaving, all_sent_in}
-use Rattle.bus_worker.specs.Hearing.{AreHeard, HearsAll}
-use Rattle.bus_worker.specs.Phases.{AreTimers, AreTurns, Rests, RestsBy, TimesAll, TurnsAll}
+use Rattle.bus_worker.specs.Hearing.{HearsAll}
+use Rattle.bus_worker.specs.Phases.{AreTimers, AreTurns, TimesAll, TurnsAll}
 use Rattle.bus_worker.specs.Stands.{SameChannels}
-use Rattle.bus_worker.specs.Tick.{TickIsDone, WorksTick}
+use Rattle.bus_worker.specs.Tick.{WorksTick}
 use Rattle.bus_worker.specs.declared.channel.Channel.{Channel}
 use Rattle.bus_worker.specs.declared.worker.Worker.{Worker}
 

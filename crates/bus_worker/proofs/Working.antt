@@ -1,5 +1,5 @@
 -- A machine's step as work of the bus, and works one after another.
-use Rattle.std.proofs.Common.{◌≡◌, ◌≢◌, inl, inr, ℕ, ◌+◌, ◌≤◌, Option, Some, None, List, [], ◌∷◌, ◌++◌, refl, ap, sym, subst, ◌∙◌, arith, append_assoc}
+use Rattle.std.proofs.Common.{◌≡◌, ℕ, ◌+◌, ◌≤◌, Option, List, [], ◌∷◌, ◌++◌, refl, sym, subst, ◌∙◌, arith, append_assoc}
 use Rattle.can_frame.specs.Frame.{CanFrame}
 use Rattle.hub_core.specs.Stays.{PortState}
 use Rattle.tp_receiver.specs.Port.{spare_for, takes_for}

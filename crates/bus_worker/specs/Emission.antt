@@ -1,5 +1,5 @@
 -- The frames that leave a bus in a tick, in their order, and that each of their machines is told of its own.
-use Rattle.std.specs.Prelude.{◌≡◌, ◌≢◌, ℕ, ◌≤◌, Option, None, List, [], ◌∷◌, ◌++◌, map}
+use Rattle.std.specs.Prelude.{◌≡◌, ◌≢◌, ℕ, ◌≤◌, None, List, [], ◌∷◌, ◌++◌, map}
 use Rattle.can_frame.specs.Frame.{CanFrame}
 use Rattle.hub_core.specs.Stays.{PortState}
 use Rattle.tp_receiver.specs.State.{RxTurn, FcLeft}

@@ -1,5 +1,5 @@
 -- A frame that comes to a bus in a tick: to which channel, and who of its machines is told of what.
-use Rattle.std.specs.Prelude.{◌≡◌, ◌⊎◌, ◌+◌, ◌*◌, ◌≤◌, ◌<◌, ℕ, true, false, Option, None, Some, List, [], ◌∷◌, ◌++◌, length, slice_get, All}
+use Rattle.std.specs.Prelude.{◌≡◌, ◌+◌, ◌*◌, ◌≤◌, ℕ, true, false, Option, None, Some, List, [], ◌∷◌, ◌++◌, length, slice_get, All}
 use Rattle.can_frame.specs.Frame.{CanFrame}
 use Rattle.hub_core.specs.Stays.{PortState}
 use Rattle.hub_core.specs.Turns.{came_by}
@@ -13,7 +13,6 @@ use Rattle.tp_unit.specs.Unit.{Meaning, SingleFrame, FirstFrame, ConsecutiveFram
 use Rattle.gw_law.specs.Channels.{bytes_of_address, is_addressed}
 use Rattle.bus_worker.specs.Acts.{Act, received_at, sent_at}
 use Rattle.bus_worker.specs.Comes.{address_of}
-use Rattle.bus_worker.specs.Did.{Did}
 use Rattle.bus_worker.specs.Phases.{IsReceived, IsSent, Rests, Works}
 use Rattle.bus_worker.specs.declared.channel.Channel.{Channel}
 use Rattle.bus_worker.specs.declared.comes.Comes.{Comes}

@@ -1,19 +1,17 @@
 -- The work of a tick, phase by phase: what each machine of a bus does in it.
-use Rattle.std.specs.Prelude.{◌≡◌, ◌≢◌, ◌⊎◌, ℕ, ◌+◌, ◌≤◌, ◌<◌, Option, None, Some, List, [], ◌∷◌, ◌++◌}
-use Rattle.can_frame.specs.Frame.{CanFrame}
+use Rattle.std.specs.Prelude.{◌≡◌, ◌≢◌, ℕ, ◌≤◌, ◌<◌, None, Some, List, [], ◌∷◌, ◌++◌}
 use Rattle.hub_core.specs.Stays.{PortState}
-use Rattle.tp_receiver.specs.State.{RxEvent, RxTurn, Timer, FcLeft}
+use Rattle.tp_receiver.specs.State.{RxEvent, RxTurn, Timer}
 use Rattle.tp_receiver.specs.declared.set.RxSet.{RxSet}
-use Rattle.tp_sender.specs.Runs.{clear_from}
 use Rattle.tp_sender.specs.State.{TxTurn}
 use Rattle.tp_sender.specs.declared.event.TxEvent.{TxEvent}
-use Rattle.tp_sender.specs.declared.event.TxEvent.TheVariants.{Turn, Left}
+use Rattle.tp_sender.specs.declared.event.TxEvent.TheVariants.{Turn}
 use Rattle.tp_sender.specs.declared.set.TxSet.{TxSet}
 use Rattle.tp_unit.specs.declared.shape.Shape.{Shape}
-use Rattle.tx_mailbox.specs.Boxes.{Pending, content}
-use Rattle.bus_worker.specs.Acts.{Act, Received, Sent, received_at, sent_at}
+use Rattle.tx_mailbox.specs.Boxes.{content}
+use Rattle.bus_worker.specs.Acts.{Act, received_at, sent_at}
 use Rattle.bus_worker.specs.Did.{Did, IsAt}
-use Rattle.bus_worker.specs.Stands.{control_box, frame_box, receiver_at, receives_at, sender_at, sends_at}
+use Rattle.bus_worker.specs.Stands.{receives_at, sends_at}
 use Rattle.bus_worker.specs.declared.channel.Channel.{Channel}
 use Rattle.bus_worker.specs.declared.worker.Worker.{Worker}
 

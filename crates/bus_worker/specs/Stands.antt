@@ -1,15 +1,14 @@
 -- The machines of a bus after what they did: what each is at, what lies in the boxes, and what the port knows of them.
-use Rattle.std.specs.Prelude.{◌≡◌, ◌≢◌, ◌⊎◌, ℕ, ◌+◌, ◌*◌, ◌≤◌, ◌<◌, true, Option, None, Some, List, length, slice_get, option_and_then, option_map}
+use Rattle.std.specs.Prelude.{◌≡◌, ℕ, ◌+◌, ◌*◌, ◌≤◌, true, Option, None, Some, List, length, slice_get, option_and_then, option_map}
 use Rattle.can_frame.specs.Frame.{CanFrame}
 use Rattle.hub_core.specs.Calls.{Means}
-use Rattle.hub_core.specs.Stays.{PortState}
 use Rattle.hub_core.specs.Turns.{calls_by, came_by, now_of, records_by, state_after}
 use Rattle.hub_core.specs.View.{View}
 use Rattle.tp_receiver.specs.Port.{ActsFor, Knows}
 use Rattle.tp_receiver.specs.Runs.{HasReceived, control_after, frames_in}
 use Rattle.tp_receiver.specs.State.{RxTurn, WaitsBy, rx_new, state_of as receiver_state}
 use Rattle.tp_sender.specs.Port.{ActsForSet, Knows as KnowsPort}
-use Rattle.tp_sender.specs.Runs.{HasSent, box_after, clear_from}
+use Rattle.tp_sender.specs.Runs.{HasSent, box_after}
 use Rattle.tp_sender.specs.State.{HasFrame, TxTurn, set_of, since_of, state_of as sender_state, tx_new}
 use Rattle.tp_receiver.specs.declared.set.RxSet.{RxSet}
 use Rattle.tp_sender.specs.declared.set.TxSet.{TxSet}

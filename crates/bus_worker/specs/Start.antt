@@ -1,5 +1,5 @@
 -- How a worker begins: with which machines, and that these stand before their first tick.
-use Rattle.std.specs.Prelude.{◌≡◌, ◌≢◌, ◌<◌, ◌≤◌, ℕ, List, [], Option, None, Some, length, map, slice_get, option_map, All}
+use Rattle.std.specs.Prelude.{◌≡◌, ◌<◌, ◌≤◌, ℕ, List, [], Option, None, Some, length, map, slice_get}
 use Rattle.std.specs.List.{AllZip}
 use Rattle.hub_core.specs.Calls.{Means}
 use Rattle.hub_core.specs.View.{View}

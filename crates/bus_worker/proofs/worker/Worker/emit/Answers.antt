@@ -1,4 +1,4 @@
-use Rattle.std.proofs.Common.{◌≡◌, List, refl, sym, subst}
+use Rattle.std.proofs.Common.{List, sym, subst}
 use Rattle.tx_mailbox.specs.Boxes.{Pending}
 use Rattle.bus_worker.proofs.Emitting.{awaits-emitted, emits-all, emits-nothing, with-boxes}
 use Rattle.bus_worker.specs.Emission.{AllLeaveAfter, AwaitsLeft}

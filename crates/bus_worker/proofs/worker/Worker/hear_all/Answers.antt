@@ -1,4 +1,4 @@
-use Rattle.std.proofs.Common.{◌≡◌, ◌+◌, ◌-◌, ◌<◌, [], ℕ, List, length, take, take_all, refl, sym, subst, arith}
+use Rattle.std.proofs.Common.{◌≡◌, ◌+◌, ◌-◌, ◌<◌, [], ℕ, List, length, take_all, refl, sym, subst, arith}
 use Rattle.can_frame.specs.Frame.{CanFrame}
 use Rattle.bus_worker.proofs.HeardAll.{hears-all-next, hears-next}
 use Rattle.bus_worker.proofs.Working.{works-none}

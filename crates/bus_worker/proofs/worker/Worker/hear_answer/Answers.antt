@@ -1,4 +1,3 @@
-use Rattle.std.proofs.Common.{refl}
 use Rattle.bus_worker.proofs.Heard.{can-answer, in-order, keeps-frame}
 use Rattle.bus_worker.proofs.Phasing.{not-sent, sent-is}
 use Rattle.bus_worker.proofs.Working.{sender-works, works-none, works-so}

@@ -1,4 +1,4 @@
-use Rattle.std.proofs.Common.{◌≡◌, ◌≢◌, ◌≤◌, ◌<◌, ◌+◌, ◌*◌, ◌/◌, ◌%◌, ℕ, sym, subst, arith}
+use Rattle.std.proofs.Common.{◌≡◌, ◌≢◌, ◌/◌, ◌%◌, ℕ, sym, subst, arith}
 use Rattle.bus_worker.proofs.Leavings.{can-leave-control, can-leave-frame, control-left, destination-below, destination-there, frame-left, source-below, source-there}
 use Rattle.bus_worker.specs.Emission.{LeavesAfter}
 use Rattle.bus_worker.specs.Stands.{control_box, frame_box}

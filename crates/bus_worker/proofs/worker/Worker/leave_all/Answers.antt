@@ -1,10 +1,10 @@
-use Rattle.std.proofs.Common.{◌≡◌, ◌+◌, ◌<◌, ◌++◌, [], ℕ, List, length, take, drop, take_all, refl, sym, subst, ◌∙◌, ap, append-nil, arith}
+use Rattle.std.proofs.Common.{◌<◌, ◌++◌, [], List, length, take, take_all, refl, sym, subst, append-nil, arith}
 use Rattle.std.proofs.lemmas.List.{drop_all}
 use Rattle.tx_mailbox.specs.Boxes.{Pending, content}
 use Rattle.bus_worker.proofs.Doing.{did-none}
-use Rattle.bus_worker.proofs.LeavingAll.{awaits-next, next-left, some-next}
+use Rattle.bus_worker.proofs.LeavingAll.{awaits-next, some-next}
 use Rattle.bus_worker.proofs.Working.{but-later}
-use Rattle.bus_worker.specs.Emission.{AllLeft, SomeLeaveAfter}
+use Rattle.bus_worker.specs.Emission.{SomeLeaveAfter}
 use Rattle.bus_worker.proofs.worker.Worker.leave_all.Goals as goal
 
 pub loop-entry-init : goal.loop-entry-init

@@ -1,4 +1,4 @@
-use Rattle.std.proofs.Common.{◌≡◌, ◌++◌, ◌∷◌, [], List, refl, ap, sym, ◌∙◌}
+use Rattle.std.proofs.Common.{◌++◌, ◌∷◌, [], List, ap, ◌∙◌}
 use Rattle.can_frame.specs.Frame.{CanFrame}
 use Rattle.tp_unit.specs.Box.{Written}
 use Rattle.bus_worker.proofs.worker.Worker.leave_one.Goals as goal

@@ -1,12 +1,8 @@
-use Rattle.std.proofs.Common.{◌≡◌, ◌<◌, ◌+◌, ◌++◌, ◌∷◌, [], List, length, refl, ap, sym, subst, ◌∙◌, arith, take, take_all}
+use Rattle.std.proofs.Common.{◌≡◌, ◌<◌, List, length, refl, ap, subst, ◌∙◌, arith, take, take_all}
 use Rattle.std.specs.Prelude.{map}
 use Rattle.std.specs.List.{AllZip}
-use Rattle.std.proofs.Math.Seq.{take-suc}
-use Rattle.std.proofs.lemmas.List.{map-append}
-use Rattle.gw_base.proofs.Lists.{zip-push}
 use Rattle.bus_worker.proofs.Starting.{new-stands, planned-next, routed-next}
 use Rattle.bus_worker.specs.Start.{IsNewChannel}
-use Rattle.bus_worker.specs.declared.channel.Channel.{Channel}
 use Rattle.bus_worker.specs.declared.comes.Comes.{Comes}
 use Rattle.bus_worker.specs.declared.plan.ChannelPlan.{ChannelPlan}
 use Rattle.bus_worker.proofs.worker.Worker.new.Goals as goal

@@ -1,7 +1,5 @@
-use Rattle.std.proofs.Common.{◌≡◌, ◌≤◌, ◌++◌, ℕ, length, refl, sym, ◌∙◌, arith}
+use Rattle.std.proofs.Common.{◌++◌, ◌∙◌, arith}
 use Rattle.bus_worker.proofs.Ticking.{ticks}
-use Rattle.bus_worker.proofs.Working.{rests-after}
-use Rattle.bus_worker.specs.Phases.{AreTimers, AreTurns}
 use Rattle.bus_worker.proofs.worker.Worker.tick.Goals as goal
 
 pub time-requires : goal.time-requires

@@ -1,4 +1,4 @@
-use Rattle.std.proofs.Common.{◌≡◌, ◌≤◌, ◌+◌, ℕ, length, refl, subst, sym, ◌∙◌, arith}
+use Rattle.std.proofs.Common.{◌≡◌, ◌+◌, ℕ, length, refl, subst, ◌∙◌, arith}
 use Rattle.bus_worker.proofs.Phasing.{no-turns, turns-next}
 use Rattle.bus_worker.proofs.Working.{rests-after, works-none, works-then}
 use Rattle.bus_worker.specs.Phases.{AreTurns, IsTurn, TurnsAll}

@@ -3,7 +3,9 @@ pub mod Boxed
 pub mod Comes
 pub mod Did
 pub mod Emission
+pub mod Ended
 pub mod Hearing
+pub mod History
 pub mod Phases
 pub mod Stands
 pub mod Start

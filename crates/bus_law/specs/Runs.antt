@@ -1,5 +1,5 @@
 -- What each machine of a bus did in a run by itself, and what is told of its channel.
-use Rattle.std.specs.Prelude.{◌≡◌, ◌⊎◌, ℕ, ◌≤◌, ◌&&◌, None, true, List, [], ◌∷◌, ◌++◌, length}
+use Rattle.std.specs.Prelude.{◌≡◌, ℕ, ◌≤◌, ◌&&◌, None, Some, true, List, [], ◌∷◌, ◌++◌, length}
 use Rattle.std.specs.List.{AllByRecursion}
 use Rattle.hub_core.specs.Turns.{Part, records_by, state_after}
 use Rattle.receiver_law.specs.Channel.{SourceChannel}

@@ -7,12 +7,12 @@ use Rattle.hub_core.proofs.Turns.{moves_in-append}
 use Rattle.hub_core.specs.Floors.{AreFresh}
 use Rattle.hub_core.specs.Moves.{moves_in}
 use Rattle.hub_core.specs.Stays.{PortState}
-use Rattle.hub_core.specs.View.{Event, grows}
+use Rattle.hub_core.specs.View.{Event, View, grows}
 use Rattle.bus_worker.proofs.ActLists.{calls-append}
 use Rattle.bus_worker.proofs.Configured.{same-twice}
 use Rattle.bus_worker.specs.Acts.{Act, calls_in}
-use Rattle.bus_worker.specs.Did.{Did, IsAt}
-use Rattle.bus_worker.specs.Stands.{LieThere, receives_at, sends_at}
+use Rattle.bus_worker.specs.Did.{Did, IsAt, StayBeside}
+use Rattle.bus_worker.specs.Stands.{LieThere, SameChannels, receives_at, sends_at}
 use Rattle.bus_worker.specs.declared.channel.Channel.{Channel}
 use Rattle.bus_worker.specs.declared.worker.Worker.{Worker}
 
@@ -33,6 +33,7 @@ pub did-none : {Home : Type 0} (v w : Worker) (port : PortState Home) → w.chan
 did-none v w port channels budget routes moves = record {
   grown = refl;
   fresh = tt;
+  beside = record { sessions = λ path no. refl; readings = λ path dest no. refl };
   same = record { rise = rise-same port.floors; home = refl };
   pool = record { groups = refl; writes = refl; reads = refl; most = refl };
   takes_used = omega arith;
@@ -43,6 +44,12 @@ did-none v w port channels budget routes moves = record {
   routes = routes;
 }
 
+beside-then : (channels after : List Channel) (one two three : View) → SameChannels channels after → StayBeside channels one two → StayBeside after two three → StayBeside channels one three
+beside-then channels after one two three same first second = record {
+  sessions = λ path no. second.sessions path (λ place own is. no place own (sym (same.receives place) ∙ is)) ∙ first.sessions path no;
+  readings = λ path dest no. second.readings path dest (λ place own is. no place own (sym (same.sends place) ∙ is)) ∙ first.readings path dest no;
+}
+
 -- one after the other
 pub did-then : {Home : Type 0} (takes spare more most : ℕ) (done later : List Act) (u v w : Worker) (one two three : PortState Home) → Did takes spare done u v one two → Did more most later v w two three → Did (takes + more) (spare + most) (later ++ done) u w one three
 did-then takes spare more most done later u v w one two three first second =
@@ -51,6 +58,7 @@ did-then takes spare more most done later u v w one two three first second =
     record {
       grown = second.grown ∙ ap (grows (calls_in later)) first.grown ∙ sym (grows-append (calls_in done) (calls_in later) one.view) ∙ ap (λ l. grows l one.view) (sym calls);
       fresh = subst F (sym calls) (are-fresh-append one.floors two.floors one.view two.view (calls_in done) (calls_in later) first.grown first.same.rise first.fresh second.fresh);
+      beside = beside-then u.channels.items v.channels.items one.view two.view three.view first.channels first.beside second.beside;
       same = record { rise = rise-twice one.floors two.floors three.floors first.same.rise second.same.rise; home = second.same.home ∙ first.same.home };
       pool = record {
         groups = second.pool.groups ∙ first.pool.groups;

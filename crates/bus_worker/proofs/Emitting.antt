@@ -44,6 +44,7 @@ emits-all tick v w out after old new emitted leaves since acts by at =
       did = record {
         grown = all.did.grown;
         fresh = all.did.fresh;
+        beside = all.did.beside;
         same = all.did.same;
         pool = all.did.pool;
         takes_used = all.did.takes_used;

@@ -79,6 +79,7 @@ works-more tick takes spare Are acts v w old new works =
       did = record {
         grown = did.grown;
         fresh = did.fresh;
+        beside = did.beside;
         same = did.same;
         pool = did.pool;
         takes_used = (let a = did.takes_used in omega (arith, a));

@@ -130,6 +130,10 @@ module _ {Home : Type 0} (place t tick : ℕ) (event : RxEvent) (acts : List Act
   receiver-did = record {
     grown = told.tells.grown;
     fresh = told.tells.fresh;
+    beside = record {
+      sessions = λ path no. told.tells.kept.others path (λ is. no place (told.before.machine.set, told.before.shape) (ap (option_map (λ (r : Receiving). (r.machine.set, r.shape))) told.was) (sym is));
+      readings = λ path dest no. ap (λ r. r path dest) told.tells.kept.readings;
+    };
     same = told.tells.same;
     pool = told.tells.kept.pool;
     takes_used = told.tells.kept.takes_used;

@@ -8,7 +8,7 @@ use Rattle.hub_core.proofs.Growing.{at_one-other, at_one-same}
 use Rattle.hub_core.specs.Stays.{PortState}
 use Rattle.hub_core.specs.View.{at_one}
 use Rattle.tp_sender.specs.Runs.{InOrder, box_after, box_once}
-use Rattle.tp_sender.specs.State.{TxTurn}
+use Rattle.tp_sender.specs.State.{TxTurn, set_of}
 use Rattle.tp_sender.specs.declared.event.TxEvent.{TxEvent}
 use Rattle.tp_sender.specs.declared.set.TxSet.{TxSet}
 use Rattle.tp_unit.specs.declared.shape.Shape.{Shape}
@@ -138,6 +138,16 @@ module _ {Home : Type 0} (place t tick : ℕ) (event : TxEvent) (acts : List Act
   sender-did = record {
     grown = told.tells.grown;
     fresh = told.tells.fresh;
+    beside = record {
+      sessions = λ path no. ap (λ r. r path) told.tells.others.sessions;
+      readings = λ path dest no. elim (cases_eq path (set_of told.before.machine).path.0) [
+        | inl is ↦
+            ap (λ p. new.view.readings p dest) is
+            ∙ told.tells.others.others dest (λ same. no place (set_of told.before.machine) (ap (option_map (λ (s : Sending). set_of s.machine)) told.was) (sym is) (sym same))
+            ∙ ap (λ p. old.view.readings p dest) (sym is)
+        | inr ne ↦ ap (λ r. r dest) (told.tells.others.others_of path ne)
+      ];
+    };
     same = told.tells.same;
     pool = told.tells.means.pool;
     takes_used = (let takes = told.tells.means.takes in omega (arith, takes));

@@ -13,6 +13,7 @@ returns g c since acts later by at out =
       did = record {
         grown = one.did.grown;
         fresh = one.did.fresh;
+        beside = one.did.beside;
         same = one.did.same;
         pool = one.did.pool;
         takes_used = one.did.takes_used;

@@ -1,6 +1,5 @@
 -- Frames that come one after another in a tick.
 use Rattle.std.proofs.Common.{◌≡◌, inl, inr, ℕ, suc, ◌+◌, ◌*◌, ◌≤◌, ◌<◌, Option, None, Some, List, [], ◌∷◌, ◌++◌, length, length-append, take, get_or, refl, ap, sym, subst, ◌∙◌, arith, append-nil, append_assoc}
-use Rattle.std.proofs.Math.Seq.{take-suc}
 use Rattle.std.proofs.lemmas.Bool.{cases_eq}
 use Rattle.can_frame.specs.Frame.{CanFrame}
 use Rattle.hub_core.proofs.Turns.{came-append}
@@ -131,23 +130,20 @@ are-heard-clear tick bound other routes channels (frame ∷ later) done acts so 
     let P : List Act → Type 0 = λ l. clear_from (sent_at other l) ≤ bound in
     subst P (sym (ap (λ l. l ++ acts) so.2 ∙ append_assoc so.1 so.0 acts)) (are-heard-clear tick bound other routes channels later so.1 (so.0 ++ acts) so.4 (heard-clear tick bound other routes channels frame so.0 acts so.3 clear))
 
--- one frame more of a list was heard
-pub hears-all-next : {Home : Type 0} (tick at : ℕ) (frames : List CanFrame) (frame : CanFrame) (u v w : Worker) (one two three : PortState Home) → at < length frames → get_or frames at frame ≡ frame →
-    HearsAll tick (take at frames) u v one two → Hears tick frame v w two three → HearsAll tick (take (at + 1) frames) u w one three
-hears-all-next {Home = Home} tick at frames frame u v w one two three below item first second since acts by at' clear =
+-- one frame more was heard
+pub hears-more : {Home : Type 0} (tick : ℕ) (front : List CanFrame) (frame : CanFrame) (u v w : Worker) (one two three : PortState Home) →
+    HearsAll tick front u v one two → Hears tick frame v w two three → HearsAll tick (front ++ frame ∷ []) u w one three
+hears-more {Home = Home} tick front frame u v w one two three first second since acts by at' clear =
     let a = first since acts by at' clear in
-    let b = second tick (a.done ++ acts) (omega arith) a.at (λ other. are-heard-clear tick tick other u.routes.items u.channels.items (take at frames) a.done acts a.are (clear other)) in
-    let more : at + 1 ≡ suc at = omega arith in
-    let next : take (at + 1) frames ≡ take at frames ++ frame ∷ [] = ap (λ n. take n frames) more ∙ take-suc frames at frame below ∙ ap (λ x. take at frames ++ x ∷ []) item in
-    let count : length (take at frames) + 1 ≡ length (take (at + 1) frames) = sym (ap length next ∙ length-append (take at frames) (frame ∷ [])) in
+    let b = second tick (a.done ++ acts) (omega arith) a.at (λ other. are-heard-clear tick tick other u.routes.items u.channels.items front a.done acts a.are (clear other)) in
+    let count : length front + 1 ≡ length (front ++ frame ∷ []) = sym (length-append front (frame ∷ [])) in
     let R : List Act → Type 0 = λ l. Rests {Home = Home} tick l w three in
-    let N : ℕ → Type 0 = λ n. Did {Home = Home} n (9 * length (take at frames) + 9) (b.done ++ a.done) u w one three in
-    let M : ℕ → Type 0 = λ n. Did {Home = Home} (length (take (at + 1) frames)) n (b.done ++ a.done) u w one three in
-    let F : List CanFrame → Type 0 = λ l. AreHeard tick u.routes.items u.channels.items l (b.done ++ a.done) in
+    let N : ℕ → Type 0 = λ n. Did {Home = Home} n (9 * length front + 9) (b.done ++ a.done) u w one three in
+    let M : ℕ → Type 0 = λ n. Did {Home = Home} (length (front ++ frame ∷ [])) n (b.done ++ a.done) u w one three in
     record {
       done = b.done ++ a.done;
       at = subst R (sym (append_assoc b.done a.done acts)) b.at;
-      did = subst M (omega (arith, count)) (subst N count (did-then (length (take at frames)) (9 * length (take at frames)) 1 9 a.done b.done u v w one two three a.did b.did));
-      are = subst F (sym next) (are-heard-push tick u.routes.items u.channels.items (take at frames) frame a.done b.done a.are (heard-same tick u.routes.items v.routes.items u.channels.items v.channels.items frame b.done (ap (λ r. r.items) a.did.routes) a.did.channels b.are));
+      did = subst M (omega (arith, count)) (subst N count (did-then (length front) (9 * length front) 1 9 a.done b.done u v w one two three a.did b.did));
+      are = are-heard-push tick u.routes.items u.channels.items front frame a.done b.done a.are (heard-same tick u.routes.items v.routes.items u.channels.items v.channels.items frame b.done (ap (λ r. r.items) a.did.routes) a.did.channels b.are);
       sent = b.sent ∙ a.sent;
     }

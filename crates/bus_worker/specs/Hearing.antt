@@ -1,5 +1,5 @@
 -- A frame that comes to a bus in a tick: to which channel, and who of its machines is told of what.
-use Rattle.std.specs.Prelude.{◌≡◌, ◌+◌, ◌*◌, ◌≤◌, ℕ, true, false, Option, None, Some, List, [], ◌∷◌, ◌++◌, length, slice_get, All}
+use Rattle.std.specs.Prelude.{◌≡◌, ◌+◌, ◌*◌, ◌≤◌, ℕ, true, false, Option, None, Some, List, [], ◌∷◌, ◌++◌, length, map, slice_get, All}
 use Rattle.can_frame.specs.Frame.{CanFrame}
 use Rattle.hub_core.specs.Stays.{PortState}
 use Rattle.hub_core.specs.Turns.{came_by}
@@ -10,7 +10,7 @@ use Rattle.tp_sender.specs.declared.event.TxEvent.{TxEvent}
 use Rattle.tp_sender.specs.declared.event.TxEvent.TheVariants.{Fc}
 use Rattle.tp_unit.specs.Reading.{unit_of}
 use Rattle.tp_unit.specs.Unit.{Meaning, SingleFrame, FirstFrame, ConsecutiveFrame, FlowControl, NoUnit}
-use Rattle.gw_law.specs.Channels.{bytes_of_address, is_addressed}
+use Rattle.gw_law.specs.Channels.{InTick, bytes_of_address, is_addressed}
 use Rattle.bus_worker.specs.Acts.{Act, received_at, sent_at}
 use Rattle.bus_worker.specs.Comes.{address_of}
 use Rattle.bus_worker.specs.Phases.{IsReceived, IsSent, Rests, Works}
@@ -72,6 +72,10 @@ HearsAfter tick takes spare Are v w old new = (since : ℕ) (acts : List Act) �
 
 abbrev pub Hears : {Home : Type 0} → (tick : ℕ) → CanFrame → (v w : Worker) → (old new : PortState Home) → Type 0
 Hears tick frame v w old new = HearsAfter tick 1 9 (IsHeard tick v.routes.items v.channels.items frame) v w old new
+
+-- the frames alone
+abbrev pub frames_of : List InTick → List CanFrame
+frames_of frames = map (λ (f : InTick). f.frame) frames
 
 -- so are several frames, one after another; the acts stand newest first
 abbrev pub AreHeard : (tick : ℕ) → List Comes → List Channel → List CanFrame → List Act → Type 0

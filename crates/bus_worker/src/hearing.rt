@@ -3,11 +3,12 @@ ghost use Rattle.std.specs.Prelude.{◌≡◌, ◌≤◌, ℕ, Some, OnOk, Match
 ghost use Rattle.gw_law.specs.Channels.{bytes_of_address};
 ghost use Rattle.tp_receiver.specs.Port.{IsRead};
 ghost use Rattle.tp_unit.specs.Unit.{meaning_of};
-ghost use Rattle.bus_worker.specs.Hearing.{ComesTo, ComesToNone, HearsAfter, HearsAll, HearsBy, Hears, IsAnswer, IsFrameHeard};
+ghost use Rattle.bus_worker.specs.Hearing.{ComesTo, ComesToNone, HearsAfter, HearsAll, HearsBy, Hears, IsAnswer, IsFrameHeard, frames_of};
 ghost use Rattle.bus_worker.specs.Phases.{IsSent};
 ghost use Rattle.bus_worker.specs.declared.comes.Comes.{Comes};
 ghost use Rattle.tp_sender.specs.declared.event.TxEvent.TheVariants.{Fc};
 
+use crate::dated::Dated;
 use crate::worker::Worker;
 use can_frame::Frame;
 use gw_base::{Memory, Tick};
@@ -102,16 +103,16 @@ impl Worker {
     /// All frames of a tick come, in the order of the log.
     pub(crate) fn hear_all<P: Port>(
         &mut self,
-        frames: &[Frame],
+        frames: &[Dated],
         tick: Tick,
         port: &mut P,
     ) -> Result<(), Memory>
         requires tick { tick.0 ≤ 10_000_000 }
         requires can { HearsBy tick.0 (length frames.now) self.old (P.state port.old) }
-        ensures { OnOk result (HearsAll tick.0 frames.now self.old self.new (P.state port.old) (P.state port.new)) }
+        ensures { OnOk result (HearsAll tick.0 (frames_of frames.now) self.old self.new (P.state port.old) (P.state port.new)) }
     {
-        for frame in frames {
-            self.hear(frame, tick, port)?;
+        for dated in frames {
+            self.hear(dated.frame(), tick, port)?;
         }
         Ok(())
     }

@@ -4,6 +4,7 @@
 mod boxed;
 mod channel;
 mod comes;
+mod dated;
 mod emission;
 mod hearing;
 mod notes;
@@ -18,6 +19,7 @@ mod told;
 mod worker;
 
 pub use comes::Comes;
+pub use dated::Dated;
 pub use plan::{ChannelPlan, SourcePlan};
 pub use sent::Sent;
 pub use worker::Worker;

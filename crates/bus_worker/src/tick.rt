@@ -1,10 +1,10 @@
 //! A tick of the bus.
 ghost use Rattle.std.specs.Prelude.{◌≤◌, OnOk, length};
-ghost use Rattle.bus_worker.specs.Hearing.{HearsBy};
+ghost use Rattle.bus_worker.specs.Hearing.{HearsBy, frames_of};
 ghost use Rattle.bus_worker.specs.Tick.{WorksTick};
 
+use crate::dated::Dated;
 use crate::worker::Worker;
-use can_frame::Frame;
 use gw_base::{Memory, Tick};
 use hub_core::Port;
 
@@ -16,14 +16,14 @@ impl Worker {
     /// Ticks rise from call to call, and are at most 10,000,000.
     pub fn tick<P: Port>(
         &mut self,
-        frames: &[Frame],
+        frames: &[Dated],
         tick: Tick,
         port: &mut P,
     ) -> Result<(), Memory>
         requires budget { self.old.budget ≤ 64 }
         requires tick { tick.0 ≤ 10_000_000 }
         requires can { HearsBy tick.0 (length frames.now) self.old (P.state port.old) }
-        ensures { OnOk result (WorksTick tick.0 frames.now self.old self.new (P.state port.old) (P.state port.new)) }
+        ensures { OnOk result (WorksTick tick.0 (frames_of frames.now) self.old self.new (P.state port.old) (P.state port.new)) }
     {
         self.hear_all(frames, tick, port)?;
         self.time(tick, port)?;

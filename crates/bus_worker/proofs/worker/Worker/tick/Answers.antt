@@ -1,5 +1,6 @@
 use Rattle.std.proofs.Common.{◌++◌, ◌∙◌, arith}
 use Rattle.bus_worker.proofs.Ticking.{ticks}
+use Rattle.bus_worker.specs.Hearing.{frames_of}
 use Rattle.bus_worker.proofs.worker.Worker.tick.Goals as goal
 
 pub time-requires : goal.time-requires
@@ -35,5 +36,5 @@ emit-requires-clause-rests g c =
 
 pub returns : goal.returns
 returns g c =
-    ticks c.args.tick.0 c.args.frames.now c.args.self.now c.hear_all.new.self c.time.new.self c.turn.new.self c.emit.new.self _ _ _ _ _
+    ticks c.args.tick.0 (frames_of c.args.frames.now) c.args.self.now c.hear_all.new.self c.time.new.self c.turn.new.self c.emit.new.self _ _ _ _ _
     c.in_ok-hear_all.ensures c.in_ok-time.ensures c.in_ok-turn.ensures c.in_ok-emit.ensures

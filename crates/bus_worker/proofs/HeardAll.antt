@@ -69,7 +69,7 @@ heard-clear tick bound other routes channels frame done acts (Somewhere place to
     let P : List Act → Type 0 = λ l. clear_from (sent_at other l) ≤ bound in
     subst P (sym (ap (λ l. l ++ acts) is ∙ append_assoc answers frames acts)) (answer-clear tick bound place other (unit_of (bytes_of_address to.comes.byte) frame) channels answers (frames ++ acts) answer (still-clear bound other frames acts (heard.senders other) clear))
 
-heard-few : (tick other : ℕ) (routes : List Comes) (channels : List Channel) (frame : CanFrame) (done : List Act) → IsHeard tick routes channels frame done → length (came_by frames_in (received_at other done)) ≤ 1
+pub heard-few : (tick other : ℕ) (routes : List Comes) (channels : List Channel) (frame : CanFrame) (done : List Act) → IsHeard tick routes channels frame done → length (came_by frames_in (received_at other done)) ≤ 1
 heard-few tick other routes channels frame done (Nowhere none is) = subst (λ (l : List Act). length (came_by frames_in (received_at other l)) ≤ 1) (sym is) (omega arith)
 heard-few tick other routes channels frame done (Somewhere place to frames answers is heard answer) =
     let P : List RxTurn → Type 0 = λ l. length (came_by frames_in l) ≤ 1 in

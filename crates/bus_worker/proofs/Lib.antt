@@ -20,3 +20,5 @@ pub mod Emitted
 pub mod Leavings
 pub mod LeavingAll
 pub mod Emitting
+pub mod OneTick
+pub mod InRow

@@ -6,8 +6,9 @@ use Rattle.hub_core.specs.Stays.{PortState}
 use Rattle.tp_sender.specs.Runs.{after_left, clear_from}
 use Rattle.tp_sender.specs.State.{TxTurn}
 use Rattle.tp_sender.specs.declared.event.TxEvent.{TxEvent}
-use Rattle.tx_mailbox.specs.Boxes.{IsEmitted, Pending}
+use Rattle.tx_mailbox.specs.Boxes.{IsEmitted, Pending, content}
 use Rattle.bus_worker.proofs.ActLists.{sent-other, sent-own}
+use Rattle.bus_worker.proofs.Configured.{lies-as-configured}
 use Rattle.bus_worker.proofs.Counted.{timers-clear, turns-clear}
 use Rattle.bus_worker.proofs.Doing.{did-then}
 use Rattle.bus_worker.proofs.HeardAll.{are-heard-clear}
@@ -22,7 +23,7 @@ use Rattle.bus_worker.specs.declared.channel.Channel.{Channel}
 use Rattle.bus_worker.specs.declared.worker.Worker.{Worker}
 
 -- timers and turns don't hang on how the machines went on
-timers-same : (tick count : ℕ) (old new : List Channel) (done : List Act) → SameChannels old new → AreTimers tick count new done → AreTimers tick count old done
+pub timers-same : (tick count : ℕ) (old new : List Channel) (done : List Act) → SameChannels old new → AreTimers tick count new done → AreTimers tick count old done
 timers-same tick count old new done same timers = record {
   each = λ place one below is. timers.each place one below (same.receives place ∙ is);
   later = timers.later;
@@ -30,7 +31,7 @@ timers-same tick count old new done same timers = record {
   senders = timers.senders;
 }
 
-turns-same : (tick count : ℕ) (old new : List Channel) (done : List Act) → SameChannels old new → AreTurns tick count new done → AreTurns tick count old done
+pub turns-same : (tick count : ℕ) (old new : List Channel) (done : List Act) → SameChannels old new → AreTurns tick count new done → AreTurns tick count old done
 turns-same tick count old new done same turns = record {
   each = λ place one below is. turns.each place one below (same.sends place ∙ is);
   later = turns.later;
@@ -81,8 +82,8 @@ ticks {Home = Home} tick frames u a b c d pu pa pb pc pd hears times turns_all e
       heard = one.are;
       timed = subst T one.did.channels.count (timers-same tick (length a.channels.items) u.channels.items a.channels.items two.done one.did.channels two.are);
       turned = subst S (two.did.channels.count ∙ one.did.channels.count) (turns-same tick (length b.channels.items) u.channels.items b.channels.items three.done first.channels three.are);
-      before = c;
-      lay = three.at.lie;
+      before = c.boxes;
+      lay = lies-as-configured (three.done ++ (two.done ++ (one.done ++ acts))) u.channels.items c.channels.items (λ number. content number c.boxes) second.channels three.at.lie;
       out = four.out;
       after = four.after;
       emitted = subst B second.budget four.emitted;

@@ -12,3 +12,4 @@ pub mod Start
 pub mod Steps
 pub mod Tick
 pub mod Told
+pub mod Window

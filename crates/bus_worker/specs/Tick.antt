@@ -28,11 +28,11 @@ pub record TickIsDone {Home : Type 0} (tick : ℕ) (frames : List CanFrame) (act
   pub heard : AreHeard tick v.routes.items v.channels.items frames came
   pub timed : AreTimers tick (length v.channels.items) v.channels.items timers
   pub turned : AreTurns tick (length v.channels.items) v.channels.items turns
-  pub before : Worker
-  pub lay : LieThere (turns ++ (timers ++ (came ++ acts))) before.channels.items (λ number. content number before.boxes)
+  pub before : List Pending
+  pub lay : LieThere (turns ++ (timers ++ (came ++ acts))) v.channels.items (λ number. content number before)
   pub out : List Pending
   pub after : List Pending
-  pub emitted : IsEmitted v.budget before.boxes out after
+  pub emitted : IsEmitted v.budget before out after
   pub told : AreLeaving tick out left
   pub sent : w.sent ≡ v.sent ++ all_sent_in tick out
   pub clear : (place : ℕ) → clear_from (sent_at place (acts_of came timers turns left acts)) ≤ tick + 1

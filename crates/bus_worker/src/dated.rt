@@ -20,11 +20,19 @@ impl Model for Dated {
 
 impl Dated {
     ghost use Rattle.std.specs.Prelude.{◌≡◌};
+    ghost use Rattle.bus_worker.specs.Window.{is_in};
 
     /// The frame alone.
     pub fn frame(&self) -> &Frame
         ensures { result.now ≡ self.now.frame }
     {
         &self.frame
+    }
+
+    /// Whether it is one of that tick.
+    pub fn is_in(&self, tick: Tick) -> bool
+        ensures { result ≡ is_in tick.0 self.now }
+    {
+        self.tick == tick
     }
 }

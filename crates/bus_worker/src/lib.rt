@@ -16,6 +16,7 @@ mod start;
 mod tick;
 mod ticks;
 mod told;
+mod window;
 mod worker;
 
 pub use comes::Comes;

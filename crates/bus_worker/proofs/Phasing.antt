@@ -4,16 +4,17 @@ use Rattle.std.specs.Prelude.{option_map}
 use Rattle.std.proofs.lemmas.Bool.{cases_eq}
 use Rattle.gw_base.proofs.Lists.{none-some}
 use Rattle.hub_core.specs.Stays.{PortState}
-use Rattle.tp_receiver.specs.State.{RxEvent, RxTurn, Timer}
+use Rattle.tp_receiver.specs.Port.{CanTake}
+use Rattle.tp_receiver.specs.State.{RxEvent, RxTurn}
 use Rattle.tp_sender.specs.State.{TxTurn}
 use Rattle.tp_sender.specs.declared.event.TxEvent.{TxEvent}
-use Rattle.tp_sender.specs.declared.event.TxEvent.TheVariants.{Turn}
+use Rattle.tp_sender.specs.declared.event.TxEvent.TheVariants.{Left, Turn}
 use Rattle.bus_worker.proofs.ActLists.{received-append, received-other, received-own, sent-append, sent-other, sent-own}
 use Rattle.bus_worker.proofs.Knowing.{waits-later}
 use Rattle.bus_worker.proofs.ReceiverSteps.{act-of}
 use Rattle.bus_worker.proofs.SenderSteps.{act-of as sent-act}
 use Rattle.bus_worker.specs.Acts.{Act, received_at, sent_at}
-use Rattle.bus_worker.specs.Phases.{AreTimers, AreTurns, IsReceived, IsSent, IsTimer, IsTurn, OneReceived, OneSent, RestsBy}
+use Rattle.bus_worker.specs.Phases.{AreReceived, AreTurns, IsReceived, IsSent, IsTurn, OneReceived, OneSent, RestsBy}
 use Rattle.bus_worker.specs.Stands.{SameChannels, receiver_at, receives_at, sender_at, sends_at}
 use Rattle.bus_worker.specs.Steps.{ReceiverWasTold, SenderWasTold}
 use Rattle.bus_worker.specs.Told.{CanTellReceiver, CanTellSender}
@@ -22,25 +23,25 @@ use Rattle.bus_worker.specs.declared.channel.Receiving.{Receiving}
 use Rattle.bus_worker.specs.declared.channel.Sending.{Sending}
 use Rattle.bus_worker.specs.declared.worker.Worker.{Worker}
 
--- a receiver can be told that a tick is over
-pub can-time : {Home : Type 0} (tick place : ℕ) (w : Worker) (port : PortState Home) → RestsBy tick w port → (r : Receiving) → receiver_at w.channels.items place ≡ Some r → CanTellReceiver r Timer tick port
-can-time tick place w port rests r is = record {
+-- a receiver can be told of what needs nothing beside
+pub can-be-told : {Home : Type 0} (tick place : ℕ) (event : RxEvent) (w : Worker) (port : PortState Home) → ((r : Receiving) → CanTake r.machine.set port.means r.machine.next_n event) → RestsBy tick w port → (r : Receiving) → receiver_at w.channels.items place ≡ Some r → CanTellReceiver r event tick port
+can-be-told tick place event w port can rests r is = record {
   acts = rests.at.acts_for.receivers place (r.machine.set, r.shape) (ap (option_map (λ (x : Receiving). (x.machine.set, x.shape))) is);
   knows = (rests.at.stand.receivers place r is).knows;
   waits = waits-later r.machine rests.since tick rests.by (rests.at.stand.receivers place r is).waits;
-  can = tt;
+  can = can r;
 }
 
--- a sender can take its turn
-pub can-turn : {Home : Type 0} (tick place : ℕ) (w : Worker) (port : PortState Home) → tick ≤ 10000000 → RestsBy tick w port → (s : Sending) → sender_at w.channels.items place ≡ Some s → CanTellSender s Turn tick port
-can-turn tick place w port limit rests s is =
+-- a sender can be told of all but that its frame has left
+pub can-be-told-sender : {Home : Type 0} (tick place : ℕ) (event : TxEvent) (w : Worker) (port : PortState Home) → (event ≡ Left → ⊥) → tick ≤ 10000000 → RestsBy tick w port → (s : Sending) → sender_at w.channels.items place ≡ Some s → CanTellSender s event tick port
+can-be-told-sender tick place event w port other limit rests s is =
     let stands = rests.at.stand.senders place s is in
     record {
       knows = stands.knows;
       acts = rests.at.acts_for.senders place s.machine.set (ap (option_map (λ (x : Sending). x.machine.set)) is);
       since = (let a = stands.since in let b = rests.by in omega (arith, a, b));
       tick_is = limit;
-      left = λ is'. absurd cc;
+      left = λ is'. absurd (other is');
     }
 
 receives-there : (place : ℕ) (channels : List Channel) (r : Receiving) → receiver_at channels place ≡ Some r → receives_at channels place ≡ None → ⊥
@@ -84,8 +85,8 @@ not-sent tick event place channels none = record {
 }
 
 -- before the first channel
-pub no-timers : (tick : ℕ) (channels : List Channel) → AreTimers tick 0 channels []
-no-timers tick channels = record { each = λ place one below there. absurd (omega (arith, below)); later = λ place above. refl; none = λ place is. refl; senders = λ place. refl }
+pub none-received : (tick : ℕ) (event : RxEvent) (channels : List Channel) → AreReceived tick event 0 channels []
+none-received tick event channels = record { each = λ place one below there. absurd (omega (arith, below)); later = λ place above. refl; none = λ place is. refl; senders = λ place. refl }
 
 pub no-turns : (tick : ℕ) (channels : List Channel) → AreTurns tick 0 channels []
 no-turns tick channels = record { each = λ place one below there. absurd (omega (arith, below)); later = λ place above. refl; none = λ place is. refl; receivers = λ place. refl }
@@ -98,15 +99,15 @@ only-later : {A : Type 0} (all later earlier : List A) → all ≡ later ++ earl
 only-later all later earlier is none = is ∙ ap (λ l. later ++ l) none ∙ append-nil later
 
 -- one channel further
-pub timers-next : (tick count : ℕ) (first channels : List Channel) (done more : List Act) → SameChannels first channels → AreTimers tick count first done → IsTimer tick count channels more → AreTimers tick (count + 1) first (more ++ done)
-timers-next tick count first channels done more same so one = record {
+pub received-next : (tick count : ℕ) (event : RxEvent) (first channels : List Channel) (done more : List Act) → SameChannels first channels → AreReceived tick event count first done → IsReceived tick event count channels more → AreReceived tick event (count + 1) first (more ++ done)
+received-next tick count event first channels done more same so one = record {
   each = λ place set below there. elim (cases_eq place count) [
     | inl here ↦
-        let O : List RxTurn → Type 0 = λ l. OneReceived tick Timer l in
+        let O : List RxTurn → Type 0 = λ l. OneReceived tick event l in
         let own = one.own set (same.receives count ∙ ap (receives_at first) (sym here) ∙ there) in
         subst O (sym (only-later (received_at place (more ++ done)) (received_at count more) (received_at place done) (received-append place more done ∙ ap (λ p. received_at p more ++ received_at place done) here) (so.later place (omega (arith, here))))) own
     | inr ne ↦
-        let O : List RxTurn → Type 0 = λ l. OneReceived tick Timer l in
+        let O : List RxTurn → Type 0 = λ l. OneReceived tick event l in
         subst O (sym (only-earlier (received_at place (more ++ done)) (received_at place more) (received_at place done) (received-append place more done) (one.others place ne))) (so.each place set (omega (arith, below, ne)) there)
   ];
   later = λ place above. received-append place more done ∙ ap (λ l. l ++ received_at place done) (one.others place (λ is. omega (arith, is, above))) ∙ so.later place (omega (arith, above));

@@ -60,12 +60,16 @@ IsTimer tick place channels done = IsReceived tick Timer place channels done
 abbrev pub IsTurn : (tick place : ℕ) → List Channel → List Act → Type 0
 IsTurn tick place channels done = IsSent tick Turn place channels done
 
--- each receiver of the first so many channels was told once that the tick is over, and nobody else of anything
-pub record AreTimers (tick count : ℕ) (channels : List Channel) (done : List Act) : Type 0 where
-  pub each : (place : ℕ) (one : RxSet × Shape) → place < count → receives_at channels place ≡ Some one → OneReceived tick Timer (received_at place done)
+-- each receiver of the first so many channels was told of this once, and nobody else of anything
+pub record AreReceived (tick : ℕ) (event : RxEvent) (count : ℕ) (channels : List Channel) (done : List Act) : Type 0 where
+  pub each : (place : ℕ) (one : RxSet × Shape) → place < count → receives_at channels place ≡ Some one → OneReceived tick event (received_at place done)
   pub later : (place : ℕ) → count ≤ place → received_at place done ≡ []
   pub none : (place : ℕ) → receives_at channels place ≡ None → received_at place done ≡ []
   pub senders : (place : ℕ) → sent_at place done ≡ []
+
+-- each was told once that the tick is over
+abbrev pub AreTimers : (tick count : ℕ) → List Channel → List Act → Type 0
+AreTimers tick count channels done = AreReceived tick Timer count channels done
 
 -- each sender of the first so many channels took its turn, and nobody else was told of anything
 pub record AreTurns (tick count : ℕ) (channels : List Channel) (done : List Act) : Type 0 where

@@ -1,5 +1,6 @@
 use Rattle.std.proofs.Common.{◌≡◌, ◌+◌, ℕ, length, refl, subst, ◌∙◌, arith}
-use Rattle.bus_worker.proofs.Phasing.{no-timers, timers-next}
+use Rattle.tp_receiver.specs.State.{Timer}
+use Rattle.bus_worker.proofs.Phasing.{none-received, received-next}
 use Rattle.bus_worker.proofs.Working.{rests-after, works-none, works-then}
 use Rattle.bus_worker.specs.Phases.{AreTimers, IsTimer, TimesAll}
 use Rattle.bus_worker.proofs.worker.Worker.time.Goals as goal
@@ -7,7 +8,7 @@ use Rattle.bus_worker.proofs.worker.Worker.time.Goals as goal
 pub loop-place-init : goal.loop-place-init
 loop-place-init g c = (
   c.requires.rests,
-  works-none c.args.tick.0 (AreTimers c.args.tick.0 0 c.args.self.now.channels.items) c.args.self.now _ (no-timers c.args.tick.0 c.args.self.now.channels.items),
+  works-none c.args.tick.0 (AreTimers c.args.tick.0 0 c.args.self.now.channels.items) c.args.self.now _ (none-received c.args.tick.0 Timer c.args.self.now.channels.items),
   omega arith,
   c.requires.rests.at.stand.few,
   refl,
@@ -22,7 +23,7 @@ loop-place-preserved g c =
     let did = (one so.0.since so.0.acts so.0.by so.0.at).did in (
       rests-after c.args.tick.0 0 0 (IsTimer c.args.tick.0 place c.loop-place.self.channels.items) c.loop-place.self c.time_at.new.self _ _ so.0 one,
       works-then c.args.tick.0 0 0 0 0 (AreTimers c.args.tick.0 place first) (IsTimer c.args.tick.0 place c.loop-place.self.channels.items) (AreTimers c.args.tick.0 (place + 1) first) c.args.self.now c.loop-place.self c.time_at.new.self _ _ _
-          (λ done later did' are also. timers-next c.args.tick.0 place first c.loop-place.self.channels.items done later did'.channels are also) so.1 one,
+          (λ done later did' are also. received-next c.args.tick.0 place Timer first c.loop-place.self.channels.items done later did'.channels are also) so.1 one,
       (let below = c.loop-place-test.true in let is = c.len-place-end.ensures in let ok = c.args.self.now.channels.ok.0 in omega (arith, below, is, ok)),
       so.3,
       did.channels.count ∙ so.4,

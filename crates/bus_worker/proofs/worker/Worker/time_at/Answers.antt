@@ -1,12 +1,12 @@
 use Rattle.std.proofs.Common.{refl}
 use Rattle.tp_receiver.specs.State.{Timer}
-use Rattle.bus_worker.proofs.Phasing.{can-time, not-received, received-is}
+use Rattle.bus_worker.proofs.Phasing.{can-be-told, not-received, received-is}
 use Rattle.bus_worker.proofs.Working.{receiver-works, works-none, works-so}
 use Rattle.bus_worker.specs.Phases.{IsTimer}
 use Rattle.bus_worker.proofs.worker.Worker.time_at.Goals as goal
 
 pub tell_receiver-requires-clause-can : goal.tell_receiver-requires-clause-can
-tell_receiver-requires-clause-can g c = can-time c.args.tick.0 c.args.place c.args.self.now _ c.requires.rests
+tell_receiver-requires-clause-can g c = can-be-told c.args.tick.0 c.args.place Timer c.args.self.now _ (λ r. tt) c.requires.rests
 
 pub returns-in_ok-tell_receiver : goal.returns-in_ok-tell_receiver
 returns-in_ok-tell_receiver g c since acts by at =

@@ -1,12 +1,12 @@
 use Rattle.std.proofs.Common.{refl}
 use Rattle.tp_sender.specs.declared.event.TxEvent.TheVariants.{Turn}
-use Rattle.bus_worker.proofs.Phasing.{can-turn, not-sent, sent-is}
+use Rattle.bus_worker.proofs.Phasing.{can-be-told-sender, not-sent, sent-is}
 use Rattle.bus_worker.proofs.Working.{sender-works, works-none, works-so}
 use Rattle.bus_worker.specs.Phases.{IsTurn}
 use Rattle.bus_worker.proofs.worker.Worker.turn_at.Goals as goal
 
 pub tell_sender-requires-clause-can : goal.tell_sender-requires-clause-can
-tell_sender-requires-clause-can g c = can-turn c.args.tick.0 c.args.place c.args.self.now _ c.requires.tick c.requires.rests
+tell_sender-requires-clause-can g c = can-be-told-sender c.args.tick.0 c.args.place Turn c.args.self.now _ (λ is. cc) c.requires.tick c.requires.rests
 
 pub returns-in_ok-tell_sender : goal.returns-in_ok-tell_sender
 returns-in_ok-tell_sender g c since acts by at =

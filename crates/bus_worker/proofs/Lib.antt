@@ -22,3 +22,4 @@ pub mod LeavingAll
 pub mod Emitting
 pub mod OneTick
 pub mod InRow
+pub mod Finishing

@@ -4,6 +4,7 @@ pub mod Comes
 pub mod Did
 pub mod Emission
 pub mod Ended
+pub mod Ending
 pub mod Hearing
 pub mod History
 pub mod Phases

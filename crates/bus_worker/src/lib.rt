@@ -6,6 +6,7 @@ mod channel;
 mod comes;
 mod dated;
 mod emission;
+mod finish;
 mod hearing;
 mod notes;
 mod plan;

@@ -23,3 +23,4 @@ pub mod Emitting
 pub mod OneTick
 pub mod InRow
 pub mod Finishing
+pub mod Stillness

@@ -7,6 +7,7 @@ pub mod Ended
 pub mod Ending
 pub mod Hearing
 pub mod History
+pub mod Idle
 pub mod Phases
 pub mod Stands
 pub mod Start

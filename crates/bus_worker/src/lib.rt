@@ -8,6 +8,7 @@ mod dated;
 mod emission;
 mod finish;
 mod hearing;
+mod idle;
 mod notes;
 mod plan;
 mod receiving;

@@ -10,12 +10,12 @@ use Rattle.bus_worker.proofs.Configured.{lies-as-configured}
 use Rattle.bus_worker.proofs.Doing.{did-none, did-then}
 use Rattle.bus_worker.proofs.HeardAll.{heard-same}
 use Rattle.bus_worker.proofs.Ticking.{timers-same, turns-same}
-use Rattle.bus_worker.proofs.Working.{rests-later}
+use Rattle.bus_worker.proofs.OneTick.{last-below}
 use Rattle.bus_worker.specs.Acts.{Act}
 use Rattle.bus_worker.specs.Did.{Did}
 use Rattle.bus_worker.specs.Emission.{all_sent_in}
 use Rattle.bus_worker.specs.Hearing.{AreHeard}
-use Rattle.bus_worker.specs.History.{AreBusTicks, AreInRow, BusTick, IsBusTick, acts_after, all_came_in, came_in, left_in, next_tick}
+use Rattle.bus_worker.specs.History.{AreBusTicks, AreInRow, BusTick, IsBusTick, acts_after, all_came_in, came_in, last_tick, left_in, next_tick}
 use Rattle.bus_worker.specs.Phases.{AreTimers, AreTurns, Rests}
 use Rattle.bus_worker.specs.Stands.{SameChannels}
 use Rattle.bus_worker.specs.Tick.{acts_of}
@@ -51,6 +51,10 @@ left-append (t ∷ later) earlier = ap (λ l. l ++ all_sent_in t.tick t.out) (le
 pub next-append : (from : ℕ) (later earlier : List BusTick) → next_tick from (later ++ earlier) ≡ next_tick (next_tick from earlier) later
 next-append from [] earlier = refl
 next-append from (t ∷ later) earlier = refl
+
+pub last-append : (since : ℕ) (later earlier : List BusTick) → last_tick since (later ++ earlier) ≡ last_tick (last_tick since earlier) later
+last-append since [] earlier = refl
+last-append since (t ∷ later) earlier = refl
 
 pub row-append : (from : ℕ) (later earlier : List BusTick) → AreInRow (next_tick from earlier) later → AreInRow from earlier → AreInRow from (later ++ earlier)
 row-append from [] earlier more row = row
@@ -94,7 +98,7 @@ does-none from frames v port since acts by at clear = record {
   row = tt;
   reached = refl;
   are = tt;
-  at = rests-later since from acts v port by at;
+  at = at;
   did = did-none v v port refl refl refl refl;
   fed = refl;
   sent = sym (append-nil v.sent);
@@ -107,9 +111,10 @@ pub does-then : {Home : Type 0} (from mid to count more : ℕ) (frames : List In
     DoesTicks from mid count frames u v one two → DoesTicks mid to more (drop count frames) v w two three → DoesTicks from to (count + more) frames u w one three
 does-then {Home = Home} from mid to count more frames u v w one two three first second since acts by at clear =
     let a = first since acts by at clear in
-    let b = second mid (acts_after a.ticks acts) (omega arith) a.at a.clear in
+    let b = second (last_tick since a.ticks) (acts_after a.ticks acts) (last-below from mid since a.ticks by a.reached) a.at a.clear in
     let together = acts-append b.ticks a.ticks acts in
-    let R : List Act → Type 0 = λ l. Rests {Home = Home} to l w three in
+    let R : List Act → Type 0 = λ l. Rests {Home = Home} (last_tick since (b.ticks ++ a.ticks)) l w three in
+    let L : ℕ → Type 0 = λ tick. Rests {Home = Home} tick (acts_after b.ticks (acts_after a.ticks acts)) w three in
     let D : List Act → Type 0 = λ l. Did {Home = Home} (count + more) (9 * (count + more)) l u w one three in
     let N : ℕ → Type 0 = λ n. Did {Home = Home} (count + more) n (acts_after b.ticks [] ++ acts_after a.ticks []) u w one three in
     let M : ℕ → Type 0 = λ n. AreInRow n b.ticks in
@@ -118,7 +123,7 @@ does-then {Home = Home} from mid to count more frames u v w one two three first 
       row = row-append from b.ticks a.ticks (subst M (sym a.reached) b.row) a.row;
       reached = next-append from b.ticks a.ticks ∙ ap (λ n. next_tick n b.ticks) a.reached ∙ b.reached;
       are = ticks-append u.budget u.routes.items u.channels.items acts b.ticks a.ticks (ticks-same u.budget v.budget u.routes.items v.routes.items u.channels.items v.channels.items (acts_after a.ticks acts) b.ticks a.did.budget (ap (λ r. r.items) a.did.routes) a.did.channels b.are) a.are;
-      at = subst R (sym together) b.at;
+      at = subst R (sym together) (subst L (sym (last-append since b.ticks a.ticks)) b.at);
       did = subst D (sym (acts-append b.ticks a.ticks [] ∙ acts-front b.ticks (acts_after a.ticks []))) (subst N (omega arith) (did-then count (9 * count) more (9 * more) (acts_after a.ticks []) (acts_after b.ticks []) u v w one two three a.did b.did));
       fed = came-append b.ticks a.ticks ∙ ap (λ l. l ++ came_in b.ticks) a.fed ∙ ap (λ l. take count frames ++ l) b.fed ∙ sym (take-add count more frames);
       sent = b.sent ∙ ap (λ l. l ++ left_in b.ticks) a.sent ∙ append_assoc u.sent (left_in a.ticks) (left_in b.ticks) ∙ ap (λ l. u.sent ++ l) (sym (left-append b.ticks a.ticks));

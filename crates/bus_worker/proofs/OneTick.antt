@@ -15,12 +15,11 @@ use Rattle.gw_law.specs.Channels.{InTick}
 use Rattle.bus_worker.proofs.ActLists.{received-append, received-other, received-own}
 use Rattle.bus_worker.proofs.Counted.{timers-come, turns-come}
 use Rattle.bus_worker.proofs.HeardAll.{heard-few}
-use Rattle.bus_worker.proofs.Working.{rests-later}
 use Rattle.bus_worker.specs.Acts.{Act, Received, Sent, received_at, sent_at}
 use Rattle.bus_worker.specs.Did.{Did}
 use Rattle.bus_worker.specs.Emission.{AreLeaving, Control, Data, IsLeaving}
 use Rattle.bus_worker.specs.Hearing.{AreHeard, HearsBy, frames_of}
-use Rattle.bus_worker.specs.History.{BusTick, acts_after, all_came_in}
+use Rattle.bus_worker.specs.History.{BusTick, acts_after, all_came_in, last_tick, next_tick}
 use Rattle.bus_worker.specs.Tick.{WorksTick, acts_of}
 use Rattle.bus_worker.specs.Window.{DoesTicks, NeverFall, is_in}
 use Rattle.bus_worker.specs.declared.channel.Channel.{Channel}
@@ -108,7 +107,7 @@ one-tick {Home = Home} tick count frames v w old new front works since acts by a
       row = (refl, tt);
       reached = refl;
       are = (record { heard = d.heard; timed = d.timed; turned = d.turned; before = d.before; lay = d.lay; after = d.after; emitted = d.emitted; told = d.told }, tt);
-      at = rests-later tick (tick + 1) (acts_of d.came d.timers d.turns d.left acts) w new (omega arith) d.at;
+      at = d.at;
       did = subst C (sym (append-nil d.came)) (subst N front.size d.did);
       fed = front.same;
       sent = d.sent;
@@ -135,14 +134,19 @@ hears-fewer tick count fewer w port by hears = record {
   spare = (let s = hears.spare in omega (arith, s));
 }
 
+-- the last tick lies before the next one
+pub last-below : (from to since : ℕ) (ticks : List BusTick) → since ≤ from → next_tick from ticks ≡ to → last_tick since ticks ≤ to
+last-below from to since [] by reached = omega (arith, by, reached)
+last-below from to since (t ∷ earlier) by reached = omega (arith, reached)
+
 -- after some ticks those frames can come that didn't yet
 pub hears-after : {Home : Type 0} (from to count all left : ℕ) (frames : List InTick) (v w : Worker) (old new : PortState Home) → left + count ≡ all → HearsBy from all v old → DoesTicks from to count frames v w old new → HearsBy to left w new
 hears-after from to count all left frames v w old new sum hears does =
     let d = does hears.since hears.acts hears.by hears.at hears.clear in
     record {
-      since = to;
+      since = last_tick hears.since d.ticks;
       acts = acts_after d.ticks hears.acts;
-      by = omega arith;
+      by = last-below from to hears.since d.ticks hears.by d.reached;
       at = d.at;
       clear = d.clear;
       few = λ place. (let f = d.few place in let g = hears.few place in omega (arith, f, g, sum));

@@ -52,6 +52,11 @@ abbrev pub next_tick : (first : ℕ) → List BusTick → ℕ
 next_tick first [] = first
 next_tick first (t ∷ earlier) = t.tick + 1
 
+-- the tick of the last one, and where there is none the tick in which something was done before
+abbrev pub last_tick : (since : ℕ) → List BusTick → ℕ
+last_tick since [] = since
+last_tick since (t ∷ earlier) = t.tick
+
 -- in a tick, after these acts, the frames came; then each receiver was told that the tick is over, and each sender took its turn; then of
 -- what lay in the boxes at most a budget of frames left, by arbitration, and their machines were told
 pub record IsBusTick (budget : ℕ) (routes : List Comes) (channels : List Channel) (earlier : List Act) (t : BusTick) : Type 0 where

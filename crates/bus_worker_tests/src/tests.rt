@@ -4,8 +4,9 @@ ghost use Rattle.hub_core.specs.Groups.{grouped};
 ghost use Rattle.hub_core.specs.Plain.{hub_means};
 ghost use Rattle.hub_core.specs.View.{empty_view};
 ghost use Rattle.bus_worker.specs.Start.{IsBusPlan, IsReady};
+ghost use Rattle.bus_worker.specs.Window.{NeverFall};
 
-use bus_worker::{ChannelPlan, Comes, SourcePlan, Worker};
+use bus_worker::{ChannelPlan, Comes, Dated, SourcePlan, Worker};
 use can_frame::{CanId, Frame};
 use gw_base::{ChanNo, DestNo, GroupNo, Memory, PathNo, Tick};
 use hub_core::{DestResult, PlainHub, SessionResult};
@@ -87,21 +88,37 @@ const PLANS: [ChannelPlan; 2] = [
 ];
 
 /// The worker of that bus after tick 0, in which these frames came.
-fn one_tick(alloc: Global, plans: &[ChannelPlan], frames: &[Frame]) -> Result<Worker, Memory>
+fn one_tick(alloc: Global, plans: &[ChannelPlan], frames: &[Dated]) -> Result<Worker, Memory>
     requires plans { IsBusPlan plans.now }
     requires ready { IsReady plans.now empty_view (hub_means (grouped (1 ∷ []) (16 ∷ [])) 1000000) }
+    requires frames { NeverFall 0 frames.now }
     requires few { length frames.now ≤ 8 }
 {
     let mut hub = PlainHub::new(alloc, &[16], &[1])?;
     let mut worker = Worker::new(alloc, 64, plans)?;
-    worker.tick(frames, Tick(0), &mut hub)?;
+    worker.window(Tick(0), Tick(1), frames, &mut hub)?;
+    Ok(worker)
+}
+
+/// The worker of that bus after a run that ends before anything came.
+fn no_tick(alloc: Global, plans: &[ChannelPlan]) -> Result<Worker, Memory>
+    requires plans { IsBusPlan plans.now }
+    requires ready { IsReady plans.now empty_view (hub_means (grouped (1 ∷ []) (16 ∷ [])) 1000000) }
+{
+    let mut hub = PlainHub::new(alloc, &[16], &[1])?;
+    let mut worker = Worker::new(alloc, 64, plans)?;
+    worker.finish(Tick(0), &mut hub)?;
     Ok(worker)
 }
 
 #[test]
 fn a_single_frame_goes_on_in_its_tick(rt: HostRuntime) -> Result<(), Fail> {
     let request = Frame::new(CanId::Std(0x7E0), false, false, &[0x03, 0x22, 0xF1, 0x90])?;
-    let worker = one_tick(rt.alloc(), &PLANS, &[request])?;
+    let frames = [Dated {
+        tick: Tick(0),
+        frame: request,
+    }];
+    let worker = one_tick(rt.alloc(), &PLANS, &frames)?;
     let [sent] = worker.sent() else {
         return Err(Fail::from("not one frame"));
     };
@@ -117,5 +134,15 @@ fn a_single_frame_goes_on_in_its_tick(rt: HostRuntime) -> Result<(), Fail> {
         return Err(Fail::from("not one destination"));
     };
     assert_eq!(rt; dest.result, DestResult::Sent);
+    assert!(rt; worker.is_idle());
+    Ok(())
+}
+
+#[test]
+fn a_run_without_frames_tells_nothing(rt: HostRuntime) -> Result<(), Fail> {
+    let worker = no_tick(rt.alloc(), &PLANS)?;
+    assert!(rt; worker.is_idle());
+    assert!(rt; worker.sent().is_empty());
+    assert!(rt; worker.moves().is_empty());
     Ok(())
 }

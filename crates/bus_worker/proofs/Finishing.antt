@@ -1,5 +1,5 @@
 -- The run's end: what each sender does until nothing is left for it.
-use Rattle.std.proofs.Common.{◌≡◌, ◌≢◌, inl, inr, ℕ, ◌+◌, ◌<◌, ◌≤◌, Bool, true, false, Option, None, Some, List, [], ◌∷◌, ◌++◌, length, length-append, refl, ap, sym, subst, ◌∙◌, arith, append-nil, append_assoc, ltb-true, ltb-false}
+use Rattle.std.proofs.Common.{◌≡◌, inl, inr, ℕ, ◌+◌, ◌<◌, Bool, true, false, Option, None, Some, List, [], ◌∷◌, ◌++◌, length, length-append, refl, ap, sym, subst, ◌∙◌, arith, append-nil, append_assoc, ltb-true, ltb-false}
 use Rattle.std.specs.Bool.{MatchBool}
 use Rattle.std.specs.Prelude.{nat_lt, option_and_then, option_map, slice_get}
 use Rattle.std.proofs.lemmas.Option.{slice_get_within}
@@ -15,19 +15,17 @@ use Rattle.tp_receiver.specs.State.{RunEnd, RxTurn}
 use Rattle.tp_receiver.specs.declared.set.RxSet.{RxSet}
 use Rattle.tp_unit.specs.declared.shape.Shape.{Shape}
 use Rattle.tp_sender.specs.State.{Transmission, TxDid, TxState, TxTurn, set_of, state_of}
-use Rattle.tp_sender.specs.Table.{FindsOne, NothingStands, TxRow, TxStep}
+use Rattle.tp_sender.specs.Table.{FindsOne, NothingStands, TxRow}
 use Rattle.tp_sender.specs.declared.event.TxEvent.TheVariants.{RunEnd as EndOfRun}
 use Rattle.tp_sender.specs.declared.set.TxSet.{TxSet}
 use Rattle.bus_worker.proofs.ActLists.{received-append, sent-append}
 use Rattle.bus_worker.proofs.Doing.{did-then}
 use Rattle.bus_worker.proofs.Phasing.{sent-is}
 use Rattle.bus_worker.proofs.SenderSteps.{act-of}
-use Rattle.bus_worker.proofs.Working.{rests-later, sender-works, works-none, works-so, works-then}
+use Rattle.bus_worker.proofs.Working.{sender-works, works-none, works-so, works-then}
 use Rattle.bus_worker.specs.Acts.{Act, received_at, sent_at}
-use Rattle.bus_worker.specs.Did.{Did}
-use Rattle.bus_worker.specs.Ended.{AreEnds}
-use Rattle.bus_worker.specs.Ending.{AreEnded, EndsOne, EndsOneAfter, EndsReceivers, EndsSender, EndsSenders, Finishes, IsEnded, IsOver, IsToldOnce}
-use Rattle.bus_worker.specs.Phases.{AreReceived, IsSent, OneReceived, OneSent, Rests, RestsBy, Works, WorksAfter}
+use Rattle.bus_worker.specs.Ending.{AreEnded, EndsOneAfter, EndsReceivers, EndsSender, EndsSenders, Finishes, IsEnded, IsOver, IsToldOnce}
+use Rattle.bus_worker.specs.Phases.{OneReceived, Rests, RestsBy, WorksAfter}
 use Rattle.bus_worker.specs.Stands.{SameChannels, receives_at, sender_at, sends_at}
 use Rattle.bus_worker.specs.Steps.{SenderWasTold}
 use Rattle.bus_worker.specs.declared.channel.Channel.{Channel}

@@ -1,9 +1,8 @@
 -- Some ticks of a bus after some others.
-use Rattle.std.proofs.Common.{◌≡◌, ℕ, ◌+◌, ◌*◌, ◌≤◌, List, [], ◌∷◌, ◌++◌, length, take, drop, refl, ap, sym, subst, ◌∙◌, arith, append_assoc, append-nil}
+use Rattle.std.proofs.Common.{◌≡◌, ℕ, ◌+◌, ◌*◌, List, [], ◌∷◌, ◌++◌, length, take, drop, refl, ap, sym, subst, ◌∙◌, arith, append_assoc, append-nil}
 use Rattle.std.proofs.Math.Seq.{take-add}
 use Rattle.can_frame.specs.Frame.{CanFrame}
 use Rattle.hub_core.specs.Stays.{PortState}
-use Rattle.tp_unit.specs.Box.{Written}
 use Rattle.tx_mailbox.specs.Boxes.{IsEmitted, content}
 use Rattle.gw_law.specs.Channels.{InTick}
 use Rattle.bus_worker.proofs.Configured.{lies-as-configured}

@@ -1,5 +1,5 @@
 -- One tick of a window: the frames of it come, and the others can come later.
-use Rattle.std.proofs.Common.{◌≡◌, ◌==◌, inl, inr, ℕ, suc, ◌+◌, ◌*◌, ◌≤◌, ◌<◌, Bool, true, false, cond, List, [], ◌∷◌, ◌++◌, length, length-append, take, drop, refl, ap, sym, subst, ◌∙◌, arith, append-nil, append_assoc, eqb-true}
+use Rattle.std.proofs.Common.{◌≡◌, inl, inr, ℕ, suc, ◌+◌, ◌*◌, ◌≤◌, Bool, true, false, cond, List, [], ◌∷◌, ◌++◌, length, length-append, take, drop, refl, ap, sym, subst, ◌∙◌, arith, append-nil, append_assoc, eqb-true}
 use Rattle.std.specs.List.{prefix_len, take_while}
 use Rattle.std.proofs.lemmas.Bool.{cases_eq, eqb-false}
 use Rattle.std.proofs.lemmas.List.{length-map}
@@ -9,13 +9,12 @@ use Rattle.hub_core.specs.Stays.{PortState}
 use Rattle.hub_core.specs.Turns.{came_by}
 use Rattle.tp_receiver.specs.Runs.{frames_in}
 use Rattle.tp_receiver.specs.State.{RxEvent, RxTurn}
-use Rattle.tp_sender.specs.Runs.{clear_from}
 use Rattle.tx_mailbox.specs.Boxes.{Pending}
 use Rattle.gw_law.specs.Channels.{InTick}
 use Rattle.bus_worker.proofs.ActLists.{received-append, received-other, received-own}
 use Rattle.bus_worker.proofs.Counted.{timers-come, turns-come}
 use Rattle.bus_worker.proofs.HeardAll.{heard-few}
-use Rattle.bus_worker.specs.Acts.{Act, Received, Sent, received_at, sent_at}
+use Rattle.bus_worker.specs.Acts.{Act, Received, received_at}
 use Rattle.bus_worker.specs.Did.{Did}
 use Rattle.bus_worker.specs.Emission.{AreLeaving, Control, Data, IsLeaving}
 use Rattle.bus_worker.specs.Hearing.{AreHeard, HearsBy, frames_of}

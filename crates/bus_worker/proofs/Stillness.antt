@@ -5,8 +5,8 @@ use Rattle.std.specs.Bool.{MatchBool}
 use Rattle.std.specs.List.{list_all}
 use Rattle.std.specs.Option.{option_map_or}
 use Rattle.gw_base.proofs.Lists.{none-some, same-some}
-use Rattle.tp_receiver.specs.State.{Reception, state_of as receiver_state}
-use Rattle.tp_sender.specs.State.{Transmission, state_of as sender_state}
+use Rattle.tp_receiver.specs.State.{state_of as receiver_state}
+use Rattle.tp_sender.specs.State.{state_of as sender_state}
 use Rattle.tx_mailbox.specs.Boxes.{content}
 use Rattle.bus_worker.specs.Idle.{IsStill, is_still}
 use Rattle.bus_worker.specs.Stands.{receiver_at, sender_at}

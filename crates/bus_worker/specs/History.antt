@@ -1,5 +1,5 @@
 -- What a bus did, tick by tick: the frames that came, what its machines did, and the frames that left.
-use Rattle.std.specs.Prelude.{◌≡◌, ◌⊎◌, ℕ, ◌+◌, ◌≤◌, None, Some, List, [], ◌∷◌, ◌++◌, length, map}
+use Rattle.std.specs.Prelude.{◌≡◌, ◌⊎◌, ℕ, ◌+◌, ◌≤◌, Some, List, [], ◌∷◌, ◌++◌, length, map}
 use Rattle.can_frame.specs.Frame.{CanFrame}
 use Rattle.receiver_law.specs.RxRun.{IsRxIdle}
 use Rattle.sender_law.specs.Runs.{IsTxIdle}

@@ -1,6 +1,5 @@
 -- A bus on which nothing goes on.
-use Rattle.std.specs.Prelude.{◌≡◌, ◌&&◌, not, ℕ, Bool, true, false, None, Some, is_some}
-use Rattle.std.specs.List.{list_all}
+use Rattle.std.specs.Prelude.{◌≡◌, ◌&&◌, not, ℕ, Bool, false, None, Some, is_some}
 use Rattle.std.specs.Option.{option_map_or}
 use Rattle.tp_receiver.specs.State.{state_of as receiver_state}
 use Rattle.tp_sender.specs.State.{state_of as sender_state}

@@ -1,6 +1,5 @@
 -- The work of a bus in some ticks, one after another.
 use Rattle.std.specs.Prelude.{◌≡◌, ◌+◌, ◌*◌, ◌≤◌, ◌==◌, Bool, ℕ, List, [], ◌∷◌, ◌++◌, drop, length, take}
-use Rattle.std.specs.List.{AllByRecursion}
 use Rattle.hub_core.specs.Stays.{PortState}
 use Rattle.hub_core.specs.Turns.{came_by}
 use Rattle.tp_receiver.specs.Runs.{frames_in}

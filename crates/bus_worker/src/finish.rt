@@ -69,12 +69,7 @@ impl Worker {
 
     /// The sender of the channel at that place, where it is a destination, is told of the run's end until it makes no
     /// record.
-    fn end_sender<P: Port>(
-        &mut self,
-        place: usize,
-        last: Tick,
-        port: &mut P,
-    ) -> Result<(), Memory>
+    fn end_sender<P: Port>(&mut self, place: usize, last: Tick, port: &mut P) -> Result<(), Memory>
         requires place { place < 64 }
         requires tick { last.0 ≤ 10_000_000 }
         requires rests { RestsBy last.0 self.old (P.state port.old) }
@@ -93,12 +88,7 @@ impl Worker {
 
     /// The sender of the channel at that place, which is a destination, is told of the run's end. The answer is whether it
     /// made a record.
-    fn end_once<P: Port>(
-        &mut self,
-        place: usize,
-        last: Tick,
-        port: &mut P,
-    ) -> Result<bool, Memory>
+    fn end_once<P: Port>(&mut self, place: usize, last: Tick, port: &mut P) -> Result<bool, Memory>
         requires place { place < 64 }
         requires there { IsSome (sender_at self.old.channels.items place) }
         requires tick { last.0 ≤ 10_000_000 }

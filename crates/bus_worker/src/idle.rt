@@ -21,10 +21,14 @@ impl Channel {
     fn is_idle(&self) -> bool
         ensures { result ≡ is_still self.now }
     {
-        if let Some(receiving) = &self.receiving && receiving.machine.busy() {
+        if let Some(receiving) = &self.receiving
+            && receiving.machine.busy()
+        {
             return false;
         }
-        if let Some(sending) = &self.sending && sending.machine.live() {
+        if let Some(sending) = &self.sending
+            && sending.machine.live()
+        {
             return false;
         }
         true

@@ -1,4 +1,3 @@
-use Rattle.std.proofs.Common.{◌≡◌}
 use Rattle.tp_sender.specs.declared.event.TxEvent.TheVariants.{RunEnd}
 use Rattle.bus_worker.proofs.Finishing.{made-of}
 use Rattle.bus_worker.proofs.Phasing.{can-be-told-sender}

@@ -1,4 +1,4 @@
-use Rattle.std.proofs.Common.{◌≡◌, ◌+◌, ℕ, length, refl, subst, ◌∙◌, arith}
+use Rattle.std.proofs.Common.{◌≡◌, ℕ, length, refl, subst, ◌∙◌, arith}
 use Rattle.bus_worker.proofs.Finishing.{rests-after-ends, senders-more, senders-none}
 use Rattle.bus_worker.specs.Ending.{EndsSenders}
 use Rattle.bus_worker.proofs.worker.Worker.end_senders.Goals as goal

@@ -1,4 +1,4 @@
-use Rattle.std.proofs.Common.{◌≡◌, ℕ, sym, subst}
+use Rattle.std.proofs.Common.{ℕ, sym, subst}
 use Rattle.bus_worker.proofs.OneTick.{Front, front, one-tick}
 use Rattle.bus_worker.proofs.worker.Worker.next_tick.Goals as goal
 

@@ -1,10 +1,10 @@
-use Rattle.std.proofs.Common.{◌≡◌, ◌+◌, ◌-◌, ◌≤◌, ◌<◌, ℕ, List, length, take, drop, refl, ap, sym, ◌∙◌, subst, arith}
+use Rattle.std.proofs.Common.{◌≡◌, ◌+◌, ◌-◌, ℕ, List, length, drop, subst, arith}
 use Rattle.std.proofs.lemmas.List.{drop-drop, length-drop, take_rest}
 use Rattle.gw_law.specs.Channels.{InTick}
 use Rattle.bus_worker.proofs.InRow.{does-none, does-then}
 use Rattle.bus_worker.proofs.OneTick.{hears-after}
 use Rattle.bus_worker.specs.Hearing.{HearsBy}
-use Rattle.bus_worker.specs.Window.{DoesTicks, NeverFall, WorksWindow}
+use Rattle.bus_worker.specs.Window.{NeverFall, WorksWindow}
 use Rattle.bus_worker.proofs.worker.Worker.window.Goals as goal
 
 pub loop-tick-init : goal.loop-tick-init
@@ -21,7 +21,6 @@ next_tick-requires-clause-budget g c =
     let same = (c.loop-tick.invariant.does can.since can.acts can.by can.at can.clear).did.budget in
     let low = c.requires.budget in
     omega (arith, same, low)
-
 
 pub loop-tick-preserved : goal.loop-tick-preserved
 loop-tick-preserved g c =

@@ -24,3 +24,4 @@ pub mod OneTick
 pub mod InRow
 pub mod Finishing
 pub mod Stillness
+pub mod OtherBuses

@@ -1,4 +1,5 @@
 pub mod Acts
+pub mod Beside
 pub mod Boxed
 pub mod Comes
 pub mod Did

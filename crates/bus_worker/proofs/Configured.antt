@@ -55,11 +55,11 @@ pub routed-stays : (old new : List Channel) (routes now : List Comes) → SameCh
 routed-stays old new routes now same is routed = record { address = λ place comes one at there. routed.address place comes one (ap (λ l. slice_get l place) (sym is) ∙ at) (sym (same.receives place) ∙ there) }
 
 -- what lies in the boxes hangs on how the machines are configured, and not on how they went on
-receiver-as : (found : Option Receiving) (channels : List Channel) (place : ℕ) (one : RxSet × Shape) → receiver_at channels place ≡ found → receives_at channels place ≡ Some one → (r : Receiving) × (receiver_at channels place ≡ Some r) × (r.shape ≡ one.1)
+pub receiver-as : (found : Option Receiving) (channels : List Channel) (place : ℕ) (one : RxSet × Shape) → receiver_at channels place ≡ found → receives_at channels place ≡ Some one → (r : Receiving) × (receiver_at channels place ≡ Some r) × (r.shape ≡ one.1)
 receiver-as None channels place one is there = absurd (none-some (ap (option_map (λ (r : Receiving). (r.machine.set, r.shape))) is) there)
 receiver-as (Some r) channels place one is there = (r, is, ap (λ (p : RxSet × Shape). p.1) (same-some (ap (option_map (λ (r : Receiving). (r.machine.set, r.shape))) is) there))
 
-sender-as : (found : Option Sending) (channels : List Channel) (place : ℕ) (one : TxSet) → sender_at channels place ≡ found → sends_at channels place ≡ Some one → (s : Sending) × (sender_at channels place ≡ Some s) × (s.shape ≡ one.shape)
+pub sender-as : (found : Option Sending) (channels : List Channel) (place : ℕ) (one : TxSet) → sender_at channels place ≡ found → sends_at channels place ≡ Some one → (s : Sending) × (sender_at channels place ≡ Some s) × (s.shape ≡ one.shape)
 sender-as None channels place one is there = absurd (none-some (ap (option_map (λ (s : Sending). set_of s.machine)) is) there)
 sender-as (Some s) channels place one is there = (s, is, sym s.own ∙ ap (λ (x : TxSet). x.shape) (same-some (ap (option_map (λ (s : Sending). set_of s.machine)) is) there))
 

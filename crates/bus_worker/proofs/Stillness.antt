@@ -8,8 +8,19 @@ use Rattle.gw_base.proofs.Lists.{none-some, same-some}
 use Rattle.tp_receiver.specs.State.{state_of as receiver_state}
 use Rattle.tp_sender.specs.State.{state_of as sender_state}
 use Rattle.tx_mailbox.specs.Boxes.{content}
+use Rattle.hub_core.specs.Stays.{PortState}
+use Rattle.tp_receiver.specs.Runs.{control_after}
+use Rattle.tp_receiver.specs.State.{RxState}
+use Rattle.tp_sender.specs.Runs.{box_after}
+use Rattle.tp_sender.specs.State.{TxState}
+use Rattle.tp_unit.specs.Unit.{Meaning}
+use Rattle.tp_unit.specs.declared.shape.Shape.{Shape}
+use Rattle.bus_worker.proofs.Configured.{receiver-as, sender-as}
+use Rattle.bus_worker.specs.Acts.{Act, received_at, sent_at}
+use Rattle.bus_worker.specs.History.{IsIdle}
 use Rattle.bus_worker.specs.Idle.{IsStill, is_still}
-use Rattle.bus_worker.specs.Stands.{receiver_at, sender_at}
+use Rattle.bus_worker.specs.Phases.{Rests}
+use Rattle.bus_worker.specs.Stands.{control_box, frame_box, framed, receiver_at, sender_at}
 use Rattle.bus_worker.specs.declared.channel.Channel.{Channel}
 use Rattle.bus_worker.specs.declared.channel.Receiving.{Receiving}
 use Rattle.bus_worker.specs.declared.channel.Sending.{Sending}
@@ -79,3 +90,26 @@ all-still (first ∷ channels) each = rw (each zero first refl) (all-still chann
 pub decides : (w : Worker) (all : Bool) → ((number : ℕ) → content number w.boxes ≡ None) → all ≡ list_all is_still w.channels.items → MatchBool all (IsStill w) (IsStill w → ⊥)
 decides w true boxes is = is-still w boxes (sym is)
 decides w false boxes is = λ still. absurd (let all = is ∙ all-still w.channels.items (λ place channel there. each-still w place channel still there) in cc)
+
+-- where nothing goes on, the machines' own turns say so too
+framed-none : (shape : Shape) (lies : Option Meaning) → framed shape lies ≡ None → lies ≡ None
+framed-none shape None is = refl
+framed-none shape (Some meaning) is = absurd cc
+
+pub still-idle : {Home : Type 0} (tick : ℕ) (acts : List Act) (w : Worker) (port : PortState Home) → IsStill w → Rests tick acts w port → IsIdle w.channels.items acts
+still-idle tick acts w port still at = record {
+  receivers = λ place one there.
+      let so = receiver-as (receiver_at w.channels.items place) w.channels.items place one refl there in
+      let stands = at.stand.receivers place so.0 so.1 in
+      record {
+        receiver = ap (λ (x : RxState). x.busy) (sym stands.state) ∙ still.receivers place so.0 so.1;
+        box = framed-none so.0.shape (control_after (received_at place acts)) (sym (at.lie.controls place so.0 so.1) ∙ still.boxes (control_box place));
+      };
+  senders = λ place one there.
+      let so = sender-as (sender_at w.channels.items place) w.channels.items place one refl there in
+      let stands = at.stand.senders place so.0 so.1 in
+      record {
+        live = ap (λ (x : TxState). x.live) (sym stands.state) ∙ still.senders place so.0 so.1;
+        box = framed-none so.0.shape (box_after (sent_at place acts)) (sym (at.lie.frames place so.0 so.1) ∙ still.boxes (frame_box place));
+      };
+}

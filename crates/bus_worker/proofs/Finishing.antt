@@ -157,7 +157,7 @@ within-by : (found : Option Channel) (channels : List Channel) (place : ℕ) →
 within-by None channels place is some = absurd (some refl)
 within-by (Some channel) channels place is some = slice_get_within channels place channel is
 
-receives-within : (channels : List Channel) (place : ℕ) (one : RxSet × Shape) → receives_at channels place ≡ Some one → place < length channels
+pub receives-within : (channels : List Channel) (place : ℕ) (one : RxSet × Shape) → receives_at channels place ≡ Some one → place < length channels
 receives-within channels place one there = within-by (slice_get channels place) channels place refl (λ none. none-some (ap (λ (found : Option Channel). option_map (λ (r : Receiving). (r.machine.set, r.shape)) (option_and_then (λ (channel : Channel). channel.receiving) found)) none) there)
 
 sender-within : (channels : List Channel) (place : ℕ) (s : Sending) → sender_at channels place ≡ Some s → place < length channels
@@ -186,3 +186,6 @@ finishes {Home = Home} last u v w one two three rests receivers senders since ac
       over = λ place s is. over-earlier one.floors two.floors s a.did.same.rise (senders.over place s (let below = sender-within w.channels.items place s is in let count = b.did.channels.count in omega (arith, below, count)) is);
       sent = b.sent ∙ a.sent;
     }
+
+pub sends-within : (channels : List Channel) (place : ℕ) (one : TxSet) → sends_at channels place ≡ Some one → place < length channels
+sends-within channels place one there = within-by (slice_get channels place) channels place refl (λ none. none-some (ap (λ (found : Option Channel). option_map (λ (s : Sending). set_of s.machine) (option_and_then (λ (channel : Channel). channel.sending) found)) none) there)

@@ -56,7 +56,7 @@ answer-clear tick bound place other (FlowControl status block_size separation) c
 answer-clear tick bound place other (NoUnit why) channels done acts none clear = subst (λ (l : List Act). clear_from (sent_at other (l ++ acts)) ≤ bound) (sym none) clear
 
 -- nothing of a receiver's comes with an answer
-answer-receives : (tick place other : ℕ) (meaning : Meaning) (channels : List Channel) (done : List Act) → IsAnswerHeard tick place meaning channels done → received_at other done ≡ []
+pub answer-receives : (tick place other : ℕ) (meaning : Meaning) (channels : List Channel) (done : List Act) → IsAnswerHeard tick place meaning channels done → received_at other done ≡ []
 answer-receives tick place other (SingleFrame bytes) channels done none = ap (received_at other) none
 answer-receives tick place other (FirstFrame len bytes) channels done none = ap (received_at other) none
 answer-receives tick place other (ConsecutiveFrame number bytes) channels done none = ap (received_at other) none

@@ -1,3 +1,6 @@
 pub mod Emitting
 pub mod Leaving
 pub mod Turns
+pub mod Came
+pub mod RxParts
+pub mod TxParts

@@ -4,3 +4,5 @@ pub mod Turns
 pub mod Came
 pub mod RxParts
 pub mod TxParts
+pub mod LeftIn
+pub mod Runs

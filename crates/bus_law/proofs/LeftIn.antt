@@ -1,6 +1,6 @@
 -- Of all that left on a bus, what left in one tick.
 use Rattle.std.proofs.Common.{◌≡◌, ◌==◌, inl, inr, ℕ, ◌+◌, ◌<◌, ◌≤◌, Bool, true, false, cond, List, [], ◌∷◌, ◌++◌, refl, ap, sym, subst, ◌∙◌, arith, eq-eqb, append-nil, append_assoc}
-use Rattle.std.specs.Prelude.{filter}
+use Rattle.std.proofs.lemmas.List.Elements.{filter-append}
 use Rattle.std.specs.List.{AllByRecursion}
 use Rattle.gw_base.proofs.Lists.{all-join, all-weaker}
 use Rattle.tp_unit.specs.Box.{Written, left_in}
@@ -10,13 +10,8 @@ use Rattle.bus_worker.specs.Emission.{all_sent_in, sent_in}
 use Rattle.bus_worker.specs.History.{BusTick, Follow, left_in as left_on, next_tick}
 use Rattle.bus_worker.specs.declared.channel.Channel.{Channel}
 
-in-append-by : (own : Bool) (w : Written) (one rest : List Written) → cond own (w ∷ one) one ++ rest ≡ cond own (w ∷ (one ++ rest)) (one ++ rest)
-in-append-by true w one rest = refl
-in-append-by false w one rest = refl
-
 in-append : (tick : ℕ) (xs ys : List Written) → left_in tick (xs ++ ys) ≡ left_in tick xs ++ left_in tick ys
-in-append tick [] ys = refl
-in-append tick (w ∷ xs) ys = ap (λ l. cond (w.tick == tick) (w ∷ l) l) (in-append tick xs ys) ∙ sym (in-append-by (w.tick == tick) w (left_in tick xs) (left_in tick ys))
+in-append tick xs ys = filter-append (λ (w : Written). w.tick == tick) xs ys
 
 none-in : (tick : ℕ) (xs : List Written) → AllByRecursion (λ (w : Written). (w.tick == tick) ≡ false) xs → left_in tick xs ≡ []
 none-in tick [] all = refl

@@ -6,3 +6,5 @@ pub mod RxParts
 pub mod TxParts
 pub mod LeftIn
 pub mod Runs
+pub mod Seen
+pub mod AnswersSeen

@@ -77,7 +77,7 @@ act-comes tick number place act acts (Control other turn number_is is event tick
       | inr ne ↦ ap (came_by frames_in) (received-other other place turn acts ne)
     ]
 
-leaving-comes : (tick place : ℕ) (out : List Pending) (done acts : List Act) → AreLeaving tick out done → came_by frames_in (received_at place (done ++ acts)) ≡ came_by frames_in (received_at place acts)
+pub leaving-comes : (tick place : ℕ) (out : List Pending) (done acts : List Act) → AreLeaving tick out done → came_by frames_in (received_at place (done ++ acts)) ≡ came_by frames_in (received_at place acts)
 leaving-comes tick place [] done acts none = ap (λ (l : List Act). came_by frames_in (received_at place (l ++ acts))) none
 leaving-comes tick place (entry ∷ later) done acts so =
     ap (λ (l : List Act). came_by frames_in (received_at place l)) (ap (λ l. l ++ acts) so.2 ∙ append_assoc so.1 (so.0 ∷ []) acts)

@@ -10,18 +10,18 @@ use Rattle.bus_worker.specs.Emission.{all_sent_in, sent_in}
 use Rattle.bus_worker.specs.History.{BusTick, Follow, left_in as left_on, next_tick}
 use Rattle.bus_worker.specs.declared.channel.Channel.{Channel}
 
-in-append : (tick : ℕ) (xs ys : List Written) → left_in tick (xs ++ ys) ≡ left_in tick xs ++ left_in tick ys
+pub in-append : (tick : ℕ) (xs ys : List Written) → left_in tick (xs ++ ys) ≡ left_in tick xs ++ left_in tick ys
 in-append tick xs ys = filter-append (λ (w : Written). w.tick == tick) xs ys
 
-none-in : (tick : ℕ) (xs : List Written) → AllByRecursion (λ (w : Written). (w.tick == tick) ≡ false) xs → left_in tick xs ≡ []
+pub none-in : (tick : ℕ) (xs : List Written) → AllByRecursion (λ (w : Written). (w.tick == tick) ≡ false) xs → left_in tick xs ≡ []
 none-in tick [] all = refl
 none-in tick (w ∷ xs) all = ap (λ b. cond b (w ∷ left_in tick xs) (left_in tick xs)) all.0 ∙ none-in tick xs all.1
 
-all-in : (tick : ℕ) (out : List Pending) → left_in tick (all_sent_in tick out) ≡ all_sent_in tick out
+pub all-in : (tick : ℕ) (out : List Pending) → left_in tick (all_sent_in tick out) ≡ all_sent_in tick out
 all-in tick [] = refl
 all-in tick (entry ∷ out) = ap (λ b. cond b (sent_in tick entry ∷ left_in tick (all_sent_in tick out)) (left_in tick (all_sent_in tick out))) (eq-eqb tick tick refl) ∙ ap (λ l. sent_in tick entry ∷ l) (all-in tick out)
 
-sent-at-tick : (P : ℕ → Type 0) (tick : ℕ) (out : List Pending) → P tick → AllByRecursion (λ (w : Written). P w.tick) (all_sent_in tick out)
+pub sent-at-tick : (P : ℕ → Type 0) (tick : ℕ) (out : List Pending) → P tick → AllByRecursion (λ (w : Written). P w.tick) (all_sent_in tick out)
 sent-at-tick P tick [] is = tt
 sent-at-tick P tick (entry ∷ out) is = (is, sent-at-tick P tick out is)
 

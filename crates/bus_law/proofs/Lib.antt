@@ -8,3 +8,4 @@ pub mod LeftIn
 pub mod Runs
 pub mod Seen
 pub mod AnswersSeen
+pub mod Sending

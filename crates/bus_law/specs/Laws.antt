@@ -12,12 +12,12 @@ use Rattle.tp_unit.specs.declared.shape.Shape.{Shape}
 use Rattle.bus_worker.specs.Acts.{Act, received_at, sent_at}
 use Rattle.bus_worker.specs.Comes.{address_of}
 use Rattle.bus_worker.specs.Ended.{IsBusRun}
-use Rattle.bus_worker.specs.History.{BusTick, acts_in, came_in}
+use Rattle.bus_worker.specs.History.{BusTick, acts_in, came_in, left_in}
 use Rattle.bus_worker.specs.Stands.{receives_at, sends_at}
 use Rattle.bus_worker.specs.declared.channel.Channel.{Channel}
 use Rattle.bus_worker.specs.declared.comes.Comes.{Comes}
 use Rattle.bus_law.specs.Apart.{AreApartOnBus}
-use Rattle.bus_law.specs.Runs.{AreTables, rx_run, tx_run}
+use Rattle.bus_law.specs.Runs.{AreTables, SendsInOrder, rx_run, tx_run}
 
 -- in each run of a bus, what a source channel's receiver did is a run of that receiver
 abbrev pub ReceiversRun : Type 0
@@ -44,3 +44,7 @@ AnswersCome =
     (budget last : ℕ) (routes : List Comes) (channels : List Channel) (ticks : List BusTick) (end : List Act) → IsBusRun budget last routes channels ticks end → AreApartOnBus routes channels →
     (place : ℕ) (comes : Comes) (set : TxSet) → slice_get routes place ≡ Some comes → sends_at channels place ≡ Some set →
     came_by controls_in (sent_at place (end ++ acts_in ticks)) ≡ answers_in (bytes_of_address comes.byte) (frames_for (address_of comes) (came_in ticks))
+
+-- a bus sends in order
+abbrev pub BusSends : Type 0
+BusSends = (budget last : ℕ) (routes : List Comes) (channels : List Channel) (ticks : List BusTick) (end : List Act) → IsBusRun budget last routes channels ticks end → SendsInOrder budget last (left_in ticks)

@@ -1,5 +1,5 @@
 -- What each machine of a bus did in a run by itself, and what is told of its channel.
-use Rattle.std.specs.Prelude.{◌≡◌, ℕ, ◌≤◌, ◌&&◌, None, Some, true, List, [], ◌∷◌, ◌++◌, length}
+use Rattle.std.specs.Prelude.{◌≡◌, ℕ, ◌<◌, ◌≤◌, None, Some, List, [], ◌∷◌, ◌++◌, length}
 use Rattle.std.specs.List.{AllByRecursion}
 use Rattle.hub_core.specs.Turns.{Part, records_by, state_after}
 use Rattle.receiver_law.specs.Channel.{SourceChannel}
@@ -61,43 +61,15 @@ tx_run budget last ticks end place set = record {
   end = sent_at place end;
 }
 
--- what is told of a channel: of the frames that came on the bus those that are the channel's, and of those that left
-abbrev pub source_at : (budget last : ℕ) → Comes → List BusTick → (end : List Act) → (place : ℕ) → RxSet × Shape → SourceChannel
-source_at budget last comes ticks end place one = record {
-  rx = one.0;
-  shape = one.1;
-  budget = budget;
-  last = last;
-  seen = seen_in (bytes_of_address comes.byte) (frames_for (address_of comes) (came_in ticks));
-  controls = controls_of one.1 (left_on ticks);
-  sessions = records_by (received_at place (end ++ acts_in ticks));
-}
-
-abbrev pub dest_at : (budget last : ℕ) → Comes → List BusTick → (end : List Act) → (place : ℕ) → TxSet → DestChannel
-dest_at budget last comes ticks end place set = record {
-  tx = set;
-  budget = budget;
-  last = last;
-  answers = answers_in (bytes_of_address comes.byte) (frames_for (address_of comes) (came_in ticks));
-  frames = data_of set.shape (left_on ticks);
-  dests = records_by (sent_at place (end ++ acts_in ticks));
-}
-
 -- what the machines of a bus did are runs of their tables; at the end no session is sent any more
 pub record AreTables (channels : List Channel) (all : List Act) : Type 0 where
   pub receivers : (place : ℕ) (one : RxSet × Shape) → receives_at channels place ≡ Some one → HasReceived one.0 (received_at place all) × IsShape one.1
   pub senders : (place : ℕ) (set : TxSet) → sends_at channels place ≡ Some set → HasSent set (sent_at place all) × IsShape set.shape
   pub idle : (place : ℕ) (set : TxSet) → sends_at channels place ≡ Some set → (state_after tx_new (sent_at place all)).live ≡ None
 
--- a frame is a flow control of a source channel of the bus, or a data frame of a destination's
-pub data IsOfBus (channels : List Channel) (w : Written) : Type 0 where
-  Control : (place : ℕ) (one : RxSet × Shape) → receives_at channels place ≡ Some one → (is_addressed (address_in one.1) w.frame && is_control (unit_of (address_size one.1) w.frame)) ≡ true → IsOfBus channels w
-  Data : (place : ℕ) (set : TxSet) → sends_at channels place ≡ Some set → (is_addressed (address_in set.shape) w.frame && is_data (unit_of (address_size set.shape) w.frame)) ≡ true → IsOfBus channels w
-
--- what left on a bus: in the order of the ticks, at most a budget of frames in each, by priority, none after the last one, and of its channels alone
-pub record SendsInOrder (budget last : ℕ) (channels : List Channel) (left : List Written) : Type 0 where
+-- what left on a bus: in the order of the ticks, at most a budget of frames in each, by priority, and none after the last one
+pub record SendsInOrder (budget last : ℕ) (left : List Written) : Type 0 where
   pub order : NeverFall 0 left
   pub most : (tick : ℕ) → length (left_in tick left) ≤ budget
   pub end : AllByRecursion (λ (w : Written). w.tick ≤ last) left
   pub by_priority : AreByPriority left
-  pub own : AllByRecursion (IsOfBus channels) left

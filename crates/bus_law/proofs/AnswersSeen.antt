@@ -1,8 +1,8 @@
 -- The flow controls of which a destination's sender was told are those of the bus that are its channel's.
-use Rattle.std.proofs.Common.{◌≡◌, ◌≢◌, inl, inr, ℕ, Bool, true, false, cond, None, Some, List, [], ◌∷◌, ◌++◌, refl, ap, sym, ◌∙◌, subst, append-nil}
+use Rattle.std.proofs.Common.{◌≡◌, ◌≢◌, inl, inr, ℕ, Bool, true, false, cond, Some, List, [], ◌∷◌, ◌++◌, refl, ap, sym, ◌∙◌, append-nil}
 use Rattle.std.specs.Prelude.{slice_get}
-use Rattle.std.specs.List.{AllByRecursion, flat_map}
-use Rattle.std.proofs.lemmas.Bool.{cases_eq, cases_lt}
+use Rattle.std.specs.List.{AllByRecursion}
+use Rattle.std.proofs.lemmas.Bool.{cases_eq}
 use Rattle.std.proofs.lemmas.Grind.{flat_map-append}
 use Rattle.std.proofs.lemmas.List.Elements.{filter-append}
 use Rattle.can_frame.specs.Frame.{CanFrame}
@@ -13,7 +13,7 @@ use Rattle.sender_law.specs.Parts.{IsStepIn}
 use Rattle.tp_sender.specs.Runs.{controls_in}
 use Rattle.tp_sender.specs.State.{TxTurn}
 use Rattle.tp_sender.specs.declared.event.TxEvent.{TxEvent}
-use Rattle.tp_sender.specs.declared.event.TxEvent.TheVariants.{Fc, Left, RunEnd, Turn}
+use Rattle.tp_sender.specs.declared.event.TxEvent.TheVariants.{Fc, RunEnd, Turn}
 use Rattle.tp_sender.specs.declared.set.TxSet.{TxSet}
 use Rattle.tp_unit.specs.Box.{Answer}
 use Rattle.tp_unit.specs.Reading.{unit_of}
@@ -26,7 +26,7 @@ use Rattle.bus_worker.specs.Comes.{address_of}
 use Rattle.bus_worker.specs.Emission.{AreLeaving, Control, Data, IsLeaving}
 use Rattle.bus_worker.specs.Hearing.{AreHeard, IsAnswerHeard, IsHeard, Nowhere, Somewhere}
 use Rattle.bus_worker.specs.History.{AreBusTicks, BusTick, acts_in, all_came_in, came_in}
-use Rattle.bus_worker.specs.Phases.{AreTurns, IsSent, OneSent}
+use Rattle.bus_worker.specs.Phases.{OneSent}
 use Rattle.bus_worker.specs.Stands.{sends_at}
 use Rattle.bus_worker.specs.declared.channel.Channel.{Channel}
 use Rattle.bus_worker.specs.declared.comes.Comes.{Comes}

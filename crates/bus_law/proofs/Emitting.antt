@@ -1,11 +1,11 @@
 -- Which of the frames that lay in a bus's boxes left in a tick, and what that says of a frame that stayed.
-use Rattle.std.proofs.Common.{◌≡◌, ◌≢◌, ◌⊎◌, inl, inr, ℕ, zero, suc, ◌+◌, ◌<◌, ◌≤◌, ◌==◌, ◌&&◌, Bool, true, false, Option, None, Some, List, [], ◌∷◌, length, refl, ap, sym, ◌∙◌, subst, arith, eq-eqb, le-leb}
-use Rattle.std.specs.Prelude.{map, nat_le, slice_get}
+use Rattle.std.proofs.Common.{◌≡◌, ◌≢◌, ◌⊎◌, inl, inr, ℕ, zero, suc, ◌<◌, ◌≤◌, true, Option, None, Some, List, [], ◌∷◌, length, refl, ap, sym, ◌∙◌, arith, eq-eqb, le-leb}
+use Rattle.std.specs.Prelude.{slice_get}
 use Rattle.std.specs.List.{AllByRecursion}
 use Rattle.std.proofs.lemmas.Bool.{cases_eq}
 use Rattle.std.proofs.lemmas.List.{length-map}
 use Rattle.can_frame.specs.Frame.{CanFrame}
-use Rattle.can_frame.specs.Priority.{IsLower, priority_of}
+use Rattle.can_frame.specs.Priority.{priority_of}
 use Rattle.can_frame.specs.declared.id.CanId.{CanId}
 use Rattle.gw_base.proofs.Lists.{all-at, none-some, same-some}
 use Rattle.tp_unit.specs.Box.{Written, left_in}

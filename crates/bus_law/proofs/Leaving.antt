@@ -1,10 +1,7 @@
 -- The acts of the machines whose frames left in a tick: each machine's own are as many as its frames.
-use Rattle.std.proofs.Common.{◌≡◌, ◌≢◌, ◌⊎◌, inl, inr, ℕ, ◌+◌, ◌*◌, List, [], ◌∷◌, ◌++◌, refl, ap, sym, ◌∙◌, subst, arith}
-use Rattle.std.proofs.lemmas.Bool.{cases_eq}
+use Rattle.std.proofs.Common.{◌≡◌, ◌≢◌, inl, inr, ℕ, List, [], ◌∷◌, ◌++◌, ap, sym, ◌∙◌, arith}
 use Rattle.receiver_law.specs.RxRun.{IsLeftIn}
 use Rattle.sender_law.specs.Parts.{IsStepIn}
-use Rattle.tp_receiver.specs.State.{RxTurn}
-use Rattle.tp_sender.specs.State.{TxTurn}
 use Rattle.tp_sender.specs.declared.event.TxEvent.TheVariants.{Left}
 use Rattle.tx_mailbox.specs.Boxes.{Pending}
 use Rattle.bus_worker.proofs.ActLists.{received-append, received-other, received-own, sent-append, sent-other, sent-own}

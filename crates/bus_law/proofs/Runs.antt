@@ -1,12 +1,12 @@
 -- What each machine of a bus did in a run is a run of that machine.
-use Rattle.std.proofs.Common.{◌≡◌, ◌⊎◌, inl, inr, ℕ, ◌+◌, ◌≤◌, Bool, None, Some, List, [], ◌∷◌, ◌++◌, refl, ap, sym, subst, ◌∙◌, arith}
-use Rattle.hub_core.specs.Turns.{Part, state_after, tick_after, turns_of}
+use Rattle.std.proofs.Common.{◌≡◌, inl, inr, ℕ, Bool, None, Some, List, [], ◌∷◌, ◌++◌, refl, ap, sym, subst, ◌∙◌, arith}
+use Rattle.hub_core.specs.Turns.{state_after, turns_of}
 use Rattle.receiver_law.specs.Parts.{EndsReceiving}
-use Rattle.receiver_law.specs.RxRun.{AreRxParts, IsNextPart, IsRxIdle, IsRxPart, IsRxRun}
+use Rattle.receiver_law.specs.RxRun.{AreRxParts, IsRxIdle, IsRxPart}
 use Rattle.sender_law.specs.Parts.{IsTxPart}
-use Rattle.sender_law.specs.Runs.{AreTxParts, IsTxIdle, IsTxRun, IsNextPart as IsNextOfSender}
+use Rattle.sender_law.specs.Runs.{AreTxParts, IsTxIdle}
 use Rattle.tp_receiver.specs.Runs.{HasReceived}
-use Rattle.tp_receiver.specs.State.{RunEnd, RxEvent, RxTurn}
+use Rattle.tp_receiver.specs.State.{RunEnd, RxTurn}
 use Rattle.tp_receiver.specs.declared.set.RxSet.{RxSet}
 use Rattle.tp_sender.specs.Runs.{HasSent}
 use Rattle.tp_sender.specs.State.{TxTurn, tx_new}
@@ -15,9 +15,8 @@ use Rattle.tp_unit.specs.Box.{Written}
 use Rattle.tp_unit.specs.declared.shape.Shape.{Shape}
 use Rattle.gw_law.specs.Account.{is_full_for}
 use Rattle.bus_worker.proofs.ActLists.{received-append, sent-append}
-use Rattle.bus_worker.specs.Acts.{Act, received_at, sent_at}
-use Rattle.bus_worker.specs.Ended.{AreEnds, IsBusRun}
-use Rattle.bus_worker.specs.History.{AreBusTicks, BusTick, Follow, IsIdle, acts_in, left_in as left_on, next_tick}
+use Rattle.bus_worker.specs.Acts.{received_at, sent_at}
+use Rattle.bus_worker.specs.History.{AreBusTicks, BusTick, Follow, acts_in, left_in as left_on}
 use Rattle.bus_worker.specs.Phases.{OneReceived}
 use Rattle.bus_worker.specs.Stands.{receives_at, sends_at}
 use Rattle.bus_worker.specs.declared.channel.Channel.{Channel}
@@ -27,7 +26,7 @@ use Rattle.bus_law.proofs.RxParts.{rx-part}
 use Rattle.bus_law.proofs.Turns.{received-after, sent-after, turns-received, turns-sent}
 use Rattle.bus_law.proofs.TxParts.{tx-part}
 use Rattle.bus_law.specs.Laws.{ReceiversRun, SendersRun}
-use Rattle.bus_law.specs.Runs.{AreTables, received_parts, rx_run, sent_parts, tick_acts, tx_run}
+use Rattle.bus_law.specs.Runs.{received_parts, sent_parts, tick_acts}
 
 -- a receiver's parts, tick by tick
 rx-parts : (budget : ℕ) (routes : List Comes) (channels : List Channel) (left : List Written) (ticks : List BusTick) (place : ℕ) (one : RxSet × Shape) → receives_at channels place ≡ Some one →
@@ -37,8 +36,7 @@ rx-parts budget routes channels left (t ∷ earlier) place one there agrees are 
     let full : ℕ → Bool = is_full_for budget left one.1.id in
     let after = received-after place earlier in
     let I : List RxTurn → Type 0 = λ l. IsRxIdle l in
-    let P : List RxTurn → Type 0 = λ l. IsRxPart full l (record { tick = t.tick; turns = received_at place (tick_acts t) }) in
-    (
+    let P : List RxTurn → Type 0 = λ l. IsRxPart full l (record { tick = t.tick; turns = received_at place (tick_acts t) }) in (
       record {
         later = (let low = follow.0 in omega (arith, low, after));
         next = elim follow.1 [
@@ -78,8 +76,7 @@ tx-parts budget routes channels left (t ∷ earlier) place set there agrees are 
     let full : ℕ → Bool = is_full_for budget left set.shape.id in
     let after = sent-after place earlier in
     let I : List TxTurn → Type 0 = λ l. IsTxIdle l in
-    let P : List TxTurn → Type 0 = λ l. IsTxPart full l (record { tick = t.tick; turns = sent_at place (tick_acts t) }) in
-    (
+    let P : List TxTurn → Type 0 = λ l. IsTxPart full l (record { tick = t.tick; turns = sent_at place (tick_acts t) }) in (
       record {
         later = (let low = follow.0 in omega (arith, low, after));
         next = elim follow.1 [

@@ -1,18 +1,15 @@
 -- What a channel's receiver did in a tick is a part of a run.
-use Rattle.std.proofs.Common.{◌≡◌, ℕ, ◌<◌, Bool, true, Option, None, Some, List, [], ◌∷◌, ◌++◌, length, refl, ap, sym, ◌∙◌, subst, append-nil}
-use Rattle.std.specs.Prelude.{option_map}
+use Rattle.std.proofs.Common.{◌≡◌, ℕ, true, Option, None, Some, List, [], ◌∷◌, ◌++◌, refl, ap, sym, ◌∙◌, subst, append-nil}
 use Rattle.can_frame.specs.Frame.{CanFrame}
-use Rattle.hub_core.specs.Turns.{Part}
 use Rattle.receiver_law.specs.RxRun.{IsLeftIn, IsRxPart}
 use Rattle.tp_receiver.specs.Runs.{control_after}
-use Rattle.tp_receiver.specs.State.{RxTurn, Timer}
+use Rattle.tp_receiver.specs.State.{Timer}
 use Rattle.tp_receiver.specs.declared.set.RxSet.{RxSet}
 use Rattle.tp_unit.specs.Box.{Leaves, Nothing, Went, Stays, Written, left_in}
 use Rattle.tp_unit.specs.Unit.{Meaning}
-use Rattle.tp_unit.specs.Writing.{frame_of}
 use Rattle.tp_unit.specs.declared.shape.Shape.{Shape}
 use Rattle.tx_mailbox.specs.Boxes.{Pending, content}
-use Rattle.gw_base.proofs.Lists.{none-some, same-some}
+use Rattle.gw_base.proofs.Lists.{same-some}
 use Rattle.gw_law.specs.Account.{is_full_for}
 use Rattle.bus_worker.proofs.ActLists.{received-append}
 use Rattle.bus_worker.proofs.Configured.{receiver-as}

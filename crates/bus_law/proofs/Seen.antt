@@ -1,6 +1,6 @@
 -- The frames of which a channel's receiver was told are those of the bus that are the channel's.
-use Rattle.std.proofs.Common.{◌≡◌, ◌≢◌, inl, inr, ℕ, Bool, true, false, cond, Option, None, Some, List, [], ◌∷◌, ◌++◌, length, refl, ap, sym, ◌∙◌, subst, append-nil, append_assoc}
-use Rattle.std.specs.Prelude.{All, filter, map, slice_get}
+use Rattle.std.proofs.Common.{◌≡◌, ◌≢◌, inl, inr, ℕ, Bool, true, false, cond, Some, List, [], ◌∷◌, ◌++◌, length, refl, ap, sym, ◌∙◌, append-nil}
+use Rattle.std.specs.Prelude.{All, slice_get}
 use Rattle.std.proofs.lemmas.Bool.{cases_eq}
 use Rattle.std.proofs.lemmas.List.{map-append}
 use Rattle.std.proofs.lemmas.List.Elements.{filter-append}
@@ -25,7 +25,7 @@ use Rattle.bus_worker.specs.Acts.{Act, received_at}
 use Rattle.bus_worker.specs.Comes.{address_of}
 use Rattle.bus_worker.specs.Hearing.{AreHeard, IsHeard, Nowhere, Somewhere}
 use Rattle.bus_worker.specs.History.{AreBusTicks, BusTick, acts_in, all_came_in, came_in}
-use Rattle.bus_worker.specs.Phases.{IsReceived, OneReceived}
+use Rattle.bus_worker.specs.Phases.{OneReceived}
 use Rattle.bus_worker.specs.Stands.{receives_at}
 use Rattle.bus_worker.specs.declared.channel.Channel.{Channel}
 use Rattle.bus_worker.specs.declared.comes.Comes.{Comes}

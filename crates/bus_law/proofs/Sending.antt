@@ -1,5 +1,5 @@
 -- What left on a bus in a run: in order, by priority, and no more than its budget in a tick.
-use Rattle.std.proofs.Common.{◌≡◌, ◌==◌, inl, inr, ℕ, zero, suc, ◌+◌, ◌<◌, ◌≤◌, true, false, Some, List, [], ◌∷◌, ◌++◌, length, length-append, refl, ap, sym, subst, ◌∙◌, arith, append-nil}
+use Rattle.std.proofs.Common.{◌≡◌, ◌==◌, inl, inr, ℕ, zero, suc, ◌<◌, ◌≤◌, false, Some, List, [], ◌∷◌, ◌++◌, length, refl, ap, sym, ◌∙◌, arith, append-nil}
 use Rattle.std.specs.Prelude.{slice_get}
 use Rattle.std.specs.List.{AllByRecursion}
 use Rattle.std.proofs.lemmas.Bool.{cases_eq}
@@ -7,10 +7,9 @@ use Rattle.std.proofs.lemmas.List.{length-map}
 use Rattle.can_frame.specs.Priority.{priority_of}
 use Rattle.gw_base.proofs.Lists.{all-weaker}
 use Rattle.tp_unit.specs.Box.{NeverFall, Written, left_in}
-use Rattle.tx_mailbox.specs.Boxes.{IsEmitted, LeavesBefore, Pending}
+use Rattle.tx_mailbox.specs.Boxes.{LeavesBefore, Pending}
 use Rattle.gw_law.specs.Emission.{AreByPriority}
 use Rattle.bus_worker.proofs.ActLists.{differs}
-use Rattle.bus_worker.specs.Acts.{Act}
 use Rattle.bus_worker.specs.Emission.{all_sent_in, sent_in}
 use Rattle.bus_worker.specs.History.{AreBusTicks, BusTick, Follow, left_in as left_on, next_tick}
 use Rattle.bus_worker.specs.declared.channel.Channel.{Channel}

@@ -1,5 +1,5 @@
 -- What each machine did tick by tick, of all that the bus's machines did.
-use Rattle.std.proofs.Common.{◌≡◌, ℕ, ◌+◌, List, [], ◌∷◌, ◌++◌, refl, ap, sym, ◌∙◌, append_assoc}
+use Rattle.std.proofs.Common.{◌≡◌, ℕ, List, [], ◌∷◌, ◌++◌, refl, ap, sym, ◌∙◌, append_assoc}
 use Rattle.hub_core.specs.Turns.{tick_after, turns_of}
 use Rattle.bus_worker.proofs.ActLists.{received-append, sent-append}
 use Rattle.bus_worker.specs.Acts.{Act, received_at, sent_at}

@@ -1,18 +1,14 @@
 -- What a destination's sender did in a tick is a part of a run.
-use Rattle.std.proofs.Common.{◌≡◌, ℕ, ◌<◌, Bool, true, Option, None, Some, List, [], ◌∷◌, ◌++◌, length, refl, ap, sym, ◌∙◌, subst, append-nil}
-use Rattle.std.specs.Prelude.{option_map}
+use Rattle.std.proofs.Common.{◌≡◌, ℕ, true, Option, Some, List, [], ◌∷◌, ◌++◌, refl, ap, sym, ◌∙◌, subst, append-nil}
 use Rattle.can_frame.specs.Frame.{CanFrame}
-use Rattle.hub_core.specs.Turns.{Part}
 use Rattle.sender_law.specs.Parts.{IsStepIn, IsTxPart}
 use Rattle.tp_sender.specs.Runs.{box_after}
-use Rattle.tp_sender.specs.State.{TxTurn}
 use Rattle.tp_sender.specs.declared.event.TxEvent.TheVariants.{Left, Turn}
 use Rattle.tp_sender.specs.declared.set.TxSet.{TxSet}
 use Rattle.tp_unit.specs.Box.{Leaves, Nothing, Went, Stays, Written, left_in}
 use Rattle.tp_unit.specs.Unit.{Meaning}
 use Rattle.tp_unit.specs.declared.shape.Shape.{Shape}
 use Rattle.tx_mailbox.specs.Boxes.{Pending, content}
-use Rattle.gw_base.proofs.Lists.{none-some, same-some}
 use Rattle.gw_law.specs.Account.{is_full_for}
 use Rattle.bus_worker.proofs.ActLists.{sent-append}
 use Rattle.bus_worker.proofs.Configured.{sender-as}

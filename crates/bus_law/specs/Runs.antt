@@ -1,12 +1,9 @@
 -- What each machine of a bus did in a run by itself, and what is told of its channel.
-use Rattle.std.specs.Prelude.{◌≡◌, ℕ, ◌<◌, ◌≤◌, None, Some, List, [], ◌∷◌, ◌++◌, length}
+use Rattle.std.specs.Prelude.{◌≡◌, ℕ, ◌≤◌, None, Some, List, [], ◌∷◌, length}
 use Rattle.std.specs.List.{AllByRecursion}
-use Rattle.hub_core.specs.Turns.{Part, records_by, state_after}
-use Rattle.receiver_law.specs.Channel.{SourceChannel}
+use Rattle.hub_core.specs.Turns.{Part, state_after}
 use Rattle.receiver_law.specs.RxRun.{RxRun}
-use Rattle.sender_law.specs.Channel.{DestChannel}
 use Rattle.sender_law.specs.Runs.{TxRun}
-use Rattle.tp_attempts.specs.Seen.{is_data}
 use Rattle.tp_receiver.specs.Runs.{HasReceived}
 use Rattle.tp_receiver.specs.State.{RxTurn}
 use Rattle.tp_receiver.specs.declared.set.RxSet.{RxSet}
@@ -14,19 +11,15 @@ use Rattle.tp_sender.specs.Runs.{HasSent}
 use Rattle.tp_sender.specs.State.{TxTurn, tx_new}
 use Rattle.tp_sender.specs.declared.set.TxSet.{TxSet}
 use Rattle.tp_unit.specs.Box.{NeverFall, Written, left_in}
-use Rattle.tp_unit.specs.Reading.{unit_of}
-use Rattle.tp_unit.specs.Shape.{IsShape, address_size}
+use Rattle.tp_unit.specs.Shape.{IsShape}
 use Rattle.tp_unit.specs.declared.shape.Shape.{Shape}
 use Rattle.gw_law.specs.Account.{is_full_for}
-use Rattle.gw_law.specs.Channels.{address_in, answers_in, bytes_of_address, controls_of, data_of, frames_for, is_addressed, is_control, seen_in}
 use Rattle.gw_law.specs.Emission.{AreByPriority}
 use Rattle.bus_worker.specs.Acts.{Act, received_at, sent_at}
-use Rattle.bus_worker.specs.Comes.{address_of}
-use Rattle.bus_worker.specs.History.{BusTick, acts_in, came_in, left_in as left_on}
+use Rattle.bus_worker.specs.History.{BusTick, left_in as left_on}
 use Rattle.bus_worker.specs.Stands.{receives_at, sends_at}
 use Rattle.bus_worker.specs.Tick.{acts_of}
 use Rattle.bus_worker.specs.declared.channel.Channel.{Channel}
-use Rattle.bus_worker.specs.declared.comes.Comes.{Comes}
 
 -- the acts of one tick, the newest first
 abbrev pub tick_acts : BusTick → List Act
